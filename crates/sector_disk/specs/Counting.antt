@@ -1,0 +1,26 @@
+-- Counts of 64 bits. At its last value a count stays, and counts as risen.
+use Rattle.std.specs.Prelude.{◌⊎◌, ℕ, ◌+◌, ◌-◌, ◌^◌, ◌<◌, ◌≤◌, min, Result, IsErr}
+use Rattle.sector_disk.specs.declared.device.Counts.{Counts}
+
+-- the count after one more
+abbrev pub count_up : ℕ → ℕ
+count_up n = min (n + 1) (2 ^ 64 - 1)
+
+-- the counts with one more read, write or sync begun
+abbrev pub with_read : Counts → Counts
+with_read counts = record counts { reads = count_up counts.reads }
+
+abbrev pub with_write : Counts → Counts
+with_write counts = record counts { writes = count_up counts.writes }
+
+abbrev pub with_sync : Counts → Counts
+with_sync counts = record counts { syncs = count_up counts.syncs }
+
+-- the count rose, or stays at its last value
+abbrev pub HasRisen : ℕ → ℕ → Type 0
+HasRisen before now = (before < now) ⊎ (2 ^ 64 - 1 ≤ now)
+
+-- The count of failures rises at an error, and never falls.
+pub record CountsFailure {T E : Type 0} (before now : ℕ) (result : Result T E) : Type 0 where
+  pub never_falls : before ≤ now
+  pub rises : IsErr result → HasRisen before now

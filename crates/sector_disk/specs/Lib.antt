@@ -1,0 +1,10 @@
+pub mod Counting
+pub mod Disk
+pub mod Fuse
+pub mod Fused
+pub mod Laws
+pub mod Memory
+pub mod MemoryDisk
+pub mod Moments
+pub mod Recorded
+pub mod Stop

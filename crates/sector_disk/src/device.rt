@@ -1,0 +1,144 @@
+// A device of sectors, by what a read gives, what a stop may leave, and what was counted.
+ghost use Rattle.std.specs.Prelude.{◌≡◌, ℕ, ◌<◌, ◌≤◌, Bool, IsTrue, IsErr, OnOk, OnErr, ◌↔◌};
+ghost use Rattle.sector_disk.specs.declared.device.Counts.{Counts};
+ghost use Rattle.sector_disk.specs.Disk.{Disk, Image, MayLeave, MayLeaveEither, written, settled, MayWrite, SettlesNothing};
+ghost use Rattle.sector_disk.specs.Moments.{Elapses, LeavesOnly};
+ghost use Rattle.sector_disk.specs.Counting.{CountsFailure, with_read, with_write, with_sync};
+
+/// A call of the device failed.
+#[derive(Clone, Copy, Debug, PartialEq, Eq)]
+pub struct DeviceFault;
+
+/// How many calls were begun, those that failed included. Each count has 64 bits and stays at its last value.
+#[derive(Clone, Copy, Debug, Default, PartialEq, Eq)]
+pub struct Counts {
+    pub reads: u64,
+    pub writes: u64,
+    pub syncs: u64,
+}
+
+impl Counts {
+    #[inline]
+    pub(crate) fn count_read(&mut self)
+        ensures { self.new ≡ with_read self.old }
+    {
+        self.reads = self.reads.saturating_add(1);
+    }
+
+    #[inline]
+    pub(crate) fn count_write(&mut self)
+        ensures { self.new ≡ with_write self.old }
+    {
+        self.writes = self.writes.saturating_add(1);
+    }
+
+    #[inline]
+    pub(crate) fn count_sync(&mut self)
+        ensures { self.new ≡ with_sync self.old }
+    {
+        self.syncs = self.syncs.saturating_add(1);
+    }
+}
+
+// Counts a failure where the outcome is one.
+pub(crate) fn count_failure<E: Drop>(
+    failures: &mut u64,
+    outcome: Result<(), E>,
+) -> Result<(), DeviceFault>
+    ensures failures { CountsFailure failures.old failures.new result }
+    ensures variant { IsErr result ↔ IsErr outcome }
+{
+    match outcome {
+        Ok(()) => Ok(()),
+        Err(_) => {
+            *failures = failures.saturating_add(1);
+            Err(DeviceFault)
+        }
+    }
+}
+
+/// A device of sectors of 512 bytes, numbered from 0. Each call is one step, before, within or after which the
+/// device may stop, as at a loss of power.
+///
+/// The clauses with the premise `keeps_model` say what a call does to the disk, and bind only a device that keeps
+/// the disk model. All others bind every device: sectors and model never change, time goes on, a stop within a call
+/// leaves what one before it or after it may leave, and failures and calls are counted.
+///
+/// A device may know its whole history, as `Recorded` does, or the present alone, as `MemoryDisk` does: both meet
+/// all clauses, so what is proved over any device speaks of each moment within a call.
+pub trait SectorDevice {
+    /// How many sectors it has.
+    ghost sector_count: { Self → ℕ };
+
+    /// Whether it keeps the disk model, which is known of a disk in memory. Of a file no contract can know it, so a
+    /// file says false and nothing is said of its bytes.
+    ghost keeps_model: { Self → Bool };
+
+    /// What it holds.
+    ghost disk: { Self → Disk };
+
+    /// The present, as a number that never falls.
+    ghost time: { Self → ℕ };
+
+    /// What a stop at some moment from that time on might have left, within a call or between two.
+    ghost left_since: { Self → ℕ → Image → Type 0 };
+
+    /// How often a call has failed.
+    ghost failures: { Self → ℕ };
+
+    /// How many calls were begun.
+    ghost counts: { Self → Counts };
+
+    /// How many sectors it has. The number never changes.
+    fn sectors(&self) -> u32
+        ensures { result ≡ sector_count self.now };
+
+    /// Reads sector `k`. After a failed read the device is as it was, and `out` holds any bytes.
+    fn read(&mut self, k: u32, out: &mut [u8; 512]) -> Result<(), DeviceFault>
+        requires { k < sector_count self.old }
+        ensures bytes { IsTrue (keeps_model self.old) → OnOk result (out.new ≡ (disk self.old).content k) }
+        ensures disk { IsTrue (keeps_model self.old) → disk self.new ≡ disk self.old }
+        ensures sectors { sector_count self.new ≡ sector_count self.old }
+        ensures model { keeps_model self.new ≡ keeps_model self.old }
+        ensures time { Elapses time left_since self.old self.new }
+        ensures stops { LeavesOnly time left_since self.old self.new (MayLeaveEither (disk self.old) (disk self.new)) }
+        ensures failures { CountsFailure (failures self.old) (failures self.new) result }
+        ensures counts { counts self.new ≡ with_read (counts self.old) };
+
+    /// Writes sector `k`. Until a sync succeeds, a stop may leave any bytes in it. A write that fails may have been
+    /// done, with any bytes, or not at all.
+    fn write(&mut self, k: u32, bytes: &[u8; 512]) -> Result<(), DeviceFault>
+        requires { k < sector_count self.old }
+        ensures ok { IsTrue (keeps_model self.old) → OnOk result (disk self.new ≡ written (disk self.old) k bytes.now) }
+        ensures err { IsTrue (keeps_model self.old) → OnErr result (MayWrite k (disk self.old) (disk self.new)) }
+        ensures sectors { sector_count self.new ≡ sector_count self.old }
+        ensures model { keeps_model self.new ≡ keeps_model self.old }
+        ensures time { Elapses time left_since self.old self.new }
+        ensures stops { LeavesOnly time left_since self.old self.new (MayLeaveEither (disk self.old) (disk self.new)) }
+        ensures failures { CountsFailure (failures self.old) (failures self.new) result }
+        ensures counts { counts self.new ≡ with_write (counts self.old) };
+
+    /// Makes all that was written stay. A failed sync settles nothing: a stop may leave what it might have left
+    /// before, and a read may give other bytes of a sector that isn't settled.
+    fn sync(&mut self) -> Result<(), DeviceFault>
+        ensures ok { IsTrue (keeps_model self.old) → OnOk result (disk self.new ≡ settled (disk self.old)) }
+        ensures err { IsTrue (keeps_model self.old) → OnErr result (SettlesNothing (disk self.old) (disk self.new)) }
+        ensures sectors { sector_count self.new ≡ sector_count self.old }
+        ensures model { keeps_model self.new ≡ keeps_model self.old }
+        ensures time { Elapses time left_since self.old self.new }
+        ensures stops { LeavesOnly time left_since self.old self.new (MayLeaveEither (disk self.old) (disk self.new)) }
+        ensures failures { CountsFailure (failures self.old) (failures self.new) result }
+        ensures counts { counts self.new ≡ with_sync (counts self.old) };
+
+    /// A stop now may leave the present content.
+    ghost present: { (d : Self) → IsTrue (keeps_model d) → MayLeave (disk d) (disk d).content };
+
+    /// A stop now counts since any time until now.
+    ghost counts_now: { (d : Self) (t : ℕ) (c : Image) → t ≤ time d → MayLeave (disk d) c → left_since d t c };
+
+    /// Since the present time, only a stop now counts.
+    ghost only_now: { (d : Self) (c : Image) → left_since d (time d) c → MayLeave (disk d) c };
+
+    /// What counts since a time counts since each earlier one.
+    ghost widens: { (d : Self) (s t : ℕ) (c : Image) → s ≤ t → left_since d t c → left_since d s c };
+}
