@@ -1,0 +1,296 @@
+-- What the images between the steps of a save mean.
+use Rattle.std.proofs.Common.{◌≡◌, ◌≢◌, ◌⊎◌, inl, inr, ⊎_elim, ℕ, ◌+◌, ◌*◌, ◌<◌, ◌≤◌, Bool, true, false, cond, List, [], ◌∷◌, ◌++◌, refl, sym, ◌∙◌, ap, subst, arith, replicate}
+use Rattle.std.specs.Prelude.{◌&&◌}
+use Rattle.std.specs.List.{AllByRecursion}
+use Rattle.sector_disk.specs.Disk.{Disk, Image, MayLeave, with_sector, written, settled}
+use Rattle.sector_disk.proofs.Moments.{sector_same, sector_other}
+use Rattle.std.specs.Prelude.{length}
+use Rattle.journal.specs.Layout.{label_of, gate_open, open_gate_bytes, listed, slot_at, home_at, InPair, InListedHomes}
+use Rattle.journal.specs.Images.{pair_at, slot_of, home_of, block_of, Means}
+use Rattle.journal.specs.Maps.{block_in}
+use Rattle.journal.specs.Chain.{Redoes, Follows, IsChain}
+use Rattle.journal.specs.Steps.{IsAsSynced, HasBlocks, InSlots, IsSound, IsLogged, HasRedone, HasApplied, HasSaved, HasRecovered, merged}
+use Rattle.journal.proofs.Blocks.{same_below, at_below, all_below}
+use Rattle.journal.proofs.Copies.{slot_apart}
+
+-- A choice by a gate and a bit.
+chosen : (gate bit : Bool) (slot home bytes : List ℕ) → (gate ≡ true → bit ≡ true → slot ≡ bytes) → (bit ≡ false → home ≡ bytes) → (gate ≡ false → home ≡ bytes)
+    → cond (gate && bit) slot home ≡ bytes
+chosen true true slot home bytes both unlisted shut = both refl refl
+chosen true false slot home bytes both unlisted shut = unlisted refl
+chosen false bit slot home bytes both unlisted shut = shut refl
+
+true_or_false : (b : Bool) → (b ≡ true) ⊎ (b ≡ false)
+true_or_false true = inl refl
+true_or_false false = inr refl
+
+head_apart : (n : ℕ) (bytes : List ℕ) (k : ℕ) → k < 3 → ¬ InListedHomes n bytes k
+head_apart n bytes k low (b, below, (is, inl at)) = absurd (omega arith)
+head_apart n bytes k low (b, below, (is, inr at)) = absurd (omega arith)
+
+unlisted_apart : (n : ℕ) (bytes : List ℕ) (b k : ℕ) → listed bytes b ≡ false → InPair (home_at n b) k → ¬ InListedHomes n bytes k
+unlisted_apart n bytes b k none at (a, below, (is, there)) =
+    let same : a ≡ b = one at there in
+    absurd (cc (ap (listed bytes) same, is, none))
+  where
+    one : InPair (home_at n b) k → InPair (home_at n a) k → a ≡ b
+    one (inl x) (inl y) = omega arith
+    one (inl x) (inr y) = omega arith
+    one (inr x) (inl y) = omega arith
+    one (inr x) (inr y) = omega arith
+
+pick_slot : (gate bit : Bool) (slot home : List ℕ) → gate ≡ true → bit ≡ true → cond (gate && bit) slot home ≡ slot
+pick_slot gate bit slot home is_open is = ap (λ x. cond (x && bit) slot home) is_open ∙ ap (λ x. cond x slot home) is
+
+pick_home : (gate bit : Bool) (slot home : List ℕ) → bit ≡ false → cond (gate && bit) slot home ≡ home
+pick_home true bit slot home none = ap (λ x. cond x slot home) none
+pick_home false bit slot home none = refl
+
+pub pick_shut : (gate bit : Bool) (slot home : List ℕ) → gate ≡ false → cond (gate && bit) slot home ≡ home
+pick_shut gate bit slot home shut = ap (λ x. cond (x && bit) slot home) shut
+
+pub pair_same : (i j : Image) (k : ℕ) → j k ≡ i k → j (k + 1) ≡ i (k + 1) → pair_at j k ≡ pair_at i k
+pair_same i j k first second = λ t. first t ++ second t
+
+module _ (n : ℕ) (map : ℕ → List ℕ) where
+  same_means : (i j : Image) → ((k : ℕ) → j k ≡ i k) → HasBlocks n map i → HasBlocks n map j
+  same_means i j same means = subst (HasBlocks n map) (λ t k. sym (same k) t) means
+
+  -- what an image with an open gate means
+  listed_means : (i : Image) → HasBlocks n map i → gate_open (i 1) ≡ true → (b : ℕ) → b < n → listed (i 2) b ≡ true → slot_of i b ≡ map b
+  listed_means i means is_open b below is = sym (pick_slot (gate_open (i 1)) (listed (i 2) b) (slot_of i b) (home_of n i b) is_open is) ∙ means.blocks b below
+
+  unlisted_means : (i : Image) → HasBlocks n map i → (b : ℕ) → b < n → listed (i 2) b ≡ false → home_of n i b ≡ map b
+  unlisted_means i means b below none = sym (pick_home (gate_open (i 1)) (listed (i 2) b) (slot_of i b) (home_of n i b) none) ∙ means.blocks b below
+
+  module _ (i j : Image) (redo : Redoes n i j) where
+    bits : (b : ℕ) → listed (j 2) b ≡ listed (i 2) b
+    bits b = ap (λ bytes. listed bytes b) (redo.others 2 (omega arith) (head_apart n (i 2) 2 (omega arith)))
+
+    slot_same : (b : ℕ) → b < n → slot_of j b ≡ slot_of i b
+    slot_same b below = pair_same i j (slot_at b)
+        (redo.others (slot_at b) (omega arith) (slot_apart n (i 2) b (slot_at b) below (inl refl)))
+        (redo.others (slot_at b + 1) (omega arith) (slot_apart n (i 2) b (slot_at b + 1) below (inr refl)))
+
+    home_same : (b : ℕ) → listed (i 2) b ≡ false → home_of n j b ≡ home_of n i b
+    home_same b none = pair_same i j (home_at n b)
+        (redo.others (home_at n b) (omega arith) (unlisted_apart n (i 2) b (home_at n b) none (inl refl)))
+        (redo.others (home_at n b + 1) (omega arith) (unlisted_apart n (i 2) b (home_at n b + 1) none (inr refl)))
+
+    module _ (means : HasBlocks n map i) (b : ℕ) (below : b < n) where
+      when_listed : listed (i 2) b ≡ true → slot_of j b ≡ map b
+      when_listed is = slot_same b below ∙ listed_means i means redo.gate b below is
+
+      when_unlisted : listed (i 2) b ≡ false → home_of n j b ≡ map b
+      when_unlisted none = home_same b none ∙ unlisted_means i means b below none
+
+      when_shut : gate_open (j 1) ≡ false → home_of n j b ≡ map b
+      when_shut shut = ⊎_elim
+          (λ same. absurd (cc (ap gate_open same, shut, redo.gate)))
+          (λ copies. ⊎_elim
+          (λ is. copies b below is ∙ when_listed is)
+          (λ none. when_unlisted none)
+          (true_or_false (listed (i 2) b)))
+          redo.complete
+
+      block_same : block_of n j b ≡ map b
+      block_same = chosen (gate_open (j 1)) (listed (j 2) b) (slot_of j b) (home_of n j b) (map b)
+          (λ _ is. when_listed (sym (bits b) ∙ is)) (λ none. when_unlisted (sym (bits b) ∙ none)) when_shut
+
+    redone_means : HasBlocks n map i → HasBlocks n map j
+    redone_means means = record {
+      label = redo.others 0 (omega arith) (head_apart n (i 2) 0 (omega arith)) ∙ means.label;
+      blocks = block_same means;
+    }
+
+  -- An image means what the one before it means.
+  pub follows_means : (i j : Image) → Follows n i j → HasBlocks n map i → HasBlocks n map j
+  follows_means i j (inl same) means = same_means i j same means
+  follows_means i j (inr redo) means = redone_means i j redo means
+
+-- An image with so many blocks means these.
+pub means_of : (bytes : ℕ → List ℕ) (blocks : List (List ℕ)) (c : Image) → 32 ≤ length blocks → length blocks ≤ 2048
+    → ((b : ℕ) → b < length blocks → block_in blocks b ≡ bytes b) → HasBlocks (length blocks) bytes c → Means blocks c
+means_of bytes blocks c many few same has = record {
+  label = record { many = many; few = few; label = has.label };
+  meant = same_below (block_of (length blocks) c) (block_in blocks) (length blocks) (λ b below. has.blocks b below ∙ sym (same b below)) ∙ all_below blocks;
+}
+
+pub means_sized : (n : ℕ) (bytes : ℕ → List ℕ) (blocks : List (List ℕ)) (c : Image) → 32 ≤ n → n ≤ 2048 → length blocks ≡ n
+    → ((b : ℕ) → b < n → block_in blocks b ≡ bytes b) → HasBlocks n bytes c → Means blocks c
+means_sized n bytes blocks c many few size same has =
+    means_of bytes blocks c (omega (arith, many, size)) (omega (arith, few, size)) (λ b below. same b (omega (arith, below, size)))
+    (subst (λ m. HasBlocks m bytes c) (sym size) has)
+
+-- An image that means blocks has their bytes.
+pub means_each : (blocks : List (List ℕ)) (c : Image) → Means blocks c → HasBlocks (length blocks) (block_in blocks) c
+means_each blocks c means = record {
+  label = means.label.label;
+  blocks = λ b below. sym (at_below (block_of (length blocks) c) (length blocks) b below) ∙ ap (λ xs. block_in xs b) means.meant;
+}
+
+-- Each image of a chain means what the first one means.
+pub chain_means : (blocks : List (List ℕ)) (first : Image) (images : List Image) → Means blocks first → IsChain (length blocks) first images → AllByRecursion (Means blocks) images
+chain_means blocks first [] means chain = tt
+chain_means blocks first (next ∷ images) means chain =
+    let now : Means blocks next = means_of (block_in blocks) blocks next means.label.many means.label.few (λ b below. refl)
+    (follows_means (length blocks) (block_in blocks) first next chain.0 (means_each blocks first means)) in
+    (now, chain_means blocks next images now chain.1)
+
+-- Before the gate was opened an image means the homes.
+module _ (n : ℕ) (disk : Disk) (present : MayLeave disk disk.content) (sound : IsSound n disk) where
+  kept : (P : ℕ → Type 0) (c : Image) → IsAsSynced P disk c → (k : ℕ) → ¬ P k → ¬ InSlots n k → c k ≡ disk.content k
+  kept P c is k out apart = is k out (sound.synced k apart) ∙ sym (present k (sound.synced k apart))
+
+  pub sound_means : (P : ℕ → Type 0) → ((k : ℕ) → P k → (k ≡ 2) ⊎ InSlots n k) → (c : Image) → IsAsSynced P disk c → HasBlocks n (home_of n disk.content) c
+  sound_means P within c is = record {
+    label = same 0 (omega arith) (omega arith) ∙ sound.label;
+    blocks = λ b below.
+        pick_shut (gate_open (c 1)) (listed (c 2) b) (slot_of c b) (home_of n c b) (ap gate_open (same 1 (omega arith) (omega arith)) ∙ sound.gate)
+        ∙ pair_same disk.content c (home_at n b) (same (home_at n b) (omega arith) (omega arith)) (same (home_at n b + 1) (omega arith) (omega arith));
+  }
+    where
+      same : (k : ℕ) → k ≢ 2 → (3 ≤ k → 3 + 2 * n ≤ k) → c k ≡ disk.content k
+      same k other high = kept P c is k (λ p. ⊎_elim (λ two. other two) (λ slots. absurd (omega (arith, high slots.0, slots.1))) (within k p)) (λ slots. absurd (omega (arith, high slots.0, slots.1)))
+
+-- An image over the slots and homes of a base.
+module _ (n : ℕ) (bytes : List ℕ) (base c : Image) (label : c 0 ≡ label_of n) (same : (k : ℕ) → 3 ≤ k → c k ≡ base k) where
+  slot_base : (b : ℕ) → slot_of c b ≡ slot_of base b
+  slot_base b = pair_same base c (slot_at b) (same (slot_at b) (omega arith)) (same (slot_at b + 1) (omega arith))
+
+  home_base : (b : ℕ) → home_of n c b ≡ home_of n base b
+  home_base b = pair_same base c (home_at n b) (same (home_at n b) (omega arith)) (same (home_at n b + 1) (omega arith))
+
+  pub shut_means : gate_open (c 1) ≡ false → HasBlocks n (home_of n base) c
+  shut_means shut = record {
+    label = label;
+    blocks = λ b below. pick_shut (gate_open (c 1)) (listed (c 2) b) (slot_of c b) (home_of n c b) shut ∙ home_base b;
+  }
+
+  pub open_means : gate_open (c 1) ≡ true → c 2 ≡ bytes → HasBlocks n (merged n bytes base) c
+  open_means is_open is = record {
+    label = label;
+    blocks = λ b below.
+        ap (λ x. cond (x && listed (c 2) b) (slot_of c b) (home_of n c b)) is_open
+        ∙ ap (λ x. cond (listed x b) (slot_of c b) (home_of n c b)) is
+        ∙ (λ t. cond (listed bytes b) (slot_base b t) (home_base b t));
+  }
+
+-- The gate is written over the record.
+module _ (n : ℕ) (bytes : List ℕ) (disk : Disk) (label : disk.content 0 ≡ label_of n) where
+  pub gate_means : (c : Image) → IsAsSynced (λ j. j ≡ 1) (settled (written disk 2 bytes)) c → HasBlocks n (home_of n disk.content) c ⊎ HasBlocks n (merged n bytes disk.content) c
+  gate_means c is = ⊎_elim
+      (λ is_open. inr (open_means n bytes disk.content c first rest is_open (is 2 (omega arith) refl ∙ sector_same disk.content 2 bytes)))
+      (λ shut. inl (shut_means n bytes disk.content c first rest shut))
+      (true_or_false (gate_open (c 1)))
+    where
+      first : c 0 ≡ label_of n
+      first = is 0 (omega arith) refl ∙ sector_other disk.content 2 0 bytes (omega arith) ∙ label
+
+      rest : (k : ℕ) → 3 ≤ k → c k ≡ disk.content k
+      rest k high = is k (omega arith) refl ∙ sector_other disk.content 2 k bytes (omega arith)
+
+  pub logged : IsLogged n bytes (settled (written (settled (written disk 2 bytes)) 1 open_gate_bytes))
+  logged = record { label = label; gate = refl; listed = refl; synced = λ k. refl }
+
+  pub logged_means : HasBlocks n (merged n bytes disk.content) (settled (written (settled (written disk 2 bytes)) 1 open_gate_bytes)).content
+  logged_means = open_means n bytes disk.content _ label
+      (λ k high. sector_other (with_sector disk.content 2 bytes) 1 k open_gate_bytes (omega arith) ∙ sector_other disk.content 2 k bytes (omega arith))
+      refl refl
+
+-- The homes are written, and then the gate is closed.
+module _ (n : ℕ) (bytes : List ℕ) (disk : Disk) (many : 32 ≤ n) (few : n ≤ 2048) (present : MayLeave disk disk.content) (log : IsLogged n bytes disk) where
+  redoes : (c : Image) → ((k : ℕ) → k ≢ 1 → ¬ InListedHomes n bytes k → c k ≡ disk.content k)
+      → (c 1 ≡ disk.content 1) ⊎ ((b : ℕ) → b < n → listed bytes b ≡ true → home_of n c b ≡ slot_of c b) → Follows n disk.content c
+  redoes c others complete = inr (record {
+    label = record { many = many; few = few; label = log.label };
+    gate = log.gate;
+    others = subst (λ bits. (k : ℕ) → k ≢ 1 → ¬ InListedHomes n bits k → c k ≡ disk.content k) (sym log.listed) others;
+    complete = subst (λ bits. (c 1 ≡ disk.content 1) ⊎ ((b : ℕ) → b < n → listed bits b ≡ true → home_of n c b ≡ slot_of c b)) (sym log.listed) complete;
+  })
+
+  pub homes_follow : (c : Image) → IsAsSynced (InListedHomes n bytes) disk c → Follows n disk.content c
+  homes_follow c is = redoes c (λ k other out. same k out) (inl (same 1 (head_apart n bytes 1 (omega arith))))
+    where
+      same : (k : ℕ) → ¬ InListedHomes n bytes k → c k ≡ disk.content k
+      same k out = is k out (log.synced k) ∙ sym (present k (log.synced k))
+
+  module _ (new : Disk) (here : MayLeave new new.content) (redone : HasRedone n bytes disk new) where
+    pub closing_follows : (c : Image) → IsAsSynced (λ j. j ≡ 1) new c → Follows n disk.content c
+    closing_follows c is = redoes c (λ k other out. now k other ∙ redone.others k out) (inr (λ b below is_listed.
+        let copy = redone.copied b below is_listed in
+        let first : c (home_at n b) ≡ c (slot_at b) = now (home_at n b) (omega arith) ∙ copy.first ∙ sym (slot b (slot_at b) below (inl refl)) in
+        let second : c (home_at n b + 1) ≡ c (slot_at b + 1) = now (home_at n b + 1) (omega arith) ∙ copy.second ∙ sym (slot b (slot_at b + 1) below (inr refl)) in
+        λ t. first t ++ second t))
+      where
+        now : (k : ℕ) → k ≢ 1 → c k ≡ new.content k
+        now k other = is k other (redone.synced k) ∙ sym (here k (redone.synced k))
+
+        slot : (b k : ℕ) → b < n → InPair (slot_at b) k → c k ≡ disk.content k
+        slot b k below at = now k (high at) ∙ redone.others k (slot_apart n bytes b k below at)
+          where
+            high : InPair (slot_at b) k → k ≢ 1
+            high (inl x) = omega arith
+            high (inr x) = omega arith
+
+    pub applied : HasApplied n bytes disk (settled (written new 1 (replicate 512 0)))
+    applied = record {
+      copied = λ b below is_listed.
+          let copy = redone.copied b below is_listed in
+          record {
+            first = sector_other new.content 1 (home_at n b) (replicate 512 0) (omega arith) ∙ copy.first;
+            second = sector_other new.content 1 (home_at n b + 1) (replicate 512 0) (omega arith) ∙ copy.second;
+          };
+      gate = refl;
+      others = λ k other out. sector_other new.content 1 k (replicate 512 0) other ∙ redone.others k out;
+      synced = λ k. refl;
+    }
+
+-- A save is complete.
+pub saved : (n : ℕ) (bytes : List ℕ) (old mid new : Disk) → old.content 0 ≡ label_of n → mid ≡ settled (written (settled (written old 2 bytes)) 1 open_gate_bytes)
+    → HasApplied n bytes mid new → HasSaved n bytes old new
+saved n bytes old mid new label is_mid applied = record {
+  sound = record {
+    label = applied.others 0 (omega arith) (head_apart n bytes 0 (omega arith)) ∙ ap (λ (d : Disk). d.content 0) is_mid ∙ label;
+    gate = ap gate_open applied.gate;
+    synced = λ k _. applied.synced k;
+  };
+  listed = applied.others 2 (omega arith) (head_apart n bytes 2 (omega arith)) ∙ ap (λ (d : Disk). d.content 2) is_mid
+      ∙ sector_other (with_sector old.content 2 bytes) 1 2 open_gate_bytes (omega arith) ∙ sector_same old.content 2 bytes;
+  blocks = λ b below. ⊎_elim
+      (λ is. let copy = applied.copied b below is in
+      (λ t. copy.first t ++ copy.second t)
+      ∙ pair_same old.content mid.content (slot_at b) (base (slot_at b) (omega arith)) (base (slot_at b + 1) (omega arith))
+      ∙ sym (ap (λ x. cond x (slot_of old.content b) (home_of n old.content b)) is))
+      (λ none.
+      pair_same old.content new.content (home_at n b)
+      (applied.others (home_at n b) (omega arith) (unlisted_apart n bytes b (home_at n b) none (inl refl)) ∙ base (home_at n b) (omega arith))
+      (applied.others (home_at n b + 1) (omega arith) (unlisted_apart n bytes b (home_at n b + 1) none (inr refl)) ∙ base (home_at n b + 1) (omega arith))
+      ∙ sym (ap (λ x. cond x (slot_of old.content b) (home_of n old.content b)) none))
+      (true_or_false (listed bytes b));
+  synced = applied.synced;
+}
+  where
+    base : (k : ℕ) → 3 ≤ k → mid.content k ≡ old.content k
+    base k high = ap (λ (d : Disk). d.content k) is_mid ∙ sector_other (with_sector old.content 2 bytes) 1 k open_gate_bytes (omega arith) ∙ sector_other old.content 2 k bytes (omega arith)
+
+-- A recovery is complete.
+pub recovered : (n : ℕ) (bytes : List ℕ) (old new : Disk) → 32 ≤ n → n ≤ 2048 → IsLogged n bytes old → HasApplied n bytes old new → HasRecovered n old new
+recovered n bytes old new many few log applied = record {
+  clean = record {
+    label = record { many = many; few = few; label = applied.others 0 (omega arith) (head_apart n bytes 0 (omega arith)) ∙ log.label };
+    gate = ap gate_open applied.gate;
+    synced = applied.synced;
+  };
+  blocks = λ b below.
+      pick_shut (gate_open (new.content 1)) (listed (new.content 2) b) (slot_of new.content b) (home_of n new.content b) (ap gate_open applied.gate)
+      ∙ sym (chosen (gate_open (old.content 1)) (listed (old.content 2) b) (slot_of old.content b) (home_of n old.content b) (home_of n new.content b)
+      (λ _ is. let copy = applied.copied b below (sym (ap (λ x. listed x b) log.listed) ∙ is) in sym (λ t. copy.first t ++ copy.second t))
+      (λ none. sym (home b (sym (ap (λ x. listed x b) log.listed) ∙ none)))
+      (λ shut. absurd (cc (shut, log.gate))));
+}
+  where
+    home : (b : ℕ) → listed bytes b ≡ false → home_of n new.content b ≡ home_of n old.content b
+    home b none = pair_same old.content new.content (home_at n b)
+        (applied.others (home_at n b) (omega arith) (unlisted_apart n bytes b (home_at n b) none (inl refl)))
+        (applied.others (home_at n b + 1) (omega arith) (unlisted_apart n bytes b (home_at n b + 1) none (inr refl)))

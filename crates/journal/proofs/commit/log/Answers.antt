@@ -1,0 +1,19 @@
+use Rattle.std.proofs.Common.{◌≡◌, inl, inr, sym, subst, IsTrue}
+use Rattle.sector_disk.specs.Disk.{Disk, written, settled}
+use Rattle.sector_disk.proofs.Moments.{leaves_then}
+use Rattle.journal.specs.Steps.{IsAsSynced}
+use Rattle.journal.proofs.commit.log.Goals as goal
+
+pub returns-clause-stops : goal.returns-clause-stops
+returns-clause-stops g c = λ keeps.
+    let D = g.D.SectorDevice in
+    let d = D.disk c.args.device.now in
+    let mid = settled (written d 2 c.args.bytes.now) in
+    let first = c.write_through.ensures in
+    let then = c.write_through-2.ensures in
+    let honest : IsTrue (D.keeps_model c.write_through.new.device) = subst IsTrue (sym first.passes.model) keeps in
+    let is_mid : D.disk c.write_through.new.device ≡ mid = c.in_ok-write_through.ensures.ok keeps in
+    leaves_then D.time D.left_since c.args.device.now c.write_through.new.device c.write_through-2.new.device
+    (IsAsSynced (λ j. j ≡ 2) d) (IsAsSynced (λ j. j ≡ 1) (D.disk c.write_through.new.device)) _
+    first.passes.time then.passes.time (first.stops keeps) (then.stops honest)
+    (λ x is. inl is) (λ x is. inr (subst (λ (e : Disk). IsAsSynced (λ j. j ≡ 1) e x) is_mid is))

@@ -1,0 +1,42 @@
+use Rattle.std.proofs.Common.{arith, sym, subst, IsTrue}
+use Rattle.journal.specs.Layout.{InListedHomes, InHomeIfListed}
+use Rattle.journal.specs.Steps.{IsAsSynced}
+use Rattle.sector_disk.proofs.Moments.{leaves_then}
+use Rattle.journal.proofs.Calls.{passes_then}
+use Rattle.journal.proofs.Copies.{step_writes, only_more, copied_more, as_synced_more}
+use Rattle.journal.proofs.homes.copy_homes.Goals as goal
+
+pub returns-in_err-copy_if_listed-clause-begins : goal.returns-in_err-copy_if_listed-clause-begins
+returns-in_err-copy_if_listed-clause-begins g c =
+    let so_far = c.loop-b.invariant.begins in
+    let step = c.copy_if_listed.ensures.begins in
+    record {
+      few_writes = (step_writes c.args.bytes.now c.loop-b.b c.args.blocks _ _ _ c.loop-b-test.true so_far.few_writes step.few_writes).1;
+      few_syncs = omega (arith, so_far.few_syncs, step.few_syncs);
+    }
+
+pub loop-b-preserved : goal.loop-b-preserved
+loop-b-preserved g c =
+    let D = g.D.SectorDevice in
+    let inv = c.loop-b.invariant in
+    let step = c.copy_if_listed.ensures in
+    let n = c.args.blocks in
+    let bytes = c.args.bytes.now in
+    let below = c.loop-b-test.true in
+    let d = D.disk c.args.device.now in
+    let e = D.disk c.loop-b.device in
+    let f = D.disk c.copy_if_listed.new.device in
+    let honest : IsTrue (D.keeps_model c.args.device.now) → IsTrue (D.keeps_model c.loop-b.device) = λ keeps. subst IsTrue (sym inv.passes.model) keeps in
+    record {
+      copied = λ keeps. copied_more n bytes c.loop-b.b d e f below (inv.only keeps) (step.only (honest keeps)) (c.in_ok-copy_if_listed.ensures.ok (honest keeps)) (inv.copied keeps);
+      only = λ keeps. only_more n bytes c.loop-b.b d e f below (inv.only keeps) (step.only (honest keeps));
+      stops = λ keeps. leaves_then D.time D.left_since c.args.device.now c.loop-b.device c.copy_if_listed.new.device
+          (IsAsSynced (InListedHomes n bytes) d) (IsAsSynced (InHomeIfListed n bytes c.loop-b.b) e) (IsAsSynced (InListedHomes n bytes) d)
+          inv.passes.time step.passes.time (inv.stops keeps) (step.stops (honest keeps))
+          (λ x is. is) (λ x is. as_synced_more n bytes c.loop-b.b d e x below (inv.only keeps) is);
+      passes = passes_then D c.args.device.now c.loop-b.device c.copy_if_listed.new.device g.met.D.SectorDevice.widens inv.passes c.in_ok-copy_if_listed.ensures.passes;
+      begins = record {
+        few_writes = (step_writes bytes c.loop-b.b n _ _ _ below inv.begins.few_writes step.begins.few_writes).0;
+        few_syncs = omega (arith, inv.begins.few_syncs, step.begins.few_syncs);
+      };
+    }

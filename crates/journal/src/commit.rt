@@ -1,0 +1,108 @@
+// The steps of a save, and those that a recovery does again.
+ghost use Rattle.std.specs.Prelude.{◌≡◌, ◌⊎◌, ◌<◌, ◌≤◌, ◌+◌, ◌*◌, ◌^◌, ℕ, false, IsTrue, OnOk};
+ghost use Rattle.sector_disk.specs.Disk.{written, settled};
+ghost use Rattle.journal.specs.Calls.{StopsLeave, BeginsAtMost, Passes};
+ghost use Rattle.journal.specs.Images.{home_of};
+ghost use Rattle.journal.specs.Layout.{count_listed, sectors_for, open_gate_bytes, InListedHomes};
+ghost use Rattle.journal.specs.Chain.{Follows};
+ghost use Rattle.journal.specs.Steps.{IsAsSynced, IsSound, IsLogged, HasRedone, HasApplied, HasSaved, HasRecovered, HasBlocks, merged};
+
+use crate::homes::copy_homes;
+use crate::layout::{GATE, RECORD, open_gate};
+use sector_disk::{DeviceFault, SectorDevice};
+
+/// Writes a sector and syncs.
+pub fn write_through<D: SectorDevice>(
+    device: &mut D,
+    k: u32,
+    bytes: &[u8; 512],
+) -> Result<(), DeviceFault>
+    requires { k < D.sector_count device.old }
+    ensures ok { IsTrue (D.keeps_model device.old)
+        → OnOk result (D.disk device.new ≡ settled (written (D.disk device.old) k bytes.now)) }
+    ensures stops { IsTrue (D.keeps_model device.old)
+        → StopsLeave D.SectorDevice device.old device.new (IsAsSynced (λ j. j ≡ k) (D.disk device.old)) }
+    ensures passes { Passes D.SectorDevice device.old device.new result }
+    ensures begins { BeginsAtMost D.SectorDevice device.old device.new 1 1 }
+{
+    device.write(k, bytes)?;
+    device.sync()
+}
+
+// Writes the commit record, and then opens the gate over it.
+fn log<D: SectorDevice>(device: &mut D, bytes: &[u8; 512]) -> Result<(), DeviceFault>
+    requires { 3 ≤ D.sector_count device.old }
+    ensures ok { IsTrue (D.keeps_model device.old)
+        → OnOk result (D.disk device.new ≡ settled (written (settled (written (D.disk device.old) 2 bytes.now)) 1 open_gate_bytes)) }
+    ensures stops { IsTrue (D.keeps_model device.old) → StopsLeave D.SectorDevice device.old device.new
+        (λ c. IsAsSynced (λ j. j ≡ 2) (D.disk device.old) c ⊎ IsAsSynced (λ j. j ≡ 1) (settled (written (D.disk device.old) 2 bytes.now)) c) }
+    ensures passes { Passes D.SectorDevice device.old device.new result }
+    ensures begins { BeginsAtMost D.SectorDevice device.old device.new 2 2 }
+{
+    write_through(device, RECORD, bytes)?;
+    write_through(device, GATE, &open_gate())
+}
+
+fn copy_and_sync<D: SectorDevice>(
+    device: &mut D,
+    blocks: u16,
+    bytes: &[u8; 512],
+) -> Result<(), DeviceFault>
+    requires many { 32 ≤ blocks }
+    requires few { blocks ≤ 2048 }
+    requires size { D.sector_count device.old ≡ sectors_for blocks }
+    requires logged { IsTrue (D.keeps_model device.old) → IsLogged blocks bytes.now (D.disk device.old) }
+    ensures ok { IsTrue (D.keeps_model device.old)
+        → OnOk result (HasRedone blocks bytes.now (D.disk device.old) (D.disk device.new)) }
+    ensures stops { IsTrue (D.keeps_model device.old)
+        → StopsLeave D.SectorDevice device.old device.new (IsAsSynced (InListedHomes blocks bytes.now) (D.disk device.old)) }
+    ensures passes { Passes D.SectorDevice device.old device.new result }
+    ensures begins { BeginsAtMost D.SectorDevice device.old device.new (2 * count_listed bytes.now blocks) 1 }
+{
+    copy_homes(device, blocks, bytes)?;
+    device.sync()
+}
+
+/// Writes the homes of the listed blocks under an open gate, and then closes it.
+pub fn apply<D: SectorDevice>(
+    device: &mut D,
+    blocks: u16,
+    bytes: &[u8; 512],
+) -> Result<(), DeviceFault>
+    requires many { 32 ≤ blocks }
+    requires few { blocks ≤ 2048 }
+    requires size { D.sector_count device.old ≡ sectors_for blocks }
+    requires logged { IsTrue (D.keeps_model device.old) → IsLogged blocks bytes.now (D.disk device.old) }
+    ensures ok { IsTrue (D.keeps_model device.old)
+        → OnOk result (HasApplied blocks bytes.now (D.disk device.old) (D.disk device.new)) }
+    ensures recovered { IsTrue (D.keeps_model device.old)
+        → OnOk result (HasRecovered blocks (D.disk device.old) (D.disk device.new)) }
+    ensures stops { IsTrue (D.keeps_model device.old)
+        → StopsLeave D.SectorDevice device.old device.new (Follows blocks (D.disk device.old).content) }
+    ensures passes { Passes D.SectorDevice device.old device.new result }
+    ensures begins { BeginsAtMost D.SectorDevice device.old device.new (2 * count_listed bytes.now blocks + 1) 2 }
+{
+    copy_and_sync(device, blocks, bytes)?;
+    write_through(device, GATE, &[0; 512])
+}
+
+/// Makes the listed slots the homes of their blocks, all at once.
+pub(crate) fn save<D: SectorDevice>(
+    device: &mut D,
+    blocks: u16,
+    bytes: &[u8; 512],
+) -> Result<(), DeviceFault>
+    requires many { 32 ≤ blocks }
+    requires few { blocks ≤ 2048 }
+    requires size { D.sector_count device.old ≡ sectors_for blocks }
+    requires sound { IsTrue (D.keeps_model device.old) → IsSound blocks (D.disk device.old) }
+    ensures ok { IsTrue (D.keeps_model device.old)
+        → OnOk result (HasSaved blocks bytes.now (D.disk device.old) (D.disk device.new)) }
+    ensures stops { IsTrue (D.keeps_model device.old) → StopsLeave D.SectorDevice device.old device.new
+        (λ c. HasBlocks blocks (home_of blocks (D.disk device.old).content) c ⊎ HasBlocks blocks (merged blocks bytes.now (D.disk device.old).content) c) }
+    ensures passes { Passes D.SectorDevice device.old device.new result }
+    ensures begins { BeginsAtMost D.SectorDevice device.old device.new (2 * count_listed bytes.now blocks + 3) 4 }
+{
+    log(device, bytes)?;
+    apply(device, blocks, bytes)
+}

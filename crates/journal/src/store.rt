@@ -1,0 +1,244 @@
+// Blocks on a device, spilled one by one and saved all at once.
+ghost use Rattle.std.specs.Prelude.{◌≡◌, ◌≢◌, ◌==◌, ◌||◌, ◌<◌, ◌≤◌, ◌+◌, ◌*◌, ◌↔◌, ℕ, true, false, length, IsTrue, OnOk, OnErr, IsOk, IsErr, IsErrOf, MatchResult};
+ghost use Rattle.sector_disk.specs.Disk.{Image, MayLeave};
+ghost use Rattle.journal.specs.Clean.{IsClean};
+ghost use Rattle.journal.specs.Images.{meaning, Means};
+ghost use Rattle.journal.specs.Layout.{listed, count_listed, sectors_for};
+ghost use Rattle.journal.specs.Maps.{Maps, contents, latest, fresh, spilled, committed, shut};
+ghost use Rattle.journal.specs.Steps.{IsSound};
+
+use crate::commit::save;
+use crate::layout::{home_sector, is_listed, slot_sector};
+use crate::pairs::{read_pair, write_pair};
+use sector_disk::SectorDevice;
+use thiserror::Error;
+
+/// Why a store didn't do what it was asked.
+#[derive(Clone, Copy, Debug, PartialEq, Eq, Error)]
+pub enum StoreFault {
+    #[error("the device failed")]
+    Device = 1,
+    #[error("the store was closed by a fault")]
+    Closed = 2,
+}
+
+/// Blocks of 1,024 bytes on a device. A block is spilled to a slot of its own, and a commit makes all spilled blocks
+/// the saved ones at once: a stop of the device at any moment leaves either all of them or none.
+#[derive(Drop)]
+pub struct Store<D: SectorDevice> {
+    device: D,
+    blocks: u16,
+    // the commit record of the blocks spilled since the last save
+    pending: [u8; 512],
+    closed: bool,
+    ghost many: { 32 ≤ blocks },
+    ghost few: { blocks ≤ 2048 },
+    ghost size: { D.sector_count device ≡ sectors_for blocks },
+    ghost clear: { (b : ℕ) → blocks ≤ b → listed pending b ≡ false },
+    ghost sound: { IsTrue (D.keeps_model device) → closed ≡ false → IsSound blocks (D.disk device) },
+}
+
+impl<D: SectorDevice> Store<D> {
+    ghost use Rattle.journal.specs.Store.{device_of, disk_of, blocks_of, closed_of, is_pending, pending_count, SamePending, IsRecordOf, StandsFor, Continues, DeviceFailed, DeviceBegins, KeepsSaved, SavesAllOrNone, AddsNothing};
+
+    /// A store of `blocks` blocks, 32 to 2,048, over an image with a good label and a closed gate, of which nothing is
+    /// unsynced. Makes no device call.
+    pub fn adopt(device: D, blocks: u16) -> Self
+        requires many { 32 ≤ blocks }
+        requires few { blocks ≤ 2048 }
+        requires size { D.sector_count device ≡ sectors_for blocks }
+        requires clean { IsTrue (D.keeps_model device) → IsClean blocks (D.disk device) }
+        ensures device { device_of result ≡ device }
+        ensures blocks { blocks_of result ≡ blocks }
+        ensures closed { closed_of result ≡ false }
+        ensures pending { (b : ℕ) → is_pending result b ≡ false }
+        ensures state { IsTrue (D.keeps_model device)
+            → StandsFor result (fresh (meaning blocks (D.disk device).content)) }
+    {
+        Store {
+            device,
+            blocks,
+            pending: empty_record(),
+            closed: false,
+        }
+    }
+
+    /// How many blocks there are, from 32 to 2,048.
+    #[inline]
+    pub fn blocks(&self) -> u16
+        ensures value { result ≡ blocks_of self.now }
+        ensures many { 32 ≤ result }
+        ensures few { result ≤ 2048 }
+        // No other block is ever pending.
+        ensures pending { (b : ℕ) → result ≤ b → is_pending self.now b ≡ false }
+    {
+        self.blocks
+    }
+
+    /// Whether a fault has closed the store. It stays closed until the device is opened again.
+    #[inline]
+    pub fn is_closed(&self) -> bool
+        ensures { result ≡ closed_of self.now }
+    {
+        self.closed
+    }
+
+    /// The device, as it is. What was spilled and not committed is given up.
+    pub fn into_device(self) -> D
+        ensures device { result ≡ device_of self }
+        ensures sectors { D.sector_count result ≡ sectors_for (blocks_of self) }
+    {
+        let Store { device, .. } = self;
+        device
+    }
+
+    /// Reads block `b` as it was spilled last, or else as it was saved. A fault changes nothing.
+    pub fn read_block(&mut self, b: u16, out: &mut [u8]) -> Result<(), StoreFault>
+        requires below { b < blocks_of self.old }
+        requires room { length out.old ≡ 1024 }
+
+        ensures ok { (m : Maps) → StandsFor self.old m → OnOk result (out.new ≡ contents m b) }
+        ensures err { OnErr result (out.new ≡ out.old) }
+        ensures state { (m : Maps) → StandsFor self.old m → StandsFor self.new m }
+
+        ensures closed { IsErrOf result StoreFault.Closed ↔ (closed_of self.old ≡ true) }
+        ensures closed_same { closed_of self.old ≡ true → self.new ≡ self.old }
+        ensures shuts { closed_of self.new ≡ closed_of self.old }
+        ensures device { IsErrOf result StoreFault.Device → DeviceFailed self.old self.new }
+
+        ensures stops { KeepsSaved self.old self.new }
+        ensures closed_stops { AddsNothing self.old self.new }
+        ensures continues { Continues self.old self.new }
+        ensures pending { SamePending self.old self.new }
+        ensures begins { DeviceBegins self.old self.new 0 0 }
+    {
+        // The device of a closed store may hold a save half done, so it isn't read.
+        if self.closed {
+            return Err(StoreFault::Closed);
+        }
+        let k = if is_listed(&self.pending, b) {
+            slot_sector(b)
+        } else {
+            home_sector(self.blocks, b)
+        };
+        match read_pair(&mut self.device, k, out) {
+            Ok(()) => Ok(()),
+            Err(_) => Err(StoreFault::Device),
+        }
+    }
+
+    /// Writes block `b` to its slot. It is saved by the next commit. A device fault closes the store.
+    pub fn spill(&mut self, b: u16, bytes: &[u8]) -> Result<(), StoreFault>
+        requires below { b < blocks_of self.old }
+        requires whole { length bytes.now ≡ 1024 }
+
+        ensures ok { (m : Maps) → StandsFor self.old m
+            → OnOk result (StandsFor self.new (spilled m b bytes.now)) }
+        ensures fault { (m : Maps) → StandsFor self.old m
+            → IsErrOf result StoreFault.Device → StandsFor self.new (shut m) }
+
+        ensures closed { IsErrOf result StoreFault.Closed ↔ (closed_of self.old ≡ true) }
+        ensures closed_same { closed_of self.old ≡ true → self.new ≡ self.old }
+        ensures shuts { IsErr result ↔ (closed_of self.new ≡ true) }
+        ensures device { IsErrOf result StoreFault.Device → DeviceFailed self.old self.new }
+
+        ensures stops { KeepsSaved self.old self.new }
+        ensures closed_stops { AddsNothing self.old self.new }
+        ensures continues { Continues self.old self.new }
+        ensures pending { MatchResult result
+            (λ _. (a : ℕ) → is_pending self.new a ≡ ((a == b) || is_pending self.old a))
+            (λ _. SamePending self.old self.new) }
+        ensures begins { DeviceBegins self.old self.new 2 0 }
+    {
+        // After a fault nothing more is written until the image is opened again.
+        if self.closed {
+            return Err(StoreFault::Closed);
+        }
+        match write_pair(&mut self.device, slot_sector(b), bytes) {
+            Ok(()) => {
+                list_block(&mut self.pending, b);
+                Ok(())
+            }
+            Err(_) => {
+                self.closed = true;
+                Err(StoreFault::Device)
+            }
+        }
+    }
+
+    /// Saves all blocks spilled since the last commit, or none of them. With nothing spilled it makes no device call. A
+    /// device fault closes the store, and the saved blocks are then all the new ones or all the old ones.
+    pub fn commit(&mut self) -> Result<(), StoreFault>
+        ensures ok { (m : Maps) → StandsFor self.old m → OnOk result (StandsFor self.new (committed m)) }
+        ensures fault { (m : Maps) → StandsFor self.old m
+            → IsErrOf result StoreFault.Device → StandsFor self.new (shut m) }
+
+        ensures closed { IsErrOf result StoreFault.Closed ↔ (closed_of self.old ≡ true) }
+        ensures closed_same { closed_of self.old ≡ true → self.new ≡ self.old }
+        ensures shuts { IsErr result ↔ (closed_of self.new ≡ true) }
+        ensures device { IsErrOf result StoreFault.Device → DeviceFailed self.old self.new }
+        ensures nothing { closed_of self.old ≡ false
+            → pending_count self.old ≡ 0 → IsOk result × (device_of self.new ≡ device_of self.old) }
+
+        ensures stops { SavesAllOrNone self.old self.new }
+        // Once it has returned, a stop leaves the new blocks alone.
+        ensures after { (m : Maps) → StandsFor self.old m
+            → OnOk result ((image : Image) → MayLeave (disk_of self.new) image → Means (latest m) image) }
+        ensures closed_stops { AddsNothing self.old self.new }
+        ensures continues { Continues self.old self.new }
+        ensures pending { MatchResult result (λ _. (a : ℕ)
+            → is_pending self.new a ≡ false) (λ _. SamePending self.old self.new) }
+        // The record on the device lists the blocks that were pending, and no bit past the last block.
+        ensures recorded { IsTrue (D.keeps_model (device_of self.old)) → pending_count self.old ≢ 0
+            → OnOk result (IsRecordOf (blocks_of self.old) (is_pending self.old) ((disk_of self.new).content 2)) }
+        ensures begins { DeviceBegins self.old self.new (2 * pending_count self.old + 3) 4 }
+    {
+        // A closed store says so even where nothing is pending.
+        if self.closed {
+            return Err(StoreFault::Closed);
+        }
+        if count_blocks(&self.pending, self.blocks) == 0 {
+            return Ok(());
+        }
+        match save(&mut self.device, self.blocks, &self.pending) {
+            Ok(()) => {
+                self.pending = empty_record();
+                Ok(())
+            }
+            Err(_) => {
+                self.closed = true;
+                Err(StoreFault::Device)
+            }
+        }
+    }
+}
+
+// A commit record that lists no block.
+fn empty_record() -> [u8; 512]
+    ensures { (b : ℕ) → listed result b ≡ false }
+{
+    [0; 512]
+}
+
+// Adds a block to a commit record.
+fn list_block(bytes: &mut [u8; 512], b: u16)
+    requires { b < 2048 }
+    ensures listed { listed bytes.new b ≡ true }
+    ensures others { (a : ℕ) → a ≢ b → listed bytes.new a ≡ listed bytes.old a }
+{
+    bytes[b as usize / 8] |= 1 << (b % 8);
+}
+
+// How many of the first blocks a commit record lists.
+fn count_blocks(bytes: &[u8; 512], blocks: u16) -> u16
+    requires { blocks ≤ 2048 }
+    ensures { result ≡ count_listed bytes.now blocks }
+{
+    let mut count = 0;
+    for b in 0..blocks {
+        if is_listed(bytes, b) {
+            count += 1;
+        }
+    }
+    count
+}

@@ -1,0 +1,44 @@
+use Rattle.std.proofs.Common.{◌≡◌, sym, ◌∙◌, subst, refl, arith, IsTrue}
+use Rattle.sector_disk.specs.Disk.{MayLeave}
+use Rattle.journal.specs.Maps.{fresh}
+use Rattle.journal.specs.Store.{StandsFor}
+use Rattle.recovery.specs.Formatted.{FormatLeaves}
+use Rattle.recovery.proofs.Formats.{half_now, made_means, blank_meaning}
+use Rattle.recovery.proofs.formatting.format.Goals as goal
+
+pub returns-then-not-fits-clause-stops : goal.returns-then-not-fits-clause-stops
+returns-then-not-fits-clause-stops g c = λ keeps n size x since.
+    half_now n (g.D.SectorDevice.disk c.args.device) x (g.met.D.SectorDevice.only_now c.args.device x since)
+
+pub returns-in-Ok-clause-ok : goal.returns-in-Ok-clause-ok
+returns-in-Ok-clause-ok g c = λ keeps.
+    let D = g.D.SectorDevice in
+    let n = c.args.blocks in
+    let fits = c.if-not-fits.ensures.yes in
+    let new = D.disk c.make.new.device in
+    let honest : IsTrue (D.keeps_model c.make.new.device) = subst IsTrue (sym c.make.ensures.passes.model) keeps in
+    let means = made_means n fits.0 fits.1 new (c.in-Ok.ensures.ok keeps) new.content (λ k. refl) in
+    subst (λ l. StandsFor c.adopt.result (fresh l)) (blank_meaning n new.content means) (c.adopt.ensures.state honest)
+
+pub returns-in-Ok-clause-after : goal.returns-in-Ok-clause-after
+returns-in-Ok-clause-after g c = λ keeps x may.
+    let D = g.D.SectorDevice in
+    let fits = c.if-not-fits.ensures.yes in
+    let new = D.disk c.make.new.device in
+    let honest : IsTrue (D.keeps_model c.make.new.device) = subst IsTrue (sym c.make.ensures.passes.model) keeps in
+    let made = c.in-Ok.ensures.ok keeps in
+    let left = subst (λ d. MayLeave (D.disk d) x) c.adopt.ensures.device may in
+    made_means c.args.blocks fits.0 fits.1 new made x (λ k. left k (made.synced k) ∙ sym (g.met.D.SectorDevice.present c.make.new.device honest k (made.synced k)))
+
+pub returns-in-Ok-clause-stops : goal.returns-in-Ok-clause-stops
+returns-in-Ok-clause-stops g c = λ keeps n size x since.
+    let D = g.D.SectorDevice in
+    let one : c.args.blocks ≡ n = omega (arith, size, (c.if-not-fits.ensures.yes).2, c.sectors.ensures) in
+    subst (λ m. FormatLeaves m (D.disk c.args.device) x) one
+    (c.make.ensures.stops keeps x (subst (λ d. D.left_since d (D.time c.args.device) x) c.adopt.ensures.device since))
+
+pub returns-in-Err-clause-stops : goal.returns-in-Err-clause-stops
+returns-in-Err-clause-stops g c = λ keeps n size x since.
+    let D = g.D.SectorDevice in
+    let one : c.args.blocks ≡ n = omega (arith, size, (c.if-not-fits.ensures.yes).2, c.sectors.ensures) in
+    subst (λ m. FormatLeaves m (D.disk c.args.device) x) one (c.make.ensures.stops keeps x since)

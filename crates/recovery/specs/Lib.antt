@@ -1,0 +1,4 @@
+pub mod Formatted
+pub mod Label
+pub mod Opened
+pub mod Steps

@@ -1,0 +1,27 @@
+-- What a recovery makes of a disk.
+use Rattle.std.specs.Prelude.{ℕ, ◌+◌, ◌*◌, if◌then◌else◌, Result, Ok, Err}
+use Rattle.sector_disk.specs.Disk.{Disk, Image, MayLeave}
+use Rattle.sector_disk.specs.declared.device.SectorDevice.{Ghosts}
+use Rattle.journal.specs.declared.store.Store.{Store}
+use Rattle.journal.specs.Store.{device_of}
+use Rattle.journal.specs.Layout.{gate_open, count_listed}
+use Rattle.journal.specs.Chain.{Follows}
+use Rattle.recovery.specs.declared.fault.OpenFault.{OpenFault}
+
+-- the device, in a store or handed back
+abbrev pub end_of : {D : Type 0} {G : Ghosts D} → Result (Store D G) (OpenFault × D) → D
+end_of (Ok store) = device_of store
+end_of (Err refused) = refused.1
+
+-- A stop of a recovery of this disk may leave the image: it follows one that a stop may leave now.
+pub record RecoveryLeaves (n : ℕ) (disk : Disk) (image : Image) : Type 0 where
+  pub from : Image
+  pub may : MayLeave disk from
+  pub follows : Follows n from image
+
+-- how many writes and syncs a recovery of this image begins at most
+abbrev pub writes_for : ℕ → Image → ℕ
+writes_for n image = if gate_open (image 1) then 2 * count_listed (image 2) n + 1 else 0
+
+abbrev pub syncs_for : Image → ℕ
+syncs_for image = if gate_open (image 1) then 3 else 1

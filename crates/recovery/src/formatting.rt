@@ -1,0 +1,183 @@
+// A device is made an image of blank blocks.
+ghost use Rattle.std.specs.Prelude.{◌≡◌, ◌≢◌, ◌⊎◌, ◌<◌, ◌≤◌, ◌+◌, ◌*◌, ℕ, true, false, IsTrue, OnOk, IfOk, IfErr, MatchBool, replicate};
+ghost use Rattle.sector_disk.specs.Counting.{HasRisen};
+ghost use Rattle.sector_disk.specs.Disk.{Image, MayLeave, written};
+ghost use Rattle.sector_disk.specs.Moments.{Elapses};
+ghost use Rattle.journal.specs.Calls.{StopsLeave, BeginsAtMost, Passes};
+ghost use Rattle.journal.specs.Clean.{IsClean};
+ghost use Rattle.journal.specs.Images.{Means};
+ghost use Rattle.journal.specs.Layout.{sectors_for, label_of};
+ghost use Rattle.journal.specs.Maps.{fresh};
+ghost use Rattle.journal.specs.Steps.{WritesOnly, IsAsSynced};
+ghost use Rattle.journal.specs.Store.{device_of, disk_of, blocks_of, closed_of, is_pending, StandsFor};
+ghost use Rattle.recovery.specs.Formatted.{FormatLeaves, blank_blocks};
+ghost use Rattle.recovery.specs.Label.{is_size_for};
+ghost use Rattle.recovery.specs.Opened.{end_of};
+ghost use Rattle.recovery.specs.Steps.{IsBlank, IsUnlabelled, IsPrepared, IsMade};
+ghost use Rattle.recovery.specs.declared.fault.OpenFault.TheVariants.{BadSize, Device};
+
+use crate::OpenFault;
+use crate::label::fits;
+use crate::settling::settle;
+use journal::layout::{GATE, LABEL, RECORD, home_sector, label};
+use journal::{Store, write_through};
+use sector_disk::{DeviceFault, SectorDevice};
+
+// Fills the homes with blanks.
+fn fill_homes<D: SectorDevice>(device: &mut D, blocks: u16) -> Result<(), DeviceFault>
+    requires many { 32 ≤ blocks }
+    requires few { blocks ≤ 2048 }
+    requires size { D.sector_count device.old ≡ sectors_for blocks }
+    ensures ok { IsTrue (D.keeps_model device.old)
+        → OnOk result ((k : ℕ) → 3 + 2 * blocks ≤ k → k < 3 + 4 * blocks → (D.disk device.new).content k ≡ replicate 512 32) }
+    ensures only { IsTrue (D.keeps_model device.old)
+        → WritesOnly (λ k. 3 ≤ k) (D.disk device.old) (D.disk device.new) }
+    ensures stops { IsTrue (D.keeps_model device.old)
+        → StopsLeave D.SectorDevice device.old device.new (IsAsSynced (λ k. 3 ≤ k) (D.disk device.old)) }
+    ensures passes { Passes D.SectorDevice device.old device.new result }
+    ensures begins { BeginsAtMost D.SectorDevice device.old device.new (2 * blocks) 0 }
+{
+    let blank = [b' '; 512];
+    let first = home_sector(blocks, 0);
+    for k in first..first + 2 * blocks as u32 {
+        device.write(k, &blank)?;
+    }
+    Ok(())
+}
+
+// Takes a good label away.
+fn unlabel<D: SectorDevice>(device: &mut D, blocks: u16) -> Result<(), DeviceFault>
+    requires many { 32 ≤ blocks }
+    requires few { blocks ≤ 2048 }
+    requires size { D.sector_count device.old ≡ sectors_for blocks }
+    ensures ok { IsTrue (D.keeps_model device.old) → OnOk result (IsUnlabelled blocks (D.disk device.new)) }
+    ensures stops { IsTrue (D.keeps_model device.old)
+        → StopsLeave D.SectorDevice device.old device.new (FormatLeaves blocks (D.disk device.old)) }
+    ensures passes { Passes D.SectorDevice device.old device.new result }
+    ensures begins { BeginsAtMost D.SectorDevice device.old device.new 1 2 }
+{
+    let mut found = [0; 512];
+    settle(device, &mut found)?;
+    if found == label(blocks) {
+        write_through(device, LABEL, &[0; 512])
+    } else {
+        Ok(())
+    }
+}
+
+fn fill_head<D: SectorDevice>(device: &mut D) -> Result<(), DeviceFault>
+    requires { 3 ≤ D.sector_count device.old }
+    ensures ok { IsTrue (D.keeps_model device.old)
+        → OnOk result (D.disk device.new ≡ written (written (D.disk device.old) 1 (replicate 512 0)) 2 (replicate 512 0)) }
+    ensures only { IsTrue (D.keeps_model device.old)
+        → WritesOnly (λ k. k ≢ 0) (D.disk device.old) (D.disk device.new) }
+    ensures stops { IsTrue (D.keeps_model device.old)
+        → StopsLeave D.SectorDevice device.old device.new (IsAsSynced (λ k. k ≢ 0) (D.disk device.old)) }
+    ensures passes { Passes D.SectorDevice device.old device.new result }
+    ensures begins { BeginsAtMost D.SectorDevice device.old device.new 2 0 }
+{
+    device.write(GATE, &[0; 512])?;
+    device.write(RECORD, &[0; 512])
+}
+
+fn fill<D: SectorDevice>(device: &mut D, blocks: u16) -> Result<(), DeviceFault>
+    requires many { 32 ≤ blocks }
+    requires few { blocks ≤ 2048 }
+    requires size { D.sector_count device.old ≡ sectors_for blocks }
+    ensures ok { IsTrue (D.keeps_model device.old) → OnOk result (IsBlank blocks (D.disk device.new).content) }
+    ensures only { IsTrue (D.keeps_model device.old)
+        → WritesOnly (λ k. k ≢ 0) (D.disk device.old) (D.disk device.new) }
+    ensures stops { IsTrue (D.keeps_model device.old)
+        → StopsLeave D.SectorDevice device.old device.new (IsAsSynced (λ k. k ≢ 0) (D.disk device.old)) }
+    ensures passes { Passes D.SectorDevice device.old device.new result }
+    ensures begins { BeginsAtMost D.SectorDevice device.old device.new (2 * blocks + 2) 0 }
+{
+    fill_head(device)?;
+    fill_homes(device, blocks)
+}
+
+// Makes all blank under no good label.
+fn prepare<D: SectorDevice>(device: &mut D, blocks: u16) -> Result<(), DeviceFault>
+    requires many { 32 ≤ blocks }
+    requires few { blocks ≤ 2048 }
+    requires size { D.sector_count device.old ≡ sectors_for blocks }
+    requires unlabelled { IsTrue (D.keeps_model device.old) → IsUnlabelled blocks (D.disk device.old) }
+    ensures ok { IsTrue (D.keeps_model device.old) → OnOk result (IsPrepared blocks (D.disk device.new)) }
+    ensures stops { IsTrue (D.keeps_model device.old)
+        → StopsLeave D.SectorDevice device.old device.new (λ c. c 0 ≢ label_of blocks) }
+    ensures passes { Passes D.SectorDevice device.old device.new result }
+    ensures begins { BeginsAtMost D.SectorDevice device.old device.new (2 * blocks + 2) 1 }
+{
+    fill(device, blocks)?;
+    device.sync()
+}
+
+// Writes the label over a blank image.
+fn seal<D: SectorDevice>(device: &mut D, blocks: u16) -> Result<(), DeviceFault>
+    requires many { 32 ≤ blocks }
+    requires few { blocks ≤ 2048 }
+    requires size { D.sector_count device.old ≡ sectors_for blocks }
+    requires prepared { IsTrue (D.keeps_model device.old) → IsPrepared blocks (D.disk device.old) }
+    ensures ok { IsTrue (D.keeps_model device.old) → OnOk result (IsMade blocks (D.disk device.new)) }
+    ensures stops { IsTrue (D.keeps_model device.old)
+        → StopsLeave D.SectorDevice device.old device.new (λ c. (c 0 ≢ label_of blocks) ⊎ Means (blank_blocks blocks) c) }
+    ensures passes { Passes D.SectorDevice device.old device.new result }
+    ensures begins { BeginsAtMost D.SectorDevice device.old device.new 1 1 }
+{
+    write_through(device, LABEL, &label(blocks))
+}
+
+// Makes the image. A stop before the end leaves no good label, or what was there.
+fn make<D: SectorDevice>(device: &mut D, blocks: u16) -> Result<(), DeviceFault>
+    requires many { 32 ≤ blocks }
+    requires few { blocks ≤ 2048 }
+    requires size { D.sector_count device.old ≡ sectors_for blocks }
+    ensures ok { IsTrue (D.keeps_model device.old) → OnOk result (IsMade blocks (D.disk device.new)) }
+    ensures stops { IsTrue (D.keeps_model device.old)
+        → StopsLeave D.SectorDevice device.old device.new (FormatLeaves blocks (D.disk device.old)) }
+    ensures passes { Passes D.SectorDevice device.old device.new result }
+    ensures begins { BeginsAtMost D.SectorDevice device.old device.new (2 * blocks + 4) 4 }
+{
+    unlabel(device, blocks)?;
+    prepare(device, blocks)?;
+    seal(device, blocks)
+}
+
+/// Makes an image of `blocks` blank blocks, 32 to 2,048, on a device of exactly `3 + 4 * blocks` sectors, and answers a
+/// store of them. An error hands the device back. Takes no memory.
+///
+/// The label is written last, and a good label that stood there is taken away first. So a stop leaves no good label, or
+/// the blank image, or the old image as it was.
+pub fn format<D: SectorDevice>(mut device: D, blocks: u16) -> Result<Store<D>, (OpenFault, D)>
+    ensures ok { IsTrue (D.keeps_model device)
+        → IfOk result (λ store. StandsFor store (fresh (blank_blocks blocks))) }
+    ensures clean { IsTrue (D.keeps_model device) → IfOk result (λ store. IsClean blocks (disk_of store)) }
+    ensures fresh { IfOk result (λ store. (blocks_of store ≡ blocks) × (closed_of store ≡ false) × ((b : ℕ)
+        → is_pending store b ≡ false)) }
+
+    // BadSize comes exactly where the size is wrong, over any device and with no call of it. Else only the device fails.
+    ensures size { IfOk result (λ _. is_size_for blocks (D.sector_count device) ≡ true) }
+    ensures refusal { IfErr result (λ e. MatchBool (is_size_for blocks (D.sector_count device)) (e.0 ≡ Device) (e.0 ≡ BadSize)) }
+    ensures unasked { IfErr result (λ e. e.0 ≡ BadSize → e.1 ≡ device) }
+    ensures device { IfErr result (λ e. e.0 ≡ Device → HasRisen (D.failures device) (D.failures e.1)) }
+
+    // What a stop at any moment leaves, and a stop once it has returned.
+    ensures stops { IsTrue (D.keeps_model device) → (n : ℕ) → D.sector_count device ≡ sectors_for n
+        → StopsLeave D.SectorDevice device (end_of result) (FormatLeaves n (D.disk device)) }
+    ensures after { IsTrue (D.keeps_model device)
+        → IfOk result (λ store. (image : Image) → MayLeave (disk_of store) image → Means (blank_blocks blocks) image) }
+    // At most zeros over a label, gate, record, homes and label are written.
+    ensures begins { BeginsAtMost D.SectorDevice device (end_of result) (2 * blocks + 4) 4 }
+    ensures time { Elapses D.time D.left_since device (end_of result) }
+    ensures failures { D.failures device ≤ D.failures (end_of result) }
+    ensures sectors { D.sector_count (end_of result) ≡ D.sector_count device }
+    ensures model { D.keeps_model (end_of result) ≡ D.keeps_model device }
+{
+    if !fits(blocks, device.sectors()) {
+        return Err((OpenFault::BadSize, device));
+    }
+    match make(&mut device, blocks) {
+        Ok(()) => Ok(Store::adopt(device, blocks)),
+        Err(_) => Err((OpenFault::Device, device)),
+    }
+}

@@ -1,0 +1,72 @@
+// Sizes and labels of images.
+ghost use Rattle.std.specs.Prelude.{◌≡◌, ◌≢◌, ◌<◌, ◌≤◌, ◌+◌, ℕ, false, true, Some, None, MatchResult, OnOk, IfSome, OnSome, IfNone, IfErr, IsTrue, ◌==◌, ◌*◌};
+ghost use Rattle.std.specs.Bool.{OnTrue};
+ghost use Rattle.std.specs.List.{list_all};
+ghost use Rattle.journal.specs.Layout.{sectors_for, label_of};
+ghost use Rattle.recovery.specs.Label.{blocks_in, is_size, is_named, number_at, label_refusal, is_size_for};
+ghost use Rattle.recovery.specs.declared.fault.OpenFault.TheVariants.{BadSize};
+
+use crate::OpenFault;
+use byteorder::{ByteOrder, LittleEndian};
+
+// How many blocks an image of so many sectors has.
+pub(crate) fn blocks_of_size(sectors: u32) -> Option<u16>
+    ensures some { IfSome result (λ n. (n ≡ blocks_in sectors) × (is_size sectors ≡ true)) }
+    ensures none { IfNone result (is_size sectors ≡ false) }
+    ensures size { IfSome result (λ n. sectors ≡ sectors_for n) }
+    ensures many { IfSome result (λ n. 32 ≤ n) }
+    ensures few { IfSome result (λ n. n ≤ 2048) }
+{
+    let blocks = u16::try_from(sectors.saturating_sub(3) / 4).ok()?;
+    if fits(blocks, sectors) {
+        Some(blocks)
+    } else {
+        None
+    }
+}
+
+// Whether a label is the good one, or else why not.
+pub(crate) fn check_label(label: &[u8; 512], blocks: u16) -> Result<(), OpenFault>
+    ensures exact { MatchResult result (λ _. label_refusal blocks label.now ≡ None) (λ e. label_refusal blocks label.now ≡ Some e) }
+    ensures good { OnOk result (label.now ≡ label_of blocks) }
+    ensures sized { IfErr result (λ e. e ≢ BadSize) }
+{
+    if !is_label(label) {
+        return Err(OpenFault::NoLabel);
+    }
+    if number(label, 8) != 1 {
+        return Err(OpenFault::OtherVersion);
+    }
+    if number(label, 10) != blocks {
+        return Err(OpenFault::WrongCount);
+    }
+    Ok(())
+}
+
+fn is_label(label: &[u8; 512]) -> bool
+    ensures { result ≡ is_named label.now }
+{
+    let (_, rest) = label.split_at(12);
+    label.starts_with(b"F83BLOCK") && is_zero(rest)
+}
+
+fn is_zero(bytes: &[u8]) -> bool
+    ensures { result ≡ list_all (λ byte. byte == 0) bytes.now }
+{
+    bytes.iter().all(|byte| *byte == 0)
+}
+
+fn number(bytes: &[u8; 512], at: usize) -> u16
+    requires { at + 2 ≤ 512 }
+    ensures { result ≡ number_at bytes.now at }
+{
+    LittleEndian::read_u16(&bytes[at..])
+}
+
+// Whether an image of so many blocks has so many sectors.
+pub(crate) fn fits(blocks: u16, sectors: u32) -> bool
+    ensures value { result ≡ is_size_for blocks sectors }
+    ensures yes { OnTrue result ((32 ≤ blocks) × (blocks ≤ 2048) × (sectors ≡ sectors_for blocks)) }
+{
+    32 <= blocks && blocks <= 2048 && sectors == 3 + 4 * blocks as u32
+}

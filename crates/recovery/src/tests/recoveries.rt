@@ -1,0 +1,131 @@
+// Recoveries of a save that was stopped, themselves stopped at each of their calls, three times over.
+use super::saves::save_until;
+use super::support::{WAYS, check, fates, first_two, formatted, put, sector, unsynced_sectors};
+use crate::open;
+use journal::layout::gate_is_open;
+use sector_disk::{Fused, MemoryDisk};
+use std::test::Fail;
+
+// The sectors in which the images of this save differ: gate, record, and the slots and homes of blocks 1 and 2.
+const DIFFERENT: [u32; 10] = [1, 2, 5, 6, 7, 8, 69, 70, 71, 72];
+
+#[derive(Clone, Copy, PartialEq, Eq)]
+struct Image {
+    sectors: [[u8; 512]; 10],
+}
+
+fn image_of(disk: &mut MemoryDisk) -> Result<Image, Fail> {
+    let mut sectors = [[0; 512]; 10];
+    for (bytes, k) in sectors.iter_mut().zip(DIFFERENT.iter()) {
+        *bytes = sector(disk, *k)?;
+    }
+    Ok(Image { sectors })
+}
+
+// A disk that holds the image, with nothing unsynced.
+fn disk_of(rt: &HostRuntime, image: &Image) -> Result<MemoryDisk, Fail> {
+    let mut disk = formatted(rt)?;
+    for (bytes, k) in image.sectors.iter().zip(DIFFERENT.iter()) {
+        put(&mut disk, *k, bytes)?;
+    }
+    Ok(disk.stop(&[sector_disk::Fate::Kept; 10]))
+}
+
+// Adds an image that isn't there yet.
+fn add(images: &mut Vec<Image>, image: Image) -> Result<(), Fail> {
+    if !images.iter().any(|known| *known == image) {
+        images.push(image)?;
+    }
+    Ok(())
+}
+
+// The images with an open gate that stops of the save leave.
+fn open_gates(rt: &HostRuntime) -> Result<Vec<Image>, Fail> {
+    let mut images = Vec::new(rt.alloc());
+    for k in 1..30 {
+        let (_, present) = save_until(rt, k)?;
+        let (_, twin) = save_until(rt, k)?;
+        let sectors = unsynced_sectors(rt, present, twin)?;
+        for way in WAYS {
+            let (_, disk) = save_until(rt, k)?;
+            let image = image_of(&mut disk.stop(&fates(rt, &sectors, way)?))?;
+            if gate_is_open(&image.sectors[0]) {
+                add(&mut images, image)?;
+            }
+        }
+    }
+    Ok(images)
+}
+
+// Opens over a device that fails from call `k` on: whether it was opened, and the disk.
+fn open_until(rt: &HostRuntime, image: &Image, k: u64) -> Result<(bool, MemoryDisk), Fail> {
+    match open(Fused::from(disk_of(rt, image)?, k.max(1))) {
+        Ok(store) => Ok((true, store.into_device().into_device())),
+        Err((_, fused)) => Ok((false, fused.into_device())),
+    }
+}
+
+// Adds the images that stops of this image's recovery leave.
+fn stops_of(rt: &HostRuntime, image: &Image, images: &mut Vec<Image>) -> Result<(), Fail> {
+    let mut is_opened = false;
+    for k in 1..40 {
+        if !is_opened {
+            let (done, present) = open_until(rt, image, k)?;
+            let (_, twin) = open_until(rt, image, k)?;
+            let sectors = unsynced_sectors(rt, present, twin)?;
+            for way in WAYS {
+                let (_, disk) = open_until(rt, image, k)?;
+                add(
+                    images,
+                    image_of(&mut disk.stop(&fates(rt, &sectors, way)?))?,
+                )?;
+            }
+            is_opened = done;
+        }
+    }
+    check(is_opened, "opened at last")
+}
+
+#[test]
+fn a_recovery_stopped_three_times_keeps_the_blocks(rt: HostRuntime) -> Result<(), Fail> {
+    let mut images = open_gates(&rt)?;
+    assert!(rt; images.len() > 4);
+    for _ in 0..3 {
+        let mut left = Vec::new(rt.alloc());
+        for image in images.iter() {
+            stops_of(&rt, image, &mut left)?;
+        }
+        for image in left.iter() {
+            assert_eq!(rt; first_two(disk_of(&rt, image)?)?, (65, 66));
+        }
+        images = left;
+    }
+    assert!(rt; images.iter().any(|image| !gate_is_open(&image.sectors[0])));
+    Ok(())
+}
+
+// Each call of a recovery fails, alone or with all after it.
+#[test]
+fn a_recovery_whose_device_fails_is_done_the_next_time(rt: HostRuntime) -> Result<(), Fail> {
+    for image in open_gates(&rt)?.iter() {
+        for k in 1..20 {
+            for lasting in [false, true] {
+                let disk = disk_of(&rt, image)?;
+                let fused = if lasting {
+                    Fused::from(disk, k)
+                } else {
+                    Fused::once(disk, k)
+                };
+                let disk = match open(fused) {
+                    Ok(store) => store.into_device().into_device(),
+                    Err((fault, fused)) => {
+                        assert_eq!(rt; fault, crate::OpenFault::Device);
+                        fused.into_device()
+                    }
+                };
+                assert_eq!(rt; first_two(disk)?, (65, 66));
+            }
+        }
+    }
+    Ok(())
+}
