@@ -1,0 +1,3 @@
+pub mod Space
+pub mod Lending
+pub mod Apart

@@ -1,0 +1,5 @@
+pub mod Horner
+pub mod Dividing
+pub mod Front
+pub mod Taken
+pub mod Writings

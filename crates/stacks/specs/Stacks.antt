@@ -1,0 +1,31 @@
+-- The two stacks as lists, the top first: cells, and the entries of the return stack.
+use Rattle.std.specs.Prelude.{ℕ, suc, Bool, true, false, ◌+◌, List, [], ◌∷◌, ◌++◌, take, drop}
+pub use Rattle.stacks.specs.Places.{stack_in}
+use Rattle.stacks.specs.declared.return_stack.Entry.{Entry}
+use Rattle.stacks.specs.declared.return_stack.Entry.TheVariants.{Call as CallOf, Value as ValueOf, Loop as LoopOf, Load as LoadOf}
+
+-- the cell u places below the top, moved to the top
+abbrev pub rolled : ℕ → List ℕ → List ℕ
+rolled u stack = take 1 (drop u stack) ++ (take u stack ++ drop (suc u) stack)
+
+-- how many units an entry takes
+abbrev pub entry_units : Entry → ℕ
+entry_units (CallOf place) = 1
+entry_units (ValueOf cell) = 1
+entry_units (LoopOf limit index) = 3
+entry_units (LoadOf block to_in) = 2
+
+-- how many units all entries take
+abbrev pub units : List Entry → ℕ
+units [] = 0
+units (entry ∷ entries) = entry_units entry + units entries
+
+-- the top is a loop
+abbrev pub has_loop : List Entry → Bool
+has_loop (LoopOf limit index ∷ entries) = true
+has_loop _ = false
+
+-- the loop on top with this index
+abbrev pub with_index : ℕ → List Entry → List Entry
+with_index index (LoopOf limit old ∷ entries) = LoopOf limit index ∷ entries
+with_index index entries = entries
