@@ -1,0 +1,316 @@
+-- What each call keeps of the chains.
+use Rattle.std.proofs.Common.{◌≡◌, ◌≢◌, ℕ, zero, suc, ◌+◌, ◌-◌, ◌<◌, ◌≤◌, ◌⊎◌, inl, inr, Bool, true, false, ◌&&◌, cond, nat_eq, List, [], ◌∷◌, ◌++◌, length, map, take, Option, Some, None, refl, sym, ◌∙◌, ap, subst, arith, get_or, set, get_or-set_same, get_or-set_other, length-set, length-append}
+use Rattle.std.specs.List.{slice_get}
+use Rattle.std.specs.Option.{option_map}
+use Rattle.std.proofs.lemmas.Bool.Decides.{nat_tests}
+use Rattle.std.proofs.lemmas.Grind.{common_steps}
+use Rattle.dictionary.specs.declared.chains.Header.{Header}
+use Rattle.dictionary.specs.declared.Kind.TheVariants as Kind
+use Rattle.dictionary.specs.Words.{Word, same_text, find_in}
+use Rattle.dictionary.specs.Dictionary.{Named}
+use Rattle.dictionary.specs.Chains.{header_word, last_in, IsChained}
+use Rattle.dictionary.proofs.Links.{get_at, get-map, get-below, get-append, get-end, get-take, last_in-same, last_in-below, last_in-vocabulary, named_in, named_in-last, find_in-chain}
+
+words_of : List Header → List Named
+words_of hs = map header_word hs
+
+pub length-words : (hs : List Header) → length (map header_word hs) ≡ length hs
+length-words [] = refl
+length-words (h ∷ hs) = ap suc (length-words hs)
+
+pub word-at : (hs : List Header) (k : ℕ) (h : Header) → slice_get hs k ≡ Some h → slice_get (map header_word hs) k ≡ Some (header_word h)
+word-at hs k h e = get-map header_word hs k ∙ ap (option_map header_word) e
+
+word-back : (hs : List Header) (k : ℕ) (w : Named) → slice_get (map header_word hs) k ≡ Some w → (h : Header) × (slice_get hs k ≡ Some h) × (header_word h ≡ w)
+word-back [] k w e = cc
+word-back (h ∷ hs) zero w e = let same : header_word h ≡ w = cc in (h, refl, same)
+word-back (h ∷ hs) (suc k) w e = word-back hs k w e
+
+-- ---- the search
+
+pub smaller : (hs : List Header) (last : List ℕ) (t : ℕ) (h : Header) → IsChained hs last → slice_get hs t ≡ Some h → h.previous ≤ t
+smaller hs last t h c at = rw (c.links t h at) (last_in-below (map header_word hs) t h.vocabulary)
+
+pub step_down : (hs : List Header) (last : List ℕ) (t : ℕ) (h : Header) (v : ℕ) (name : List ℕ) → IsChained hs last → slice_get hs t ≡ Some h → h.vocabulary ≡ v → same_text (take h.len h.name) name ≡ false → named_in (map header_word hs) h.previous v name ≡ named_in (map header_word hs) (suc t) v name
+step_down hs last t h v name c at voc differs =
+    let yes : nat_eq h.vocabulary v ≡ true = grind (arith, nat_tests) in
+    rw (word-at hs t h at, yes, differs, c.links t h at, voc) (sym (named_in-last (map header_word hs) t v name))
+
+pub found_here : (hs : List Header) (t : ℕ) (h : Header) (v : ℕ) (name : List ℕ) → slice_get hs t ≡ Some h → h.vocabulary ≡ v → same_text (take h.len h.name) name ≡ true → named_in (map header_word hs) (suc t) v name ≡ Some (suc t)
+found_here hs t h v name at voc same =
+    let yes : nat_eq h.vocabulary v ≡ true = grind (arith, nat_tests) in
+    rw (word-at hs t h at, yes, same) refl
+
+-- what a chain leads to
+pub in_chain : (hs : List Header) (k v t : ℕ) → last_in (map header_word hs) k v ≡ suc t → (h : Header) × (slice_get hs t ≡ Some h) × (h.vocabulary ≡ v)
+in_chain hs k v t e =
+    let found = last_in-vocabulary (map header_word hs) k v t e in
+    let back = word-back hs t found.0 found.1 in
+    (back.0, back.1, ap (λ w. w.vocabulary) back.2 ∙ found.2)
+
+pub chain_begins : (hs : List Header) (last : List ℕ) (v : ℕ) (name : List ℕ) → IsChained hs last → v ≤ 4096 → named_in (map header_word hs) (get_or last v 0) v name ≡ find_in (map header_word hs) v name
+chain_begins hs last v name c le =
+    rw (c.ends v le, ← length-words hs) (find_in-chain (map header_word hs) v name)
+
+-- no word is in such a vocabulary
+pub none_past : (hs : List Header) (last : List ℕ) (v : ℕ) (name : List ℕ) → IsChained hs last → 4096 < v → None ≡ find_in (map header_word hs) v name
+none_past hs last v name c past =
+    let ws = map header_word hs in
+    (elim (last_in ws (length ws) v) as (λ t. last_in ws (length ws) v ≡ t → None ≡ find_in ws v name) [
+      | zero ↦ λ e. ap (λ k. named_in ws k v name) (sym e) ∙ find_in-chain ws v name
+      | suc t ↦ λ e. absurd (let at = in_chain hs (length ws) v t e in let most = c.ranges t at.0 at.1 in let same = at.2 in omega arith)
+    ]) refl
+
+-- ---- push
+
+at_pushed : (hs : List Header) (h : Header) (k : ℕ) (g : Header) → slice_get (hs ++ h ∷ []) k ≡ Some g → ((k < length hs) × (slice_get hs k ≡ Some g)) ⊎ ((k ≡ length hs) × (g ≡ h))
+at_pushed [] h zero g e = let same : h ≡ g = cc in inr (refl, sym same)
+at_pushed [] h (suc k) g e = cc
+at_pushed (x ∷ hs) h zero g e = inl (omega arith, e)
+at_pushed (x ∷ hs) h (suc k) g e = elim (at_pushed hs h k g e) [
+  | inl p ↦ inl (let lt = p.0 in omega arith, p.1)
+  | inr p ↦ inr (ap suc p.0, p.1)
+]
+
+last_in-push : (hs : List Header) (h : Header) (k v : ℕ) → k ≤ length hs → last_in (map header_word (hs ++ h ∷ [])) k v ≡ last_in (map header_word hs) k v
+last_in-push hs h k v le = last_in-same (map header_word (hs ++ h ∷ [])) (map header_word hs) k v
+    (λ i lt. get-map header_word (hs ++ h ∷ []) i ∙ ap (option_map header_word) (get-append hs (h ∷ []) i (omega arith)) ∙ sym (get-map header_word hs i))
+
+pushed_end : (last : List ℕ) (voc v n old : ℕ) → voc < length last → get_or last v 0 ≡ old → cond (nat_eq voc v) n old ≡ get_or (set last voc n) v 0
+pushed_end last voc v n old lt e = (elim (nat_eq voc v) as (λ t. nat_eq voc v ≡ t → cond t n old ≡ get_or (set last voc n) v 0) [
+  | true ↦ λ t. let same : voc ≡ v = grind (arith, nat_tests) in rw (← same) (sym (get_or-set_same last voc n 0 lt))
+  | false ↦ λ t. let other : v ≢ voc = (λ e. let yes : nat_eq voc v ≡ true = grind (arith, nat_tests) in cc) in sym e ∙ sym (get_or-set_other last voc v n 0 other)
+]) refl
+
+pub chained_push : (hs : List Header) (last : List ℕ) (h : Header) → IsChained hs last → length hs < 4096 → h.previous ≡ get_or last h.vocabulary 0 → h.vocabulary ≤ 4096 → 0 < h.len → h.len ≤ 31 → IsChained (hs ++ h ∷ []) (set last h.vocabulary (length hs + 1))
+chained_push hs last h c lt prev voc some short =
+    let len : length (hs ++ h ∷ []) ≡ suc (length hs) = grind (arith, common_steps) in
+    record {
+      room = omega arith;
+      vocabularies = length-set last h.vocabulary (length hs + 1) ∙ c.vocabularies;
+      ends = λ v le.
+          let vocs = c.vocabularies in
+          rw (len, word-at (hs ++ h ∷ []) (length hs) h (get-end hs h), last_in-push hs h (length hs) v (omega arith))
+          (sym (ap (λ n. cond (nat_eq h.vocabulary v) n (last_in (map header_word hs) (length hs) v)) (omega arith) ∙ pushed_end last h.vocabulary v (length hs + 1) (last_in (map header_word hs) (length hs) v) (omega arith) (c.ends v le)));
+      links = λ k g at. elim (at_pushed hs h k g at) [
+        | inl p ↦ rw (last_in-push hs h k g.vocabulary (let below = p.0 in omega arith)) (c.links k g p.1)
+        | inr p ↦ rw (p.0, p.1, last_in-push hs h (length hs) h.vocabulary (omega arith)) (prev ∙ c.ends h.vocabulary voc)
+      ];
+      names = λ k g at. elim (at_pushed hs h k g at) [
+        | inl p ↦ c.names k g p.1
+        | inr p ↦ rw p.1 (some, short)
+      ];
+      ranges = λ k g at. elim (at_pushed hs h k g at) [
+        | inl p ↦ c.ranges k g p.1
+        | inr p ↦ rw p.1 voc
+      ];
+    }
+
+-- ---- pop
+
+last_in-take : (hs : List Header) (n k v : ℕ) → k ≤ n → last_in (map header_word (take n hs)) k v ≡ last_in (map header_word hs) k v
+last_in-take hs n k v le = last_in-same (map header_word (take n hs)) (map header_word hs) k v
+    (λ i lt. get-map header_word (take n hs) i ∙ ap (option_map header_word) (get-take hs n i (omega arith)) ∙ sym (get-map header_word hs i))
+
+popped_end : (last : List ℕ) (voc v token old prev : ℕ) → voc < length last → get_or last v 0 ≡ cond (nat_eq voc v) token old → (voc ≡ v → prev ≡ old) → get_or (set last voc prev) v 0 ≡ old
+popped_end last voc v token old prev lt e p = (elim (nat_eq voc v) as (λ t. nat_eq voc v ≡ t → get_or last v 0 ≡ cond t token old → get_or (set last voc prev) v 0 ≡ old) [
+  | true ↦ λ t e. let same : voc ≡ v = grind (arith, nat_tests) in rw (← same) (get_or-set_same last voc prev 0 lt) ∙ p same
+  | false ↦ λ t e. let other : v ≢ voc = (λ e. let yes : nat_eq voc v ≡ true = grind (arith, nat_tests) in cc) in get_or-set_other last voc v prev 0 other ∙ e
+]) refl e
+
+at_kept : (hs : List Header) (n k : ℕ) (g : Header) → slice_get (take n hs) k ≡ Some g → (k < n) × (slice_get hs k ≡ Some g)
+at_kept hs zero k g e = cc
+at_kept [] (suc n) k g e = cc
+at_kept (h ∷ hs) (suc n) zero g e = (omega arith, e)
+at_kept (h ∷ hs) (suc n) (suc k) g e = let on = at_kept hs n k g e in (let lt = on.0 in omega arith, on.1)
+
+pub chained_pop : (hs : List Header) (last : List ℕ) (k : ℕ) (h : Header) → IsChained hs last → length hs ≡ suc k → slice_get hs k ≡ Some h → IsChained (take k hs) (set last h.vocabulary h.previous)
+chained_pop hs last k h c n at =
+    let len : length (take k hs) ≡ k = grind (arith, common_steps) in
+    record {
+      room = let room = c.room in omega arith;
+      vocabularies = length-set last h.vocabulary h.previous ∙ c.vocabularies;
+      ends = λ v le.
+          let vocs = c.vocabularies in
+          let most = c.ranges k h at in
+          let was : get_or last v 0 ≡ cond (nat_eq h.vocabulary v) (suc k) (last_in (map header_word hs) k v) = c.ends v le ∙ (rw (n, word-at hs k h at) refl) in
+          rw (len, last_in-take hs k k v (omega arith))
+          (popped_end last h.vocabulary v (suc k) (last_in (map header_word hs) k v) h.previous (omega arith) was (λ same. c.links k h at ∙ ap (last_in (map header_word hs) k) same));
+      links = λ i g found. let kept = at_kept hs k i g found in
+          rw (last_in-take hs k i g.vocabulary (let lt = kept.0 in omega arith)) (c.links i g kept.1);
+      names = λ i g found. c.names i g (at_kept hs k i g found).1;
+      ranges = λ i g found. c.ranges i g (at_kept hs k i g found).1;
+    }
+
+-- ---- an edit of a header that leaves name, vocabulary and link
+
+set-other : {X : Type 0} (xs : List X) (i k : ℕ) (x : X) → k ≢ i → slice_get (set xs i x) k ≡ slice_get xs k
+set-other [] i k x ne = refl
+set-other (y ∷ ys) zero zero x ne = absurd (ne refl)
+set-other (y ∷ ys) zero (suc k) x ne = refl
+set-other (y ∷ ys) (suc i) zero x ne = refl
+set-other (y ∷ ys) (suc i) (suc k) x ne = set-other ys i k x (λ e. ne (ap suc e))
+
+set-same : {X : Type 0} (xs : List X) (i : ℕ) (x y : X) → slice_get (set xs i x) i ≡ Some y → y ≡ x
+set-same [] i x y e = cc
+set-same (z ∷ zs) zero x y e = cc
+set-same (z ∷ zs) (suc i) x y e = set-same zs i x y e
+
+set-here : {X : Type 0} (xs : List X) (i : ℕ) (x y : X) → slice_get xs i ≡ Some x → slice_get (set xs i y) i ≡ Some y
+set-here [] i x y e = cc
+set-here (z ∷ zs) zero x y e = refl
+set-here (z ∷ zs) (suc i) x y e = set-here zs i x y e
+
+-- the same link, name and vocabulary
+pub record IsAlike (h g : Header) : Type 0 where
+  pub previous : g.previous ≡ h.previous
+  pub vocabulary : g.vocabulary ≡ h.vocabulary
+  pub len : g.len ≡ h.len
+
+-- by cases on whether two places are the same
+pub one_place : (k i : ℕ) → (k ≡ i) ⊎ (k ≢ i)
+one_place k i = (elim (nat_eq k i) as (λ t. nat_eq k i ≡ t → (k ≡ i) ⊎ (k ≢ i)) [
+  | true ↦ λ t. inl (grind (arith, nat_tests))
+  | false ↦ λ t. inr (λ e. let yes : nat_eq k i ≡ true = grind (arith, nat_tests) in cc)
+]) refl
+
+last_in-edit : (hs : List Header) (i : ℕ) (h g : Header) → slice_get hs i ≡ Some h → IsAlike h g → (k v : ℕ) → last_in (map header_word (set hs i g)) k v ≡ last_in (map header_word hs) k v
+last_in-edit hs i h g at alike zero v = refl
+last_in-edit hs i h g at alike (suc k) v = elim (one_place k i) [
+  | inl same ↦
+      let old : slice_get (map header_word hs) k ≡ Some (header_word h) = rw same (word-at hs i h at) in
+      let new : slice_get (map header_word (set hs i g)) k ≡ Some (header_word g) = rw same (word-at (set hs i g) i g (set-here hs i h g at)) in
+      rw (new, old, last_in-edit hs i h g at alike k v, alike.vocabulary) refl
+  | inr other ↦ rw (get-map header_word (set hs i g) k, set-other hs i k g other, ← get-map header_word hs k, last_in-edit hs i h g at alike k v) refl
+]
+
+pub chained_edit : (hs : List Header) (last : List ℕ) (i : ℕ) (h g : Header) → IsChained hs last → slice_get hs i ≡ Some h → IsAlike h g → IsChained (set hs i g) last
+chained_edit hs last i h g c at alike = record {
+  room = rw (length-set hs i g) c.room;
+  vocabularies = c.vocabularies;
+  ends = λ v le. rw (last_in-edit hs i h g at alike (length (set hs i g)) v, length-set hs i g) (c.ends v le);
+  links = λ k f found. elim (one_place k i) [
+    | inl same ↦
+        let is : f ≡ g = set-same hs i g f (subst (λ j. slice_get (set hs i g) j ≡ Some f) same found) in
+        rw (last_in-edit hs i h g at alike k f.vocabulary, is, alike.previous, alike.vocabulary, same) (c.links i h at)
+    | inr other ↦ rw (last_in-edit hs i h g at alike k f.vocabulary) (c.links k f (sym (set-other hs i k g other) ∙ found))
+  ];
+  names = λ k f found. elim (one_place k i) [
+    | inl same ↦
+        let is : f ≡ g = set-same hs i g f (subst (λ j. slice_get (set hs i g) j ≡ Some f) same found) in
+        rw (is, alike.len) (c.names i h at)
+    | inr other ↦ c.names k f (sym (set-other hs i k g other) ∙ found)
+  ];
+  ranges = λ k f found. elim (one_place k i) [
+    | inl same ↦
+        let is : f ≡ g = set-same hs i g f (subst (λ j. slice_get (set hs i g) j ≡ Some f) same found) in
+        rw (is, alike.vocabulary) (c.ranges i h at)
+    | inr other ↦ c.ranges k f (sym (set-other hs i k g other) ∙ found)
+  ];
+}
+
+-- ---- the last header
+
+-- the words are as many as the headers
+pub last_place : (hs : List Header) (ws : List Named) (n : ℕ) → map header_word hs ≡ ws → 0 < length ws → n ≡ length hs → n - 1 + 1 ≡ length hs
+last_place hs ws n view some len =
+    let some' : 0 < length hs = rw (← length-words hs, view) some in omega arith
+
+pub last_read : (hs : List Header) (ws : List Named) (n : ℕ) (h : Header) → map header_word hs ≡ ws → 0 < length ws → n ≡ length hs → h ≡ get_or hs (n - 1) h → slice_get hs (n - 1) ≡ Some h
+last_read hs ws n h view some len read =
+    let place = last_place hs ws n view some len in get_at hs (n - 1) h (omega arith) read
+
+pub chained_last : (hs : List Header) (ws : List Named) (last : List ℕ) (n : ℕ) (h g : Header) → map header_word hs ≡ ws → 0 < length ws → n ≡ length hs → h ≡ get_or hs (n - 1) h → IsChained hs last → IsAlike h g → IsChained (set hs (n - 1) g) last
+chained_last hs ws last n h g view some len read c alike =
+    chained_edit hs last (n - 1) h g c (last_read hs ws n h view some len read) alike
+
+-- ---- a header that is read
+
+get_or-at : {X : Type 0} (xs : List X) (i : ℕ) (x d : X) → slice_get xs i ≡ Some x → get_or xs i d ≡ x
+get_or-at [] i x d e = cc
+get_or-at (y ∷ ys) zero x d e = cc
+get_or-at (y ∷ ys) (suc i) x d e = get_or-at ys i x d e
+
+-- where a chain stands at a word of the vocabulary
+abbrev pub Leads : List Header → ℕ → ℕ → Type 0
+Leads hs v token = (t : ℕ) → token ≡ suc t → (h : Header) × (slice_get hs t ≡ Some h) × (h.vocabulary ≡ v)
+
+pub leads_within : (hs : List Header) (v token : ℕ) → Leads hs v token → (token ≡ 0 → ⊥) → token ≤ length hs
+leads_within hs v token leads some =
+    let at = leads (token - 1) (omega arith) in
+    let below = get-below hs (token - 1) at.0 at.1 in
+    omega arith
+
+pub read_at : (hs : List Header) (v token : ℕ) (r : Header) → Leads hs v token → (token ≡ 0 → ⊥) → r ≡ get_or hs (token - 1) r → (slice_get hs (token - 1) ≡ Some r) × (r.vocabulary ≡ v)
+read_at hs v token r leads some read =
+    let at = leads (token - 1) (omega arith) in
+    let same : at.0 ≡ r = sym (read ∙ get_or-at hs (token - 1) at.0 r at.1) in
+    (subst (λ h. slice_get hs (token - 1) ≡ Some h) same at.1, subst (λ h. h.vocabulary ≡ v) same at.2)
+
+-- the next place of a chain
+pub leads_on : (hs : List Header) (last : List ℕ) (t v : ℕ) (h : Header) → IsChained hs last → slice_get hs t ≡ Some h → h.vocabulary ≡ v → Leads hs v h.previous
+leads_on hs last t v h c at voc u e = in_chain hs t v u (rw (← voc) (sym (c.links t h at) ∙ e))
+
+pub leads_first : (hs : List Header) (last : List ℕ) (v : ℕ) → IsChained hs last → v ≤ 4096 → Leads hs v (get_or last v 0)
+leads_first hs last v c le u e = in_chain hs (length hs) v u (sym (c.ends v le) ∙ e)
+
+-- a number that is read is so with any default
+pub read_or : (xs : List ℕ) (i r : ℕ) → i < length xs → r ≡ get_or xs i r → r ≡ get_or xs i 0
+read_or [] i r lt e = absurd (omega arith)
+read_or (x ∷ xs) zero r lt e = e
+read_or (x ∷ xs) (suc i) r lt e = read_or xs i r (omega arith) e
+
+-- ---- no words
+
+zeros : (n v : ℕ) → get_or {A = ℕ} (Rattle.std.proofs.Common.replicate {A = ℕ} n zero) v zero ≡ zero
+zeros zero v = refl
+zeros (suc n) zero = refl
+zeros (suc n) (suc v) = zeros n v
+
+pub chained_none : (last : List ℕ) → last ≡ Rattle.std.proofs.Common.replicate 4097 0 → IsChained [] last
+chained_none last e = record {
+  room = omega arith;
+  vocabularies = rw e (Rattle.std.proofs.Math.ListN.length-replicate {A = ℕ} 4097 0);
+  ends = λ v le. rw e (zeros 4097 v);
+  links = λ k h at. cc;
+  names = λ k h at. cc;
+  ranges = λ k h at. cc;
+}
+
+-- ---- the forms that the code has
+
+pub chained_popped : (hs xs : List Header) (last : List ℕ) (h : Header) → IsChained hs last → hs ≡ xs ++ h ∷ [] → IsChained xs (set last h.vocabulary h.previous)
+chained_popped hs xs last h c e =
+    let front : take (length xs) (xs ++ h ∷ []) ≡ xs = grind (arith, common_steps) in
+    let len : length (xs ++ h ∷ []) ≡ suc (length xs) = grind (arith, common_steps) in
+    subst (λ ys. IsChained ys (set last h.vocabulary h.previous)) front (chained_pop (xs ++ h ∷ []) last (length xs) h (subst (λ ys. IsChained ys last) e c) len (get-end xs h))
+
+pub name_bounds : (name : List ℕ) → Rattle.std.proofs.Common.IsTrue (Rattle.dictionary.specs.Words.is_name name) → (0 < length name) × (length name ≤ 31)
+name_bounds name h = (grind (arith, nat_tests), grind (arith, nat_tests))
+
+pub immediate_last : (hs : List Header) (i : ℕ) (h g : Header) → slice_get hs i ≡ Some h → i + 1 ≡ length hs → header_word g ≡ record (header_word h) { immediate = true } → map header_word (set hs i g) ≡ Rattle.dictionary.specs.Words.with_immediate (map header_word hs)
+immediate_last [] i h g at e w = cc
+immediate_last (x ∷ []) zero h g at e w = let same : x ≡ h = cc in rw (w, same) refl
+immediate_last (x ∷ []) (suc i) h g at e w = cc
+immediate_last (x ∷ y ∷ hs) zero h g at e w = absurd (omega arith)
+immediate_last (x ∷ y ∷ hs) (suc i) h g at e w = ap (λ ws. header_word x ∷ ws) (immediate_last (y ∷ hs) i h g at (omega arith) w)
+
+pub part_last : (hs : List Header) (i : ℕ) (h g : Header) (p data_address : ℕ) (old : Option ℕ) → slice_get hs i ≡ Some h → i + 1 ≡ length hs → h.kind ≡ Kind.Created data_address old → header_word g ≡ record (header_word h) { kind = Rattle.dictionary.specs.Words.Created data_address (Some p) } → Rattle.dictionary.specs.Words.with_part (map header_word hs) p ≡ Some (map header_word (set hs i g))
+part_last [] i h g p a old at e k w = cc
+part_last (x ∷ []) zero h g p a old at e k w = let same : x ≡ h = cc in rw (w, same, k) refl
+part_last (x ∷ []) (suc i) h g p a old at e k w = cc
+part_last (x ∷ y ∷ hs) zero h g p a old at e k w = absurd (omega arith)
+part_last (x ∷ y ∷ hs) (suc i) h g p a old at e k w = ap (Rattle.dictionary.specs.Words.before (header_word x)) (part_last (y ∷ hs) i h g p a old at (omega arith) k w)
+
+pub not_created : (hs : List Header) (i : ℕ) (h : Header) (p : ℕ) → slice_get hs i ≡ Some h → i + 1 ≡ length hs → ((a : ℕ) (old : Option ℕ) → h.kind ≡ Kind.Created a old → ⊥) → Rattle.dictionary.specs.Words.with_part (map header_word hs) p ≡ None
+not_created [] i h p at e k = cc
+not_created (x ∷ []) zero h p at e k = let same : x ≡ h = cc in rw same ((elim h.kind as (λ t. h.kind ≡ t → Rattle.dictionary.specs.Words.with_kind (header_word h) (Rattle.dictionary.specs.Words.kind_with p (Rattle.dictionary.specs.Dictionary.kind_of t)) ≡ None) [
+  | Kind.Primitive ↦ λ is. refl
+  | Kind.Colon a ↦ λ is. refl
+  | Kind.Created a old ↦ λ is. absurd (k a old is)
+  | Kind.Constant a ↦ λ is. refl
+  | Kind.Vocabulary ↦ λ is. refl
+]) refl)
+not_created (x ∷ []) (suc i) h p at e k = cc
+not_created (x ∷ y ∷ hs) zero h p at e k = absurd (omega arith)
+not_created (x ∷ y ∷ hs) (suc i) h p at e k = ap (Rattle.dictionary.specs.Words.before (header_word x)) (not_created (y ∷ hs) i h p at (omega arith) k)

@@ -1,0 +1,5 @@
+pub mod Words
+pub mod Names
+pub mod Dictionary
+pub mod Chains
+pub mod System

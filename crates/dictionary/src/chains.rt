@@ -1,0 +1,187 @@
+//! The words in chains, one chain for each vocabulary.
+//!
+//! Each header names the word before it in its vocabulary, and a table names the last word of each vocabulary. So a
+//! search reads the words of one vocabulary alone, the last one first. Contracts see a list of words, oldest first.
+ghost use Rattle.std.specs.Prelude.{◌≡◌, ◌+◌, ◌-◌, ◌<◌, ◌≤◌, [], ◌∷◌, ◌++◌, length, take, option_map, is_some, IfOk, IfSome, IsTrue};
+ghost use Rattle.std.specs.Bool.{OnTrue, OnFalse};
+ghost use Rattle.dictionary.specs.Words.{same_text, is_name, find_in, entry, with_immediate, with_part};
+ghost use Rattle.dictionary.specs.Dictionary.{word_of};
+
+use crate::{Kind, NAME_LIMIT, NoMemory, Place, Token, WORD_LIMIT, Word};
+use std::alloc::Global;
+use std::marker::Model;
+
+/// What is kept of a word. What a search reads of each word comes first.
+#[derive(Clone, Copy)]
+pub(crate) struct Header {
+    // The word before this one in the same vocabulary, or 0.
+    previous: Token,
+    len: u8,
+    name: [u8; NAME_LIMIT],
+    immediate: bool,
+    vocabulary: Token,
+    here: u16,
+    kind: Kind,
+}
+
+impl Header {
+    // Length and first byte tell most names apart.
+    fn is_named(&self, name: &[u8]) -> bool
+        requires short { self.now.len ≤ 31 }
+        requires named { 0 < self.now.len }
+        ensures { result ≡ same_text (take self.now.len self.now.name) name.now }
+    {
+        let len = self.len as usize;
+        len == name.len() && self.name[0] == name[0] && &self.name[..len] == name
+    }
+}
+
+/// The words, oldest first.
+#[derive(Drop)]
+pub(crate) struct Chains {
+    headers: Vec<Header>,
+    // By a vocabulary's token: its last word, or 0.
+    last: Vec<Token>,
+}
+
+impl Model for Chains {
+    ghost use Rattle.std.specs.Prelude.{List, map, ◌≤◌, vec_capacity};
+    ghost use Rattle.dictionary.specs.Dictionary.{Named};
+    ghost use Rattle.dictionary.specs.Chains.{header_word, IsChained};
+
+    ghost Value = { List Named };
+
+    ghost view = { λ c. map header_word c.headers.items };
+
+    ghost invariant = { λ c. IsChained c.headers.items c.last.items × (4096 ≤ vec_capacity c.headers) };
+}
+
+impl Chains {
+    /// No words, and all the memory that they will ever need.
+    pub(crate) fn new(alloc: Global) -> Result<Chains, NoMemory>
+        ensures { IfOk result (λ words. words ≡ []) }
+    {
+        let headers = Vec::with_capacity(alloc, WORD_LIMIT)?;
+        let last = vec![in alloc; 0; WORD_LIMIT + 1]?;
+        Ok(Chains { headers, last })
+    }
+
+    /// How many words there are.
+    pub(crate) fn len(&self) -> usize
+        ensures len { result ≡ length self.now }
+        ensures room { result ≤ 4096 }
+    {
+        self.headers.len()
+    }
+
+    /// Adds a word to the end of its vocabulary's chain.
+    pub(crate) fn push(&mut self, word: Word<'_>)
+        requires room { length self.old < 4096 }
+        requires name { IsTrue (is_name word.name.now) }
+        requires vocabulary { word.vocabulary ≤ 4096 }
+        ensures { self.new ≡ self.old ++ word_of word.entry ∷ [] }
+    {
+        let len = word.name.len();
+        let mut name = [0; NAME_LIMIT];
+        name[..len].copy_from_slice(word.name);
+        let header = Header {
+            previous: self.last[word.vocabulary as usize],
+            len: len as u8,
+            name,
+            immediate: word.immediate,
+            vocabulary: word.vocabulary,
+            here: word.here,
+            kind: word.kind,
+        };
+        let token = self.headers.len() + 1;
+        if self.headers.push(header).is_ok() {
+            self.last[word.vocabulary as usize] = token as Token;
+        }
+    }
+
+    /// Takes the last word off, and gives its vocabulary's end back.
+    pub(crate) fn pop(&mut self)
+        requires { 0 < length self.old }
+        ensures { self.new ≡ take (length self.old - 1) self.old }
+    {
+        if let Some(header) = self.headers.pop() {
+            self.last[header.vocabulary as usize] = header.previous;
+        }
+    }
+
+    /// Keeps the first words, as many as this.
+    pub(crate) fn truncate(&mut self, len: usize)
+        requires { len ≤ length self.old }
+        ensures { self.new ≡ take len self.old }
+    {
+        while self.len() > len {
+            self.pop();
+        }
+    }
+
+    /// The token of the last word of the name in the vocabulary.
+    pub(crate) fn find_in(&self, vocabulary: Token, name: &[u8]) -> Option<Token>
+        ensures found { result ≡ find_in self.now vocabulary name.now }
+        ensures token { IfSome result (λ token. (0 < token)) }
+        ensures within { IfSome result (λ token. token ≤ length self.now) }
+    {
+        if vocabulary as usize >= self.last.len() {
+            return None;
+        }
+        let mut token = self.last[vocabulary as usize];
+        while token != 0 {
+            let header = &self.headers[token as usize - 1];
+            if header.is_named(name) {
+                return Some(token);
+            }
+            token = header.previous;
+        }
+        None
+    }
+
+    /// The word with the token.
+    #[inline]
+    pub(crate) fn get(&self, token: Token) -> Option<Word<'_>>
+        ensures { option_map word_of result ≡ entry self.now token }
+    {
+        if token == 0 || token as usize > self.headers.len() {
+            return None;
+        }
+        let header = &self.headers[token as usize - 1];
+        Some(Word {
+            name: &header.name[..header.len as usize],
+            vocabulary: header.vocabulary,
+            immediate: header.immediate,
+            here: header.here,
+            kind: header.kind,
+        })
+    }
+
+    /// Makes the last word immediate.
+    pub(crate) fn set_immediate(&mut self)
+        requires { 0 < length self.old }
+        ensures set { self.new ≡ with_immediate self.old }
+        ensures len { length self.new ≡ length self.old }
+    {
+        let last = self.headers.len() - 1;
+        self.headers[last].immediate = true;
+    }
+
+    /// Gives the last word a part. False, and nothing changes, where it has no data field that a part could belong to.
+    pub(crate) fn set_part(&mut self, part: Place) -> bool
+        requires { 0 < length self.old }
+        ensures created { result ≡ is_some (with_part self.old part) }
+        ensures set { OnTrue result (with_part self.old part ≡ Some self.new) }
+        ensures kept { OnFalse result (self.new ≡ self.old) }
+        ensures len { length self.new ≡ length self.old }
+    {
+        let last = self.headers.len() - 1;
+        match self.headers[last].kind {
+            Kind::Created(data, _) => {
+                self.headers[last].kind = Kind::Created(data, Some(part));
+                true
+            }
+            _ => false,
+        }
+    }
+}
