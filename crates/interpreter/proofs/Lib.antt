@@ -1,0 +1,4 @@
+pub mod NumeralLemmas
+pub mod InterpretLemmas
+pub mod ReplyLemmas
+pub mod LineLaws
