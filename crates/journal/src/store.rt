@@ -80,7 +80,7 @@ impl<D: SectorDevice> Store<D> {
     pub fn is_closed(&self) -> bool
         ensures { result ≡ closed_of self.now }
     {
-        self.closed
+        self.closed // as a failed spill or commit left it
     }
 
     /// The device, as it is. What was spilled and not committed is given up.

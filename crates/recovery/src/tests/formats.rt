@@ -83,3 +83,59 @@ fn a_format_over_an_image_stopped_anywhere_is_whole_or_absent_or_the_old_image(
 ) -> Result<(), Fail> {
     stops_of(&rt, true)
 }
+
+// Formats over a device that fails at call `k` alone: whether it was formatted, and the device.
+fn format_with_fault(
+    rt: &HostRuntime,
+    is_image: bool,
+    k: u64,
+) -> Result<(bool, Fused<MemoryDisk>), Fail> {
+    match format(Fused::once(before(rt, is_image)?, k.max(1)), 32) {
+        Ok(store) => Ok((true, store.into_device())),
+        Err((fault, fused)) => {
+            check(fault == OpenFault::Device, "the device fails")?;
+            Ok((false, fused))
+        }
+    }
+}
+
+// The byte that block 1 is full of after one more format.
+fn formatted_again(fused: Fused<MemoryDisk>) -> Result<Option<u8>, Fail> {
+    match format(fused, 32) {
+        Ok(store) => block_1(store.into_device().into_device()),
+        Err((fault, _)) => Err(fault)?,
+    }
+}
+
+// Of so many device calls each fails once. The format says so, and leaves no half image. The next format over the same
+// device makes the blank image.
+fn faults_of(rt: &HostRuntime, is_image: bool, calls: u64) -> Result<(), Fail> {
+    for k in 1..80 {
+        let (done, device) = format_with_fault(rt, is_image, k)?;
+        check(done == (k > calls), "each call tells its fault")?;
+        match block_1(device.into_device())? {
+            Some(b' ') => {}
+            None => check(!done, "a label at the end")?,
+            Some(65) => check(is_image && !done, "the old image before the end")?,
+            _ => return Err("other bytes")?,
+        }
+        let (_, device) = format_with_fault(rt, is_image, k)?;
+        check(
+            done || formatted_again(device)? == Some(b' '),
+            "the blank image",
+        )?;
+    }
+    Ok(())
+}
+
+#[test]
+fn a_format_over_zeros_tells_each_call_that_fails(rt: HostRuntime) -> Result<(), Fail> {
+    // A sync, a read of the label, writes of gate, record and 64 home sectors, a sync, and the label with its sync.
+    faults_of(&rt, false, 71)
+}
+
+#[test]
+fn a_format_over_an_image_tells_each_call_that_fails(rt: HostRuntime) -> Result<(), Fail> {
+    // A write over the good label and its sync come before the others.
+    faults_of(&rt, true, 73)
+}

@@ -165,16 +165,18 @@ pub fn torn(sector: &Unsynced, n: usize) -> Fate {
     Fate::Torn(bytes)
 }
 
-/// Four ways in which a stop may leave all unsynced sectors.
+/// Five ways in which a stop may leave all unsynced sectors.
 #[derive(Clone, Copy, Debug, PartialEq, Eq)]
 pub enum Way {
     Lost,
     Kept,
     Torn,
+    // Torn within the name of a label or an open gate.
+    TornEarly,
     InTurn,
 }
 
-pub const WAYS: [Way; 4] = [Way::Lost, Way::Kept, Way::Torn, Way::InTurn];
+pub const WAYS: [Way; 5] = [Way::Lost, Way::Kept, Way::Torn, Way::TornEarly, Way::InTurn];
 
 pub fn fates(rt: &HostRuntime, sectors: &[Unsynced], way: Way) -> Result<Vec<Fate>, Fail> {
     let mut fates = Vec::new(rt.alloc());
@@ -183,6 +185,7 @@ pub fn fates(rt: &HostRuntime, sectors: &[Unsynced], way: Way) -> Result<Vec<Fat
             Way::Lost => Fate::Lost,
             Way::Kept => Fate::Kept,
             Way::Torn => torn(sector, 256),
+            Way::TornEarly => torn(sector, 4),
             Way::InTurn => { if i % 2 == 0 { Fate::Kept } else { Fate::Lost } }
         })?;
     }
