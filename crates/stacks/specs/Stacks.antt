@@ -1,6 +1,6 @@
 -- The two stacks as lists, the top first: cells, and the entries of the return stack.
 use Rattle.std.specs.Prelude.{ℕ, suc, Bool, true, false, ◌+◌, List, [], ◌∷◌, ◌++◌, take, drop}
-pub use Rattle.stacks.specs.Places.{stack_in}
+unfoldable pub use Rattle.stacks.specs.Places.{stack_in}
 use Rattle.stacks.specs.declared.return_stack.Entry.{Entry}
 use Rattle.stacks.specs.declared.return_stack.Entry.TheVariants.{Call as CallOf, Value as ValueOf, Loop as LoopOf, Load as LoadOf}
 

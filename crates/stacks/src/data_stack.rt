@@ -153,3 +153,12 @@ impl DataStack {
         self.depth = self.depth.min(depth);
     }
 }
+
+/// Moves the cell that lies `u` places below the top to the top, in lent places that hold `depth` cells.
+pub fn roll_in(places: &mut [u16], depth: usize, u: usize)
+    requires within { depth < length places.old }
+    requires there { u < depth }
+    ensures { stack_in places.new depth ≡ rolled u (stack_in places.old depth) }
+{
+    places[depth - u..=depth].rotate_left(1);
+}

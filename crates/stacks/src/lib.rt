@@ -2,7 +2,7 @@
 //! Forth-83. No call takes memory.
 #![tactic(auto)]
 
-pub use data_stack::DataStack;
+pub use data_stack::{DataStack, roll_in};
 pub use return_stack::{Entry, ReturnStack};
 
 mod data_stack;

@@ -82,7 +82,7 @@ impl ReturnStack {
         ensures value { result ≡ units self.now }
         ensures fits { result ≤ 256 }
     {
-        self.units
+        self.units // of all entries, as push and pop keep it
     }
 
     /// Puts an entry on top. `Full` where it would need more units than are left; the stack then is as it was.
@@ -109,6 +109,7 @@ impl ReturnStack {
         ensures empty { OnErr result (self.old ≡ []) }
         ensures err { OnErr result (self.new ≡ self.old) }
         ensures fault { IfErr result (λ fault. fault ≡ StackFault.Empty) }
+        ensures bound { units self.old ≤ 256 }
     {
         match self.entries.pop() {
             Some(entry) => {

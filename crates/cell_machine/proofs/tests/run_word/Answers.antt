@@ -1,0 +1,5 @@
+use Rattle.cell_machine.proofs.Enters.{ready_once}
+use Rattle.cell_machine.proofs.tests.run_word.Goals as goal
+
+pub resume-requires : goal.resume-requires
+resume-requires c = ready_once c.args.code.now c.args.word _ _ _ _ _ _ _ _ c.new.ensures c.new-2.ensures (c.in-Ok.ensures.entered c.args.code.now)

@@ -1,0 +1,15 @@
+pub mod Fault
+pub mod Limits
+pub mod Meanings
+pub mod Words
+pub mod Tree
+pub mod Cells
+pub mod Division
+pub mod Effects
+pub mod Frames
+pub mod Value
+pub mod Events
+pub mod Deeds
+pub mod Layout
+pub mod Levels
+pub mod Moves

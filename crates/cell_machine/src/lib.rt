@@ -1,0 +1,22 @@
+//! The cells of compiled bodies, and the machine that runs them.
+#![tactic(auto)]
+
+mod aside;
+pub mod cells;
+pub mod code;
+mod control;
+mod dispatch;
+pub mod division;
+mod doubles;
+pub mod event;
+pub mod laws;
+pub mod machine;
+pub mod marks;
+mod memory;
+mod once;
+mod operands;
+mod returns;
+mod step;
+#[cfg(test)]
+mod tests;
+pub mod words;
