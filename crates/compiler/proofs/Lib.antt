@@ -1,0 +1,11 @@
+pub mod Grows
+pub mod Chains
+pub mod Adds
+pub mod Texts
+pub mod Leaving
+pub mod Opening
+pub mod Spots
+pub mod Closing
+pub mod Fields
+pub mod Ends
+pub mod Sound

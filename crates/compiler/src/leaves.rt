@@ -1,0 +1,20 @@
+//! The LEAVEs of a loop that is open.
+
+ghost use Rattle.std.specs.Prelude.{◌<◌, ℕ, List};
+ghost use Rattle.cell_machine.specs.Layout.{IsIn};
+ghost use Rattle.compiler.specs.Represents.{Chain, Patched};
+
+use cell_machine::code::Code;
+
+/// Writes into the last waiting cell, and into each that is found from there, where its LEAVE goes.
+pub fn patch_leaves(code: &mut Code, last: u16, to: u16)
+    requires { (ls : List ℕ) × (Chain code.old ls last × ((y : ℕ) → IsIn y ls → y < 32768)) }
+    ensures { (ls : List ℕ) → Chain code.old ls last → Patched code.old ls to code.new }
+{
+    let mut at = last;
+    while at != 0 {
+        let before = code.cell(at);
+        code.set(at, to);
+        at = before;
+    }
+}

@@ -1,0 +1,582 @@
+//! The definition that is open, compiled into code cells.
+#![tactic(auto)]
+
+ghost use Rattle.std.specs.Prelude.{◌≡◌, ◌≢◌, ◌+◌, ◌<◌, ◌≤◌, ℕ, List, [], ◌∷◌, length, slice_index, true, false, None, Some, OnOk, IfOk, IfErr, Option, is_some};
+ghost use Rattle.cell_machine.specs.Tree.{ByOne, ByTop};
+ghost use Rattle.cell_machine.specs.Layout.{text_cell, end_of};
+ghost use Rattle.compiler.specs.Definition.{Definition, add_literal, add_word, add_text, add_if, add_else, add_then, add_begin, add_until, add_while, add_repeat, add_do, add_loop, add_leave, add_does, end_definition};
+ghost use Rattle.compiler.specs.Represents.{IsSound, IsClosed, Holds, used, name_of};
+ghost use Rattle.compiler.specs.Promise.{SameBelow, Added, Refused, BodiesStay, Opened, NotOpened, Finished, kind_of, loop_kind_of};
+
+mod leaves;
+mod opens;
+#[cfg(test)]
+mod tests;
+
+use arrayvec::ArrayVec;
+use cell_machine::code::Code;
+use cell_machine::marks;
+use leaves::patch_leaves;
+use opens::{Open, Opens};
+
+/// What a call answers where it adds nothing. Nothing is changed then.
+#[derive(Clone, Copy, Debug, PartialEq, Eq)]
+pub enum Refusal {
+    /// No definition is open.
+    NoDefinition,
+    /// A definition is open.
+    DefinitionOpen,
+    /// It doesn't fit the innermost structure, or stands where a word has to.
+    Unbalanced,
+    /// No cell is left for it, or it would be the 257th open structure.
+    CodeFull,
+}
+
+/// What a text does when it is run.
+#[derive(Clone, Copy)]
+pub enum TextKind {
+    /// `."` prints it.
+    Prints,
+    /// `ABORT"` takes a flag, and where that isn't 0 prints the text and aborts.
+    AbortsWith,
+}
+
+/// What ends a turn of a loop.
+#[derive(Clone, Copy)]
+enum LoopEnd {
+    /// `LOOP`
+    ByOne,
+    /// `+LOOP`
+    ByTop,
+}
+
+/// The open definition, if there is one, and where the bodies end. It takes no memory.
+#[derive(Drop)]
+pub struct Compiler {
+    is_open: bool,
+    /// its name, or that of the last one
+    name: ArrayVec<u8, 31>,
+    /// where all other bodies end
+    start: u16,
+    /// where its last part begins
+    part: u16,
+    /// the next free cell
+    here: u16,
+    /// a mark of `COMPILE` waits for its word
+    marked: bool,
+    /// within a loop the last cell in which a LEAVE will say where it goes, or 0: each such cell holds the one before it
+    leaves: Option<u16>,
+    opens: Opens,
+}
+
+impl Compiler {
+    /// No definition is open, and no cell is used.
+    pub fn new() -> Compiler
+        ensures closed { IsClosed result }
+        ensures empty { used result ≡ 0 }
+    {
+        Compiler {
+            is_open: false,
+            name: ArrayVec::new(),
+            start: 0,
+            part: 0,
+            here: 0,
+            marked: false,
+            leaves: None,
+            opens: Opens::new(),
+        }
+    }
+
+    /// Whether a definition is open.
+    #[inline]
+    pub fn is_open(&self) -> bool
+        ensures { (code : List ℕ) (o : Option Definition) → Holds self.now code o → result ≡ is_some o }
+    {
+        self.opened().is_ok()
+    }
+
+    /// The name of the open definition, or of the last one.
+    pub fn name(&self) -> &[u8]
+        ensures { result.now ≡ name_of self.now }
+    {
+        self.name.as_slice()
+    }
+
+    /// `:` opens a definition. The name has at most 31 bytes.
+    pub fn begin(&mut self, name: &[u8]) -> Result<(), Refusal>
+        requires { length name.now ≤ 31 }
+        ensures opened { OnOk result (Opened self.old self.new name.now) }
+        ensures refused { IfErr result (NotOpened self.old self.new) }
+        ensures bodies { used self.new ≡ used self.old }
+    {
+        if self.is_open {
+            return Err(Refusal::DefinitionOpen);
+        }
+        self.name.clear();
+        // At most 31 bytes: they fit.
+        let _ = self.name.try_extend_from_slice(name);
+        self.is_open = true;
+        self.part = self.start;
+        self.here = self.start;
+        self.marked = false;
+        self.leaves = None;
+        self.opens.clear();
+        Ok(())
+    }
+
+    /// `;` ends the definition, and answers the place of its body.
+    pub fn finish(&mut self, code: &mut Code) -> Result<u16, Refusal>
+        requires { IsSound self.old code.old }
+        ensures finished { IfOk result (Finished self.old code.old self.new code.new) }
+        ensures refused { IfErr result (Refused self.old code.old self.new code.new end_definition) }
+        ensures named { name_of self.new ≡ name_of self.old }
+        ensures below { SameBelow (used self.old) code.old code.new }
+    {
+        self.opened()?;
+        self.unmarked()?;
+        self.outside()?; // an open IF is UNBALANCED
+        self.room(1)?;
+        code.set(self.here, marks::END);
+        let place = self.start;
+        self.close(self.here + 1);
+        Ok(place)
+    }
+
+    /// The open definition is dropped, if there is one.
+    pub fn abandon(&mut self)
+        ensures closed { (code : List ℕ) (o : Option Definition) → Holds self.old code o → IsClosed self.new }
+        ensures bodies { used self.new ≡ used self.old }
+    {
+        self.close(self.start);
+    }
+
+    /// Gives back the cells from a place on: the bodies that lie there are forgotten. No definition is open.
+    pub fn cut(&mut self, place: u16)
+        requires closed { IsClosed self.old }
+        requires within { place ≤ used self.old }
+        ensures closed { IsClosed self.new }
+        ensures cut { used self.new ≡ place }
+    {
+        self.start = place;
+    }
+
+    /// Adds a literal.
+    pub fn literal(&mut self, code: &mut Code, v: u16) -> Result<(), Refusal>
+        requires { IsSound self.old code.old }
+        ensures added { OnOk result (Added self.old code.old self.new code.new (λ used. add_literal used v)) }
+        ensures refused { IfErr result (Refused self.old code.old self.new code.new (λ used. add_literal used v)) }
+        ensures bodies { BodiesStay self.old code.old self.new code.new }
+    {
+        self.opened()?;
+        self.unmarked()?;
+        self.room(2)?;
+        self.pair(code, marks::LITERAL, v);
+        Ok(())
+    }
+
+    /// Adds a word, or after `COMPILE` one that the body adds when it runs. `EXIT` stands in no loop.
+    pub fn call(&mut self, code: &mut Code, token: u16) -> Result<(), Refusal>
+        requires sound { IsSound self.old code.old }
+        requires from { 0 < token }
+        requires most { token ≤ 4096 }
+        ensures added { OnOk result (Added self.old code.old self.new code.new (λ used. add_word used token)) }
+        ensures refused { IfErr result (Refused self.old code.old self.new code.new (λ used. add_word used token)) }
+        ensures bodies { BodiesStay self.old code.old self.new code.new }
+    {
+        self.opened()?;
+        self.exits(token)?;
+        self.room(1)?;
+        code.set(self.here, token);
+        self.here += 1;
+        if self.marked {
+            self.marked = false;
+            return Ok(());
+        }
+        if token == marks::COMPILE {
+            self.marked = true;
+            return Ok(());
+        }
+        Ok(())
+    }
+
+    /// Adds a text of at most 1,024 bytes.
+    pub fn text(&mut self, code: &mut Code, kind: TextKind, bytes: &[u8]) -> Result<(), Refusal>
+        requires sound { IsSound self.old code.old }
+        requires most { length bytes.now ≤ 1024 }
+        ensures added { OnOk result (Added self.old code.old self.new code.new (λ used. add_text used (kind_of kind) bytes.now)) }
+        ensures refused { IfErr result (Refused self.old code.old self.new code.new (λ used. add_text used (kind_of kind) bytes.now)) }
+        ensures bodies { BodiesStay self.old code.old self.new code.new }
+    {
+        self.opened()?;
+        self.unmarked()?;
+        let cells = 2 + ((bytes.len() + 1) / 2) as u16;
+        self.room(cells)?;
+        code.set(self.here, mark_of(kind));
+        code.set_text(self.here + 1, bytes);
+        self.here += cells;
+        Ok(())
+    }
+
+    /// `IF`
+    pub fn add_if(&mut self, code: &mut Code) -> Result<(), Refusal>
+        requires { IsSound self.old code.old }
+        ensures added { OnOk result (Added self.old code.old self.new code.new add_if) }
+        ensures refused { IfErr result (Refused self.old code.old self.new code.new add_if) }
+        ensures bodies { BodiesStay self.old code.old self.new code.new }
+    {
+        self.opened()?;
+        self.unmarked()?;
+        self.few()?;
+        self.room(2)?;
+        code.set(self.here, marks::TEST);
+        self.opens.push(Open::If(self.here));
+        self.here += 2;
+        Ok(())
+    }
+
+    /// `ELSE`
+    pub fn add_else(&mut self, code: &mut Code) -> Result<(), Refusal>
+        requires { IsSound self.old code.old }
+        ensures added { OnOk result (Added self.old code.old self.new code.new add_else) }
+        ensures refused { IfErr result (Refused self.old code.old self.new code.new add_else) }
+        ensures bodies { BodiesStay self.old code.old self.new code.new }
+    {
+        self.opened()?;
+        self.unmarked()?;
+        match self.opens.innermost() {
+            Some(Open::If(test)) => {
+                self.room(2)?;
+                code.set(self.here, marks::JUMP);
+                code.set(test + 1, self.here + 2);
+                self.opens.change(Open::Else(self.here));
+                self.here += 2;
+                Ok(())
+            }
+            _ => Err(Refusal::Unbalanced),
+        }
+    }
+
+    /// `THEN`
+    pub fn add_then(&mut self, code: &mut Code) -> Result<(), Refusal>
+        requires { IsSound self.old code.old }
+        ensures added { OnOk result (Added self.old code.old self.new code.new add_then) }
+        ensures refused { IfErr result (Refused self.old code.old self.new code.new add_then) }
+        ensures bodies { BodiesStay self.old code.old self.new code.new }
+    {
+        self.opened()?;
+        self.unmarked()?;
+        match self.opens.innermost() {
+            Some(Open::If(test)) => {
+                code.set(test + 1, self.here);
+                self.opens.close();
+                Ok(())
+            }
+            Some(Open::Else(jump)) => {
+                code.set(jump + 1, self.here);
+                self.opens.close();
+                Ok(())
+            }
+            _ => Err(Refusal::Unbalanced),
+        }
+    }
+
+    /// `BEGIN`
+    pub fn add_begin(&mut self, code: &mut Code) -> Result<(), Refusal>
+        requires { IsSound self.old code.old }
+        ensures added { OnOk result (Added self.old code.old self.new code.new add_begin) }
+        ensures refused { IfErr result (Refused self.old code.old self.new code.new add_begin) }
+        ensures bodies { BodiesStay self.old code.old self.new code.new }
+    {
+        self.opened()?;
+        self.unmarked()?;
+        self.few()?;
+        self.opens.push(Open::Begin(self.here));
+        Ok(())
+    }
+
+    /// `UNTIL`
+    pub fn add_until(&mut self, code: &mut Code) -> Result<(), Refusal>
+        requires { IsSound self.old code.old }
+        ensures added { OnOk result (Added self.old code.old self.new code.new add_until) }
+        ensures refused { IfErr result (Refused self.old code.old self.new code.new add_until) }
+        ensures bodies { BodiesStay self.old code.old self.new code.new }
+    {
+        self.opened()?;
+        self.unmarked()?;
+        match self.opens.innermost() {
+            Some(Open::Begin(begin)) => {
+                self.room(2)?;
+                self.pair(code, marks::TEST, begin);
+                self.opens.close();
+                Ok(())
+            }
+            _ => Err(Refusal::Unbalanced),
+        }
+    }
+
+    /// `WHILE`
+    pub fn add_while(&mut self, code: &mut Code) -> Result<(), Refusal>
+        requires { IsSound self.old code.old }
+        ensures added { OnOk result (Added self.old code.old self.new code.new add_while) }
+        ensures refused { IfErr result (Refused self.old code.old self.new code.new add_while) }
+        ensures bodies { BodiesStay self.old code.old self.new code.new }
+    {
+        self.opened()?;
+        self.unmarked()?;
+        match self.opens.innermost() {
+            Some(Open::Begin(begin)) => {
+                self.room(2)?;
+                code.set(self.here, marks::TEST);
+                self.opens.change(Open::While(begin, self.here));
+                self.here += 2;
+                Ok(())
+            }
+            _ => Err(Refusal::Unbalanced),
+        }
+    }
+
+    /// `REPEAT`
+    pub fn add_repeat(&mut self, code: &mut Code) -> Result<(), Refusal>
+        requires { IsSound self.old code.old }
+        ensures added { OnOk result (Added self.old code.old self.new code.new add_repeat) }
+        ensures refused { IfErr result (Refused self.old code.old self.new code.new add_repeat) }
+        ensures bodies { BodiesStay self.old code.old self.new code.new }
+    {
+        self.opened()?;
+        self.unmarked()?;
+        match self.opens.innermost() {
+            Some(Open::While(begin, way_out)) => {
+                self.room(2)?;
+                self.pair(code, marks::BACK, begin);
+                code.set(way_out + 1, self.here);
+                self.opens.close();
+                Ok(())
+            }
+            _ => Err(Refusal::Unbalanced),
+        }
+    }
+
+    /// `DO`
+    pub fn add_do(&mut self, code: &mut Code) -> Result<(), Refusal>
+        requires { IsSound self.old code.old }
+        ensures added { OnOk result (Added self.old code.old self.new code.new add_do) }
+        ensures refused { IfErr result (Refused self.old code.old self.new code.new add_do) }
+        ensures bodies { BodiesStay self.old code.old self.new code.new }
+    {
+        self.opened()?;
+        self.unmarked()?;
+        self.few()?;
+        self.room(1)?;
+        code.set(self.here, marks::DO);
+        self.opens.push(Open::Do(self.here, self.leaves));
+        self.leaves = Some(0);
+        self.here += 1;
+        Ok(())
+    }
+
+    /// `LOOP`
+    pub fn add_loop(&mut self, code: &mut Code) -> Result<(), Refusal>
+        requires { IsSound self.old code.old }
+        ensures added { OnOk result (Added self.old code.old self.new code.new (λ used. add_loop used ByOne)) }
+        ensures refused { IfErr result (Refused self.old code.old self.new code.new (λ used. add_loop used ByOne)) }
+        ensures bodies { BodiesStay self.old code.old self.new code.new }
+    {
+        self.end_loop(code, LoopEnd::ByOne)
+    }
+
+    /// `+LOOP`
+    pub fn add_plus_loop(&mut self, code: &mut Code) -> Result<(), Refusal>
+        requires { IsSound self.old code.old }
+        ensures added { OnOk result (Added self.old code.old self.new code.new (λ used. add_loop used ByTop)) }
+        ensures refused { IfErr result (Refused self.old code.old self.new code.new (λ used. add_loop used ByTop)) }
+        ensures bodies { BodiesStay self.old code.old self.new code.new }
+    {
+        self.end_loop(code, LoopEnd::ByTop)
+    }
+
+    /// `LEAVE`
+    pub fn add_leave(&mut self, code: &mut Code) -> Result<(), Refusal>
+        requires { IsSound self.old code.old }
+        ensures added { OnOk result (Added self.old code.old self.new code.new add_leave) }
+        ensures refused { IfErr result (Refused self.old code.old self.new code.new add_leave) }
+        ensures bodies { BodiesStay self.old code.old self.new code.new }
+    {
+        self.opened()?;
+        self.unmarked()?;
+        match self.leaves {
+            Some(last) => {
+                self.room(2)?;
+                self.pair(code, marks::LEAVE, last);
+                self.leaves = Some(self.here - 1);
+                Ok(())
+            }
+            None => Err(Refusal::Unbalanced),
+        }
+    }
+
+    /// `DOES>`
+    pub fn add_does(&mut self, code: &mut Code) -> Result<(), Refusal>
+        requires { IsSound self.old code.old }
+        ensures added { OnOk result (Added self.old code.old self.new code.new add_does) }
+        ensures refused { IfErr result (Refused self.old code.old self.new code.new add_does) }
+        ensures bodies { BodiesStay self.old code.old self.new code.new }
+    {
+        self.opened()?;
+        self.unmarked()?;
+        self.outside()?;
+        self.room(1)?;
+        code.set(self.here, marks::DOES);
+        self.here += 1;
+        self.part = self.here;
+        Ok(())
+    }
+
+    /// The end of a turn, and of the loop: each LEAVE of it goes past the end.
+    fn end_loop(&mut self, code: &mut Code, end: LoopEnd) -> Result<(), Refusal>
+        requires { IsSound self.old code.old }
+        ensures added { OnOk result (Added self.old code.old self.new code.new (λ used. add_loop used (loop_kind_of end))) }
+        ensures refused { IfErr result (Refused self.old code.old self.new code.new (λ used. add_loop used (loop_kind_of end))) }
+        ensures bodies { BodiesStay self.old code.old self.new code.new }
+    {
+        self.opened()?;
+        self.unmarked()?;
+        match self.opens.innermost() {
+            Some(Open::Do(begin, outer)) => {
+                self.room(2)?;
+                self.pair(code, end_mark_of(end), begin + 1);
+                patch_leaves(code, self.leaves.unwrap_or(0), self.here);
+                self.leaves = outer;
+                self.opens.close();
+                Ok(())
+            }
+            _ => Err(Refusal::Unbalanced),
+        }
+    }
+
+    /// No definition is open any more, and the bodies end here.
+    #[inline]
+    fn close(&mut self, end: u16)
+        ensures { self.new ≡ record self.old { start = end; is_open = false } }
+    {
+        self.start = end;
+        self.is_open = false;
+    }
+
+    /// A definition is open.
+    #[inline]
+    fn opened(&self) -> Result<(), Refusal>
+        ensures ok { OnOk result (self.now.is_open ≡ true) }
+        ensures err { IfErr result (λ e. (e ≡ Refusal.NoDefinition) × (self.now.is_open ≡ false)) }
+    {
+        if self.is_open {
+            Ok(())
+        } else {
+            Err(Refusal::NoDefinition)
+        }
+    }
+
+    /// No mark waits for its word.
+    #[inline]
+    fn unmarked(&self) -> Result<(), Refusal>
+        ensures ok { OnOk result (self.now.marked ≡ false) }
+        ensures err { IfErr result (λ e. (e ≡ Refusal.Unbalanced) × (self.now.marked ≡ true)) }
+    {
+        if self.marked {
+            Err(Refusal::Unbalanced)
+        } else {
+            Ok(())
+        }
+    }
+
+    /// No structure is open.
+    #[inline]
+    fn outside(&self) -> Result<(), Refusal>
+        ensures ok { OnOk result (length self.now.opens ≡ 0) }
+        ensures err { IfErr result (λ e. (e ≡ Refusal.Unbalanced) × (0 < length self.now.opens)) }
+    {
+        if self.opens.len() == 0 {
+            Ok(())
+        } else {
+            Err(Refusal::Unbalanced)
+        }
+    }
+
+    /// One more structure can be open.
+    #[inline]
+    fn few(&self) -> Result<(), Refusal>
+        ensures ok { OnOk result (length self.now.opens < 256) }
+        ensures err { IfErr result (λ e. (e ≡ Refusal.CodeFull) × (256 ≤ length self.now.opens)) }
+    {
+        if self.opens.len() < 256 {
+            Ok(())
+        } else {
+            Err(Refusal::CodeFull)
+        }
+    }
+
+    /// So many cells are left.
+    #[inline]
+    fn room(&self, cells: u16) -> Result<(), Refusal>
+        requires { cells ≤ 32768 }
+        ensures ok { OnOk result (self.now.here + cells ≤ 32768) }
+        ensures err { IfErr result (λ e. (e ≡ Refusal.CodeFull) × (32768 < self.now.here + cells)) }
+    {
+        if self.here > 32768 - cells {
+            Err(Refusal::CodeFull)
+        } else {
+            Ok(())
+        }
+    }
+
+    /// The token isn't that of an `EXIT` within a loop.
+    #[inline]
+    fn exits(&self, token: u16) -> Result<(), Refusal>
+        ensures ok { OnOk result (self.now.marked ≡ false → token ≡ 38 → self.now.leaves ≡ None) }
+        ensures err { IfErr result (λ e. (e ≡ Refusal.Unbalanced) × (self.now.marked ≡ false) × (token ≡ 38) × (self.now.leaves ≢ None)) }
+    {
+        if self.marked {
+            return Ok(());
+        }
+        if token != marks::EXIT {
+            return Ok(());
+        }
+        match self.leaves {
+            Some(_) => Err(Refusal::Unbalanced),
+            None => Ok(()),
+        }
+    }
+
+    /// Writes two cells at the end.
+    #[inline]
+    fn pair(&mut self, code: &mut Code, first: u16, second: u16)
+        requires { self.old.here + 2 ≤ 32768 }
+        ensures here { self.new ≡ record self.old { here = self.old.here + 2 } }
+        ensures first { slice_index code.new self.old.here ≡ first }
+        ensures second { slice_index code.new (self.old.here + 1) ≡ second }
+        ensures below { SameBelow self.old.here code.old code.new }
+    {
+        code.set(self.here, first);
+        code.set(self.here + 1, second);
+        self.here += 2;
+    }
+}
+
+/// The cell that ends a turn.
+fn end_mark_of(end: LoopEnd) -> u16
+    ensures { result ≡ end_of (loop_kind_of end) }
+{
+    match end {
+        LoopEnd::ByOne => marks::LOOP,
+        LoopEnd::ByTop => marks::PLUS_LOOP,
+    }
+}
+
+/// The cell that begins a text.
+fn mark_of(kind: TextKind) -> u16
+    ensures { result ≡ text_cell (kind_of kind) }
+{
+    match kind {
+        TextKind::Prints => marks::PRINTS,
+        TextKind::AbortsWith => marks::ABORTS_WITH,
+    }
+}
