@@ -1,0 +1,17 @@
+use Rattle.std.proofs.Common.{ap, ◌∙◌, arith}
+use Rattle.block_buffers.specs.Buffers.{Buffers}
+use Rattle.block_words.specs.Rooms.{within}
+use Rattle.block_words.proofs.Lists.{within_after_touch}
+use Rattle.block_words.proofs.Asked.{asks_past}
+use Rattle.block_words.proofs.Blocks.block.Goals as goal
+
+pub invariant_of-self : goal.invariant_of-self
+invariant_of-self g c = record {
+  within =
+      ap (λ (b : Buffers). within c.args.self.now.store.blocks b.list) c.touch.ensures.buffers
+      ∙ within_after_touch c.args.self.now.store.blocks c.args.u c.args.self.now.buffers c.args.self.now.within;
+}
+
+pub returns-then-u-blocks-clause-asks : goal.returns-then-u-blocks-clause-asks
+returns-then-u-blocks-clause-asks g c =
+    asks_past g.D.SectorDevice c.args.u c.args.self.now g.met.D.SectorDevice.only_now (omega (arith, c.if-u-blocks.true, c.blocks-2.ensures.value))

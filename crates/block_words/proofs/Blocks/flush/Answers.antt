@@ -1,0 +1,15 @@
+use Rattle.std.proofs.Common.{true, sym, subst, Ok}
+use Rattle.block_buffers.specs.Buffers.{Buffers, none_assigned}
+use Rattle.block_words.specs.Words.{flush, next_map}
+use Rattle.block_words.specs.Calls.{CallRuns, save_begun}
+use Rattle.block_words.proofs.Blocks.flush.Goals as goal
+
+pub returns-in-Ok-clause-runs : goal.returns-in-Ok-clause-runs
+returns-in-Ok-clause-runs g c = λ m stands.
+    let b = c.args.self.now.buffers in
+    let sp = c.args.space.now in
+    subst (λ (x : Buffers). CallRuns g.D.SectorDevice flush (Ok tt) (save_begun m.closed (next_map b sp m) true) m c.args.self.now.store c.save.new.store b x sp sp)
+    (sym c.unassign_all.ensures) (c.in-Ok.ensures.runs m (λ bs. none_assigned) stands)
+
+pub returns-in-Err-clause-runs : goal.returns-in-Err-clause-runs
+returns-in-Err-clause-runs g c = λ m stands. c.in-Err.ensures.runs m (λ bs. none_assigned) stands

@@ -1,0 +1,62 @@
+use Rattle.std.proofs.Common.{◌≡◌, true, false, length, nat_lt, None, sym, ap, ◌∙◌, subst, refl, arith, rules}
+use Rattle.std.specs.Prelude.{IfSome}
+use Rattle.data_space.specs.Space.{buffer_bytes}
+use Rattle.std.proofs.lemmas.Bool.{lt-ltb}
+use Rattle.block_buffers.specs.Buffers.{slot_of, assigned}
+use Rattle.block_words.proofs.Lists.{none_past, none_of}
+use Rattle.block_words.proofs.Runs.{source_found, source_read, source_failed, keeps_store, keeps_saved}
+use Rattle.block_words.proofs.Asked.{asks_past}
+use Rattle.block_words.proofs.Blocks.source.Goals as goal
+
+pub returns-then-u-blocks-clause-found_bytes : goal.returns-then-u-blocks-clause-found_bytes
+returns-then-u-blocks-clause-found_bytes g c =
+    let none : slot_of c.args.self.now.buffers c.args.u ≡ None = none_past c.args.self.now.store.blocks c.args.u c.args.self.now.buffers.list c.args.self.now.within (omega (arith, c.if-u-blocks.true, c.blocks-2.ensures.value)) in
+    subst (λ o. IfSome o (λ slot. c.args.out.now ≡ buffer_bytes c.args.space.now slot)) (sym none) tt
+
+pub returns-in-Some-clause-runs : goal.returns-in-Some-clause-runs
+returns-in-Some-clause-runs g c = λ m stands.
+    let is : nat_lt c.args.u (length m.saved) ≡ true = ap (λ n. nat_lt c.args.u n) stands.size ∙ lt-ltb c.args.u c.args.self.now.store.blocks (omega (arith, c.if-u-blocks.false, c.blocks-2.ensures.value)) in
+    record {
+      maps = m;
+      runs = source_found c.args.u m c.args.self.now.buffers c.args.space.now is (assigned c.args.self.now.buffers.list c.args.u) c.in-Some.slot c.copy_from_slice.new.self refl c.in-Some.ensures.slot (c.copy_from_slice.ensures.after ∙ c.buffer.ensures.value);
+      stands = stands;
+      kept = keeps_store g.D.SectorDevice c.args.self.now.store m g.met.D.SectorDevice.only_now stands;
+      shuts = λ h. h;
+      last = λ _. refl;
+    }
+
+pub returns-in-Ok-clause-runs : goal.returns-in-Ok-clause-runs
+returns-in-Ok-clause-runs g c = λ m stands.
+    let old = c.args.self.now.store in
+    let now : old.closed ≡ false = search rules in
+    let open_now : m.closed ≡ false = stands.closed ∙ now in
+    let is : nat_lt c.args.u (length m.saved) ≡ true = ap (λ n. nat_lt c.args.u n) stands.size ∙ lt-ltb c.args.u old.blocks (omega (arith, c.if-u-blocks.false, c.blocks-2.ensures.value)) in
+    let none = none_of (assigned c.args.self.now.buffers.list c.args.u) (sym c.in-None.ensures.slot) in
+    record {
+      maps = m;
+      runs = source_read c.args.u m c.args.self.now.buffers c.args.space.now is none open_now c.read_block.new.out (c.in-Ok.ensures.ok m stands);
+      stands = c.in-Ok.ensures.state m stands;
+      kept = keeps_saved g.D.SectorDevice m.closed old.device c.read_block.new.self.device m.saved open_now (c.in-Ok.ensures.stops m stands open_now);
+      shuts = λ h. h;
+      last = λ _. refl;
+    }
+
+pub returns-in-Err-Device-clause-runs : goal.returns-in-Err-Device-clause-runs
+returns-in-Err-Device-clause-runs g c = λ m stands.
+    let old = c.args.self.now.store in
+    let now : old.closed ≡ false = search rules in
+    let open_now : m.closed ≡ false = stands.closed ∙ now in
+    let is : nat_lt c.args.u (length m.saved) ≡ true = ap (λ n. nat_lt c.args.u n) stands.size ∙ lt-ltb c.args.u old.blocks (omega (arith, c.if-u-blocks.false, c.blocks-2.ensures.value)) in
+    let none = none_of (assigned c.args.self.now.buffers.list c.args.u) (sym c.in-None.ensures.slot) in
+    record {
+      maps = m;
+      runs = source_failed c.args.u m c.args.self.now.buffers c.args.space.now is none open_now;
+      stands = c.read_block.ensures.state m stands;
+      kept = keeps_saved g.D.SectorDevice m.closed old.device c.read_block.new.self.device m.saved open_now (c.read_block.ensures.stops m stands open_now);
+      shuts = λ h. h;
+      last = λ _. refl;
+    }
+
+pub returns-then-u-blocks-clause-asks : goal.returns-then-u-blocks-clause-asks
+returns-then-u-blocks-clause-asks g c =
+    asks_past g.D.SectorDevice c.args.u c.args.self.now g.met.D.SectorDevice.only_now (omega (arith, c.if-u-blocks.true, c.blocks-2.ensures.value))

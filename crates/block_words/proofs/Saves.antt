@@ -1,0 +1,223 @@
+-- Saving, case by case.
+use Rattle.std.proofs.Common.{◌≡◌, ◌⊎◌, ℕ, zero, suc, ◌+◌, ◌*◌, ◌<◌, ◌≤◌, Bool, true, false, cond, List, [], ◌∷◌, ◌++◌, length, take, drop, Option, Some, None, Result, Ok, Err, inl, refl, sym, ◌∙◌, ap, subst, arith}
+use Rattle.std.specs.Prelude.{◌||◌, slice_get, slice_index_or, OnOk}
+use Rattle.journal.specs.declared.store.StoreFault.{StoreFault}
+use Rattle.journal.specs.declared.store.StoreFault.TheVariants.{Device as Broken, Closed as Shut}
+use Rattle.sector_disk.specs.Disk.{Image}
+use Rattle.sector_disk.specs.Moments.{LeavesOnly}
+use Rattle.sector_disk.proofs.Moments.{elapses_then, leaves_then}
+use Rattle.sector_disk.specs.declared.device.SectorDevice.{Ghosts}
+use Rattle.journal.specs.declared.store.Store.{Store}
+use Rattle.journal.specs.Images.{Means, slot_of}
+use Rattle.journal.specs.Layout.{listed, count_listed, count_below}
+use Rattle.journal.specs.Maps.{Maps, latest, spilled, committed, shut, any_pending}
+use Rattle.journal.specs.Store.{Continues, StandsFor, KeepsSaved, SavesAllOrNone, is_pending, pending_count, DeviceBegins}
+use Rattle.block_words.specs.Parts.{ChangesAllOrNone}
+use Rattle.block_words.specs.Uses.{is_among, is_changed, changed_count}
+use Rattle.data_space.specs.Space.{buffer_bytes}
+use Rattle.block_buffers.specs.declared.Assigned.{Assigned}
+use Rattle.block_buffers.specs.Buffers.{Buffers, updated_ones}
+use Rattle.block_words.specs.declared.BlockFault.{BlockFault}
+use Rattle.block_words.specs.declared.BlockFault.TheVariants.{Device}
+use Rattle.block_words.specs.Words.{Answer, Well, Failed, Save, Blocks, BlockOutcome, Gives, spill_each, open_store, commit, returned, all_spilled, next_map, save_and}
+use Rattle.block_words.specs.Calls.{state, WordRuns, CallKeeps, save_begun}
+use Rattle.block_words.proofs.Runs.{saved_then}
+
+pub continues_then : {D : Type 0} {G : Ghosts D} (a b d : Store D G) → ((s t : ℕ) (c : Image) → s ≤ t → G.left_since d.device t c → G.left_since d.device s c)
+    → Continues a b → Continues b d → Continues a d
+continues_then {D} {G} a b d widens first then = record {
+  blocks = then.blocks ∙ first.blocks;
+  model = then.model ∙ first.model;
+  time = elapses_then G.time G.left_since a.device b.device d.device widens first.time then.time;
+  failures = omega (arith, first.failures, then.failures);
+}
+
+pub spilled_saved : (xs : List Assigned) (sp : List ℕ) (m : Maps) → (all_spilled xs sp m).saved ≡ m.saved
+spilled_saved [] sp m = refl
+spilled_saved (x ∷ xs) sp m = spilled_saved xs sp (spilled m x.block (buffer_bytes sp x.slot))
+
+pub spilled_closed : (xs : List Assigned) (sp : List ℕ) (m : Maps) → (all_spilled xs sp m).closed ≡ m.closed
+spilled_closed [] sp m = refl
+spilled_closed (x ∷ xs) sp m = spilled_closed xs sp (spilled m x.block (buffer_bytes sp x.slot))
+
+pub spilled_more : (xs : List Assigned) (i : ℕ) (x : Assigned) (sp : List ℕ) (m : Maps) → slice_get xs i ≡ Some x
+    → all_spilled (take (suc i) xs) sp m ≡ spilled (all_spilled (take i xs) sp m) x.block (buffer_bytes sp x.slot)
+spilled_more [] i x sp m at = cc
+spilled_more (y ∷ xs) zero x sp m at =
+    let same : y ≡ x = cc in
+    ap (λ (z : Assigned). spilled m z.block (buffer_bytes sp z.slot)) same
+spilled_more (y ∷ xs) (suc i) x sp m at = spilled_more xs i x sp (spilled m y.block (buffer_bytes sp y.slot)) at
+
+-- an item between those before it and those after it
+pub split_at : (xs : List Assigned) (i : ℕ) (x : Assigned) → slice_get xs i ≡ Some x → xs ≡ take i xs ++ x ∷ drop (suc i) xs
+split_at [] i x at = cc
+split_at (y ∷ xs) zero x at =
+    let same : y ≡ x = cc in
+    ap (λ (z : Assigned). z ∷ xs) same
+split_at (y ∷ xs) (suc i) x at = ap (λ l. y ∷ l) (split_at xs i x at)
+
+abbrev pub wells : List Assigned → List Answer → List Answer
+wells [] rest = rest
+wells (x ∷ xs) rest = Well ∷ wells xs rest
+
+wells_append : (xs : List Assigned) (a rest : List Answer) → wells xs a ++ rest ≡ wells xs (a ++ rest)
+wells_append [] a rest = refl
+wells_append (x ∷ xs) a rest = ap (λ l. Well ∷ l) (wells_append xs a rest)
+
+spill_all : (xs : List Assigned) (go : Blocks → BlockOutcome (Unit {0})) (m : Maps) (b : Buffers) (sp : List ℕ) (rest : List Answer) (f : ℕ) (sv : List Save)
+    → spill_each xs (state m b sp (wells xs rest) f sv) go ≡ go (state (all_spilled xs sp m) b sp rest f sv)
+spill_all [] go m b sp rest f sv = refl
+spill_all (x ∷ xs) go m b sp rest f sv = spill_all xs go (spilled m x.block (buffer_bytes sp x.slot)) b sp rest f sv
+
+spill_front : (ys more : List Assigned) (go : Blocks → BlockOutcome (Unit {0})) (m : Maps) (b : Buffers) (sp : List ℕ) (rest : List Answer) (f : ℕ) (sv : List Save)
+    → spill_each (ys ++ more) (state m b sp (wells ys rest) f sv) go ≡ spill_each more (state (all_spilled ys sp m) b sp rest f sv) go
+spill_front [] more go m b sp rest f sv = refl
+spill_front (x ∷ xs) more go m b sp rest f sv = spill_front xs more go (spilled m x.block (buffer_bytes sp x.slot)) b sp rest f sv
+
+abbrev pub one_if : Bool → List Answer
+one_if true = Well ∷ []
+one_if false = []
+
+commit_ok : (p : Bool) (go : Blocks → BlockOutcome (Unit {0})) (m : Maps) (b : Buffers) (sp : List ℕ) (rest : List Answer) (f : ℕ) (sv : List Save)
+    → commit p (state m b sp (one_if p ++ rest) f sv) go ≡ go (state (committed m) b sp rest f sv)
+commit_ok true go m b sp rest f sv = refl
+commit_ok false go m b sp rest f sv = refl
+
+returned_last : (sv : List Save) (x : Save) → returned (sv ++ x ∷ []) ≡ sv ++ record x { returned = true } ∷ []
+returned_last [] x = refl
+returned_last (y ∷ []) x = refl
+returned_last (y ∷ z ∷ sv) x = ap (λ l. y ∷ l) (returned_last (z ∷ sv) x)
+
+abbrev ending : (Buffers → Buffers) → Blocks → BlockOutcome (Unit {0})
+ending change s = Gives tt (record s { buffers = change s.buffers; saves = returned s.saves })
+
+abbrev committing : (Buffers → Buffers) → Blocks → BlockOutcome (Unit {0})
+committing change s = commit (any_pending s.maps.pending) s (ending change)
+
+abbrev spilling : (Buffers → Buffers) → Blocks → BlockOutcome (Unit {0})
+spilling change s = spill_each (updated_ones s.buffers) (record s { saves = s.saves ++ record { map = next_map s.buffers s.space s.maps; returned = false } ∷ [] }) (committing change)
+
+module _ (change : Buffers → Buffers) (m : Maps) (b : Buffers) (sp : List ℕ) (is_open : m.closed ≡ false) where
+  pub save_ok : WordRuns (save_and change) (Ok tt) (record { map = next_map b sp m; returned = true } ∷ []) m (committed (all_spilled (updated_ones b) sp m)) b (change b) sp sp
+  save_ok =
+      let xs = updated_ones b in
+      let all = all_spilled xs sp m in
+      record {
+        answers = wells xs (one_if (any_pending all.pending));
+        same = λ rest f sv.
+            ap (λ a. save_and change (state m b sp a f sv)) (wells_append xs (one_if (any_pending all.pending)) rest)
+            ∙ ap (λ t. open_store t (state m b sp (wells xs (one_if (any_pending all.pending) ++ rest)) f sv) (spilling change)) is_open
+            ∙ spill_all xs (committing change) m b sp (one_if (any_pending all.pending) ++ rest) f (sv ++ record { map = next_map b sp m; returned = false } ∷ [])
+            ∙ commit_ok (any_pending all.pending) (ending change) all b sp rest f (sv ++ record { map = next_map b sp m; returned = false } ∷ [])
+            ∙ ap (λ l. Gives tt (state (committed all) (change b) sp rest f l)) (returned_last sv (record { map = next_map b sp m; returned = false }));
+      }
+
+  pub save_uncommitted : any_pending (all_spilled (updated_ones b) sp m).pending ≡ true
+      → WordRuns (save_and change) (Err Device) (record { map = next_map b sp m; returned = false } ∷ []) m (shut (all_spilled (updated_ones b) sp m)) b b sp sp
+  save_uncommitted some =
+      let xs = updated_ones b in
+      let all = all_spilled xs sp m in
+      record {
+        answers = wells xs (Failed ∷ []);
+        same = λ rest f sv.
+            ap (λ a. save_and change (state m b sp a f sv)) (wells_append xs (Failed ∷ []) rest)
+            ∙ ap (λ t. open_store t (state m b sp (wells xs (Failed ∷ rest)) f sv) (spilling change)) is_open
+            ∙ spill_all xs (committing change) m b sp (Failed ∷ rest) f (sv ++ record { map = next_map b sp m; returned = false } ∷ [])
+            ∙ ap (λ p. commit p (state all b sp (Failed ∷ rest) f (sv ++ record { map = next_map b sp m; returned = false } ∷ [])) (ending change)) some;
+      }
+
+  pub save_unspilled : (before : List Assigned) (x : Assigned) (after : List Assigned) → updated_ones b ≡ before ++ x ∷ after
+      → WordRuns (save_and change) (Err Device) (record { map = next_map b sp m; returned = false } ∷ []) m (shut (all_spilled before sp m)) b b sp sp
+  save_unspilled before x after split = record {
+    answers = wells before (Failed ∷ []);
+    same = λ rest f sv.
+        ap (λ a. save_and change (state m b sp a f sv)) (wells_append before (Failed ∷ []) rest)
+        ∙ ap (λ t. open_store t (state m b sp (wells before (Failed ∷ rest)) f sv) (spilling change)) is_open
+        ∙ ap (λ l. spill_each l (state m b sp (wells before (Failed ∷ rest)) f (sv ++ record { map = next_map b sp m; returned = false } ∷ [])) (committing change)) split
+        ∙ spill_front before (x ∷ after) (committing change) m b sp (Failed ∷ rest) f (sv ++ record { map = next_map b sp m; returned = false } ∷ []);
+  }
+
+-- an open store begins a save
+pub runs_open : {A : Type 0} {w : Blocks → BlockOutcome A} {m m' : Maps} {b b' : Buffers} {sp sp' : List ℕ} (closed : Bool) → closed ≡ false → (r : Result A BlockFault) (s : Save)
+    → WordRuns w r (s ∷ []) m m' b b' sp sp' → WordRuns w r (save_begun closed s.map s.returned) m m' b b' sp sp'
+runs_open {A} {w} {m} {m'} {b} {b'} {sp} {sp'} closed is r s runs = subst (λ t. WordRuns w r (save_begun t s.map s.returned) m m' b b' sp sp') (sym is) runs
+
+pub keeps_save : {D : Type 0} (G : Ghosts D) (closed : Bool) (old new : D) (saved next : List (List ℕ)) (returned : Bool) → closed ≡ false
+    → LeavesOnly G.time G.left_since old new (λ c. Means saved c ⊎ Means next c)
+    → (returned ≡ true → (u : ℕ) × (G.time old ≤ u) × (u ≤ G.time new) × ((c : Image) → G.left_since new u c → Means next c))
+    → CallKeeps G closed old new saved (save_begun closed next returned)
+keeps_save G closed old new saved next returned is leaves after = subst (λ t. CallKeeps G t old new saved (save_begun t next returned)) (sym is) (leaves, after)
+
+none_at : (p : List (Option (List ℕ))) → any_pending p ≡ false → (b : ℕ) → slice_index_or p b None ≡ None
+none_at [] h b = refl
+none_at (Some x ∷ p) h b = cc
+none_at (None ∷ p) h zero = refl
+none_at (None ∷ p) h (suc b) = none_at p h b
+
+not_listed : (t : Bool) (slot : List ℕ) → None ≡ cond t (Some slot) None → t ≡ false
+not_listed true slot h = cc
+not_listed false slot h = refl
+
+count_below_none : (bytes : List ℕ) (n : ℕ) → ((b : ℕ) → b < n → listed bytes b ≡ false) → count_listed bytes n ≡ 0
+count_below_none bytes zero none = refl
+count_below_none bytes (suc n) none = ap (λ t. cond t (count_listed bytes n + 1) (count_listed bytes n)) (none n (omega arith)) ∙ count_below_none bytes n (λ b below. none b (omega arith))
+
+-- what a commit has to write is pending
+pub some_pending : {D : Type 0} {G : Ghosts D} (store : Store D G) (m : Maps) → StandsFor store m → store.closed ≡ false → (count_listed store.pending store.blocks ≡ 0 → ⊥) → any_pending m.pending ≡ true
+some_pending {D} {G} store m stands is_open counted = pick (any_pending m.pending) refl
+  where
+    pick : (t : Bool) → any_pending m.pending ≡ t → any_pending m.pending ≡ true
+    pick true is = is
+    pick false is = absurd (counted (count_below_none store.pending store.blocks
+        (λ b below. not_listed (listed store.pending b) (slot_of (G.disk store.device).content b) (sym (none_at m.pending is b) ∙ stands.pending is_open b below))))
+
+pub device_fault : (f : StoreFault) → (f ≡ Shut → ⊥) → f ≡ Broken
+device_fault Broken other = refl
+device_fault Shut other = absurd (other refl)
+
+pub on_ok : {A E P : Type 0} (r : Result A E) → P → OnOk r P
+on_ok (Ok v) p = p
+on_ok (Err e) p = tt
+
+-- a spill after others
+pub keeps_then_spill : {D : Type 0} (G : Ghosts D) (old mid new : Store D G) (front : List Assigned) (sp : List ℕ) → Continues old mid → Continues mid new
+    → ((m : Maps) → StandsFor old m → StandsFor mid (all_spilled front sp m)) → KeepsSaved old mid → KeepsSaved mid new → KeepsSaved old new
+keeps_then_spill G old mid new front sp first then stands p q = λ m from is_open.
+    saved_then G old.device mid.device new.device m.saved first.time then.time (p m from is_open)
+    (subst (λ l. LeavesOnly G.time G.left_since mid.device new.device (Means l)) (spilled_saved front sp m) (q (all_spilled front sp m) (stands m from) (spilled_closed front sp m ∙ is_open)))
+
+count_below_same : (p q : ℕ → Bool) (n : ℕ) → ((b : ℕ) → p b ≡ q b) → count_below p n ≡ count_below q n
+count_below_same p q zero same = refl
+count_below_same p q (suc n) same =
+    ap (λ t. cond t (count_below p n + 1) (count_below p n)) (same n)
+    ∙ ap (λ k. cond (q n) (k + 1) k) (count_below_same p q n same)
+
+-- with nothing updated no more blocks are pending
+pub none_left : {D : Type 0} {G : Ghosts D} (old mid : Store D G) (b : Buffers) → updated_ones b ≡ [] → Continues old mid
+    → ((u : ℕ) → is_pending mid u ≡ (is_among (updated_ones b) u || is_pending old u)) → pending_count old ≡ 0 → pending_count mid ≡ 0
+none_left old mid b none on pending zero_pending =
+    ap (λ n. count_below (is_pending mid) n) on.blocks
+    ∙ count_below_same (is_pending mid) (is_pending old) old.blocks (λ u. pending u ∙ ap (λ (l : List Assigned). is_among l u || is_pending old u) none)
+    ∙ zero_pending
+
+-- a commit after spills
+pub saves_then : {D : Type 0} (G : Ghosts D) (old mid new : Store D G) (b : Buffers) (sp : List ℕ) → Continues old mid → Continues mid new
+    → ((m : Maps) → StandsFor old m → StandsFor mid (all_spilled (updated_ones b) sp m)) → KeepsSaved old mid → SavesAllOrNone mid new → ChangesAllOrNone old new b sp
+saves_then G old mid new b sp first then stands p q = λ m from is_open.
+    let all = all_spilled (updated_ones b) sp m in
+    leaves_then G.time G.left_since old.device mid.device new.device (Means m.saved) (λ x. Means m.saved x ⊎ Means (latest all) x) (λ x. Means m.saved x ⊎ Means (latest all) x)
+    first.time then.time (p m from is_open)
+    (subst (λ l. LeavesOnly G.time G.left_since mid.device new.device (λ x. Means l x ⊎ Means (latest all) x)) (spilled_saved (updated_ones b) sp m)
+    (q all (stands m from) (spilled_closed (updated_ones b) sp m ∙ is_open)))
+    (λ x means. inl means) (λ x means. means)
+
+-- the writes of a commit after spills
+pub save_begins : {D : Type 0} (G : Ghosts D) (old mid new : Store D G) (b : Buffers) → Continues old mid
+    → ((u : ℕ) → is_pending mid u ≡ (is_among (updated_ones b) u || is_pending old u)) → DeviceBegins old mid (2 * length (updated_ones b)) 0
+    → DeviceBegins mid new (2 * pending_count mid + 3) 4 → DeviceBegins old new (2 * length (updated_ones b) + 2 * changed_count old b + 3) 4
+save_begins G old mid new b on pending first then =
+    let same : pending_count mid ≡ changed_count old b = ap (λ n. count_below (is_pending mid) n) on.blocks ∙ count_below_same (is_pending mid) (is_changed old b) old.blocks pending in
+    record {
+      few_writes = omega (arith, first.few_writes, then.few_writes, same);
+      few_syncs = omega (arith, first.few_syncs, then.few_syncs);
+    }

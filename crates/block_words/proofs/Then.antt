@@ -1,0 +1,72 @@
+-- One call after another.
+use Rattle.std.proofs.Common.{◌≡◌, ℕ, ◌≤◌, Bool, true, false, List, [], ◌∷◌, ◌++◌, Result, Ok, refl, sym, ◌∙◌, ap, subst, ⊎_elim, arith, append_assoc}
+use Rattle.std.proofs.lemmas.List.{append-nil}
+use Rattle.sector_disk.specs.Disk.{Image, MayLeave}
+use Rattle.sector_disk.specs.Moments.{Elapses}
+use Rattle.sector_disk.specs.declared.device.SectorDevice.{Ghosts}
+use Rattle.journal.specs.declared.store.Store.{Store}
+use Rattle.journal.specs.Images.{Means}
+use Rattle.journal.specs.Maps.{Maps}
+use Rattle.journal.specs.Store.{Continues}
+use Rattle.block_buffers.specs.Buffers.{Buffers}
+use Rattle.block_words.specs.declared.BlockFault.{BlockFault}
+use Rattle.block_words.specs.Words.{Save, Blocks, BlockOutcome}
+use Rattle.block_words.specs.Kept.{KeptFrom, last_map}
+use Rattle.block_words.specs.Calls.{state, ended, failures_after, and_then, WordRuns, CallKeeps, CallRuns}
+use Rattle.block_words.proofs.KeptOn.{kept_open, kept_closed}
+
+last_append : (map : List (List ℕ)) (made more : List Save) → last_map map (made ++ more) ≡ last_map (last_map map made) more
+last_append map [] more = refl
+last_append map (s ∷ made) more = last_append s.map made more
+
+pub words_then : {A B : Type 0} (w : Blocks → BlockOutcome A) (v : A) (next : A → Blocks → BlockOutcome B) (r : Result B BlockFault) (made more : List Save)
+    (m m' m'' : Maps) (b b' b'' : Buffers) (sp sp' sp'' : List ℕ)
+    → WordRuns w (Ok v) made m m' b b' sp sp' → WordRuns (next v) r more m' m'' b' b'' sp' sp'' → WordRuns (λ s. and_then (w s) next) r (made ++ more) m m'' b b'' sp sp''
+words_then w v next r made more m m' m'' b b' b'' sp sp' sp'' first then = record {
+  answers = first.answers ++ then.answers;
+  same = λ rest f sv.
+      ap (λ a. and_then (w (state m b sp a f sv)) next) (append_assoc first.answers then.answers rest)
+      ∙ ap (λ o. and_then o next) (first.same (then.answers ++ rest) f sv)
+      ∙ then.same rest f (sv ++ made)
+      ∙ ap (λ l. ended r (state m'' b'' sp'' rest (failures_after r f) l)) (append_assoc sv made more);
+}
+
+module _ {D : Type 0} (G : Ghosts D) (counts_now : (d : D) (t : ℕ) (c : Image) → t ≤ G.time d → MayLeave (G.disk d) c → G.left_since d t c)
+    (widens : (d : D) (s t : ℕ) (c : Image) → s ≤ t → G.left_since d t c → G.left_since d s c)
+    (only_now : (d : D) (c : Image) → G.left_since d (G.time d) c → MayLeave (G.disk d) c) where
+  pub keeps_then : (x y : Bool) (old mid new : D) (map saved : List (List ℕ)) (made more : List Save)
+      → Elapses G.time G.left_since old mid → Elapses G.time G.left_since mid new
+      → (x ≡ true → y ≡ true) → (y ≡ false → saved ≡ last_map map made) → (y ≡ true → more ≡ [])
+      → CallKeeps G x old mid map made → CallKeeps G y mid new saved more → CallKeeps G x old new map (made ++ more)
+  keeps_then false false old mid new map saved made more first then shuts last none p q =
+      kept_open (λ image map. Means map image) (G.left_since mid) (G.left_since new) (G.time mid) (G.time new) then.later then.only map made more (G.time old) first.later p
+      (subst (λ l. KeptFrom (λ image map. Means map image) (G.left_since new) (G.time new) l more (G.time mid)) (last refl) q)
+  keeps_then false true old mid new map saved made more first then shuts last none p q =
+      subst (λ l. KeptFrom (λ image map. Means map image) (G.left_since new) (G.time new) map l (G.time old)) (sym (append-nil made) ∙ ap (λ l. made ++ l) (sym (none refl)))
+      (kept_closed (λ image map. Means map image) (G.left_since mid) (G.left_since new) (G.time mid) (G.time new) then.later then.only
+      (λ c since. counts_now mid (G.time mid) c (omega arith) (q c since)) (λ t c le since. widens mid t (G.time mid) c le since) map made (G.time old) first.later p)
+  keeps_then true true old mid new map saved made more first then shuts last none p q =
+      λ c since. ⊎_elim (λ before. p c before) (λ now. p c (counts_now mid (G.time old) c first.later (q c now))) (then.only (G.time old) c first.later since)
+  keeps_then true false old mid new map saved made more first then shuts last none p q = absurd (let no : false ≡ true = shuts refl in cc)
+
+  -- Two calls, the second on what the first left, are one call of the two words.
+  pub calls_then : {A B : Type 0} (w : Blocks → BlockOutcome A) (v : A) (next : A → Blocks → BlockOutcome B) (r : Result B BlockFault) (made more : List Save) (m : Maps)
+      (old mid new : Store D G) (b b' b'' : Buffers) (sp sp' sp'' : List ℕ)
+      → Continues old mid → Continues mid new
+      → (first : CallRuns G w (Ok v) made m old mid b b' sp sp')
+      → (first.maps.closed ≡ true → more ≡ [])
+      → CallRuns G (next v) r more first.maps mid new b' b'' sp' sp''
+      → CallRuns G (λ s. and_then (w s) next) r (made ++ more) m old new b b'' sp sp''
+  calls_then w v next r made more m old mid new b b' b'' sp sp' sp'' on on_then first none then = record {
+    maps = then.maps;
+    runs = words_then w v next r made more m first.maps then.maps b b' b'' sp sp' sp'' first.runs then.runs;
+    stands = then.stands;
+    kept = keeps_then m.closed first.maps.closed old.device mid.device new.device m.saved first.maps.saved made more on.time on_then.time first.shuts first.last none
+        first.kept then.kept;
+    shuts = λ h. then.shuts (first.shuts h);
+    last = λ h. then.last h ∙ after first.maps.closed refl h;
+  }
+    where
+      after : (t : Bool) → first.maps.closed ≡ t → then.maps.closed ≡ false → last_map first.maps.saved more ≡ last_map m.saved (made ++ more)
+      after true is h = absurd (let no : true ≡ false = sym (then.shuts is) ∙ h in cc)
+      after false is h = ap (λ l. last_map l more) (first.last is) ∙ sym (last_append m.saved made more)

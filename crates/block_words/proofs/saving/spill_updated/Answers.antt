@@ -1,0 +1,69 @@
+use Rattle.std.proofs.Common.{◌≡◌, true, false, suc, sym, ◌∙◌, ap, subst, take, drop, arith, add-one, Err, rules}
+use Rattle.std.specs.Prelude.{slice_index_or, ◌==◌, ◌||◌}
+use Rattle.block_buffers.specs.declared.Assigned.{Assigned}
+use Rattle.block_buffers.specs.Buffers.{updated_ones}
+use Rattle.journal.specs.Maps.{spilled}
+use Rattle.journal.specs.Store.{StandsFor, is_pending}
+use Rattle.block_words.specs.Words.{all_spilled}
+use Rattle.block_words.specs.Rooms.{within}
+use Rattle.block_words.proofs.Lists.{within_at, within_filter, item_at, among_more}
+use Rattle.block_words.proofs.Saves.{continues_then, keeps_then_spill, spilled_more, split_at, device_fault}
+use Rattle.block_words.proofs.saving.spill_updated.Goals as goal
+
+pub spill-requires-clause-below : goal.spill-requires-clause-below
+spill-requires-clause-below g c =
+    let n = c.args.store.now.blocks in
+    let xs = c.deref-updated-items.result.now in
+    let same = c.deref-updated-items.ensures.0 ∙ c.updated.ensures.updated in
+    let all : within c.loop-updated.store.blocks xs ≡ true =
+    ap (λ l. within c.loop-updated.store.blocks l) same ∙ ap (λ k. within k (updated_ones c.args.buffers.now)) c.loop-updated.invariant.continues.blocks
+    ∙ within_filter n (λ x. x.updated) c.args.buffers.now.list c.requires.within in
+    within_at c.loop-updated.store.blocks xs c.loop-updated.updated-index _ all (item_at xs c.loop-updated.updated-index _ c.loop-updated-test.true)
+
+pub returns-in-Err-clause-fault : goal.returns-in-Err-clause-fault
+returns-in-Err-clause-fault g c = λ m stands.
+    let xs = c.deref-updated-items.result.now in
+    let i = c.loop-updated.updated-index in
+    let same = c.deref-updated-items.ensures.0 ∙ c.updated.ensures.updated in
+    let nothing : Assigned = record { block = 0; slot = 0; updated = false } in
+    record {
+      before = take i xs;
+      this = slice_index_or xs i nothing;
+      after = drop (suc i) xs;
+      split = sym same ∙ split_at xs i (slice_index_or xs i nothing) (item_at xs i nothing c.loop-updated-test.true);
+      shut_so = c.in-Err.ensures.fault (all_spilled (take i xs) c.args.space.now m) (c.loop-updated.invariant.stands m stands)
+          (ap Err (device_fault c.in-Err.field-0 (λ is. absurd (let no : false ≡ true = sym c.loop-updated.invariant.opened ∙ c.in-Err.ensures.closed.0 (ap Err is) in cc))));
+    }
+
+pub returns-in-Err-clause-stops : goal.returns-in-Err-clause-stops
+returns-in-Err-clause-stops g c =
+    keeps_then_spill g.D.SectorDevice c.args.store.now c.loop-updated.store c.spill.new.self (take c.loop-updated.updated-index c.deref-updated-items.result.now) c.args.space.now
+    c.loop-updated.invariant.continues c.spill.ensures.continues c.loop-updated.invariant.stands c.loop-updated.invariant.stops c.spill.ensures.stops
+
+pub returns-in-Err-clause-continues : goal.returns-in-Err-clause-continues
+returns-in-Err-clause-continues g c =
+    continues_then c.args.store.now c.loop-updated.store c.spill.new.self (g.met.D.SectorDevice.widens c.spill.new.self.device) c.loop-updated.invariant.continues c.spill.ensures.continues
+
+pub loop-updated-preserved : goal.loop-updated-preserved
+loop-updated-preserved g c =
+    let xs = c.deref-updated-items.result.now in
+    let i = c.loop-updated.updated-index in
+    let new = c.spill.new.self in
+    let sp = c.args.space.now in
+    let nothing : Assigned = record { block = 0; slot = 0; updated = false } in
+    let x = slice_index_or xs i nothing in
+    record {
+      stands = λ m stands. rw add-one
+          (subst (λ w. StandsFor new w) (sym (spilled_more xs i x sp m (item_at xs i nothing c.loop-updated-test.true)))
+          (subst (λ bytes. StandsFor new (spilled (all_spilled (take i xs) sp m) x.block bytes)) c.buffer.ensures.value (c.in-Ok.ensures.ok _ (c.loop-updated.invariant.stands m stands))));
+      opened = search rules;
+      stops =
+          keeps_then_spill g.D.SectorDevice c.args.store.now c.loop-updated.store new (take i xs) c.args.space.now
+          c.loop-updated.invariant.continues c.spill.ensures.continues c.loop-updated.invariant.stands c.loop-updated.invariant.stops c.spill.ensures.stops;
+      continues = continues_then c.args.store.now c.loop-updated.store new (g.met.D.SectorDevice.widens new.device) c.loop-updated.invariant.continues c.spill.ensures.continues;
+      pending = λ u. rw add-one
+          (c.in-Ok.ensures.pending u ∙ ap (λ t. (u == x.block) || t) (c.loop-updated.invariant.pending u)
+          ∙ among_more xs i x u (is_pending c.args.store.now u) (item_at xs i nothing c.loop-updated-test.true));
+      begins = record { few_writes = omega (arith, c.loop-updated.invariant.begins.few_writes, c.spill.ensures.begins.few_writes); few_syncs = omega (arith, c.loop-updated.invariant.begins.few_syncs, c.spill.ensures.begins.few_syncs) };
+      unmoved = λ zero. absurd (omega (arith, zero));
+    }

@@ -1,0 +1,61 @@
+-- What a call of a block word does, by the words and by what a stop may leave.
+use Rattle.std.specs.Prelude.{◌≡◌, ℕ, ◌+◌, ◌++◌, Bool, true, false, List, [], ◌∷◌, Result, Ok, Err}
+use Rattle.sector_disk.specs.Disk.{MayLeave}
+use Rattle.sector_disk.specs.Moments.{LeavesOnly}
+use Rattle.sector_disk.specs.declared.device.SectorDevice.{Ghosts}
+use Rattle.journal.specs.declared.store.Store.{Store}
+use Rattle.journal.specs.Images.{Means}
+use Rattle.journal.specs.Maps.{Maps}
+use Rattle.journal.specs.Store.{StandsFor}
+use Rattle.block_buffers.specs.Buffers.{Buffers}
+use Rattle.block_words.specs.declared.BlockFault.{BlockFault}
+use Rattle.block_words.specs.declared.BlockFault.TheVariants.{Device}
+use Rattle.block_words.specs.Words.{Answer, Save, Blocks, BlockOutcome, Gives, Fails}
+use Rattle.block_words.specs.Kept.{KeptFrom, last_map}
+
+-- all that the block words read, at a beginning or an end of a call
+abbrev pub state : Maps → Buffers → List ℕ → List Answer → ℕ → List Save → Blocks
+state maps buffers space answers failures saves = record { maps = maps; buffers = buffers; space = space; answers = answers; failures = failures; saves = saves }
+
+abbrev pub ended : {A : Type 0} → Result A BlockFault → Blocks → BlockOutcome A
+ended (Ok value) s = Gives value s
+ended (Err fault) s = Fails fault s
+
+-- a device fault counts one failure
+abbrev pub failures_after : {A : Type 0} → Result A BlockFault → ℕ → ℕ
+failures_after (Err Device) failures = failures + 1
+failures_after _ failures = failures
+
+-- the save that a call began: none where it found the store closed
+abbrev pub save_begun : Bool → List (List ℕ) → Bool → List Save
+save_begun true map returned = []
+save_begun false map returned = record { map = map; returned = returned } ∷ []
+
+-- one word after another
+abbrev pub and_then : {A B : Type 0} → BlockOutcome A → (A → Blocks → BlockOutcome B) → BlockOutcome B
+and_then (Gives value s) go = go value s
+and_then (Fails fault s) go = Fails fault s
+
+-- The word runs so from these maps, buffers and bytes, whatever answers, failures and saves are before and after.
+pub record WordRuns {A : Type 0} (word : Blocks → BlockOutcome A) (result : Result A BlockFault) (made : List Save) (m m' : Maps) (buffers buffers' : Buffers) (space space' : List ℕ) : Type 0 where
+  pub answers : List Answer
+  pub same : (rest : List Answer) (failures : ℕ) (saves : List Save)
+      → word (state m buffers space (answers ++ rest) failures saves)
+      ≡ ended result (state m' buffers' space' rest (failures_after result failures) (saves ++ made))
+
+module _ {D : Type 0} (G : Ghosts D) where
+  -- An open store keeps its saves from the call's start; a closed one adds nothing to what a stop may leave.
+  abbrev pub CallKeeps : (closed : Bool) → (old new : D) → List (List ℕ) → List Save → Type 0
+  CallKeeps true old new map made = LeavesOnly G.time G.left_since old new (MayLeave (G.disk old))
+  CallKeeps false old new map made = KeptFrom (λ image map. Means map image) (G.left_since new) (G.time new) map made (G.time old)
+
+  -- A call by which old became new runs the word from these maps, and keeps the saves that it made.
+  pub record CallRuns {A : Type 0} (word : Blocks → BlockOutcome A) (result : Result A BlockFault) (made : List Save) (m : Maps) (old new : Store D G) (buffers buffers' : Buffers) (space space' : List ℕ) : Type 0 where
+    pub maps : Maps
+    pub runs : WordRuns word result made m maps buffers buffers' space space'
+    pub stands : StandsFor new maps
+    pub kept : CallKeeps m.closed old.device new.device m.saved made
+    -- a closed store stays closed
+    pub shuts : m.closed ≡ true → maps.closed ≡ true
+    -- an open store has the last map
+    pub last : maps.closed ≡ false → maps.saved ≡ last_map m.saved made

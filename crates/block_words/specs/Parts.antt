@@ -1,0 +1,33 @@
+-- The parts of the blocks, and what a stop of a save leaves.
+use Rattle.std.specs.Prelude.{◌≡◌, ◌⊎◌, ◌<◌, ℕ, false, List, None}
+use Rattle.sector_disk.specs.Disk.{Image, MayLeave}
+use Rattle.sector_disk.specs.declared.device.SectorDevice.{Ghosts}
+use Rattle.journal.specs.declared.store.Store.{Store}
+use Rattle.journal.specs.Calls.{StopsLeave}
+use Rattle.journal.specs.Images.{Means}
+use Rattle.journal.specs.Maps.{Maps}
+use Rattle.journal.specs.Store.{StandsFor}
+use Rattle.block_buffers.specs.Buffers.{Buffers, slot_of}
+use Rattle.block_words.specs.declared.Blocks.{Blocks}
+use Rattle.block_words.specs.Words.{next_map}
+
+module _ {D : Type 0} {G : Ghosts D} where
+  abbrev pub store_of : Blocks D G → Store D G
+  store_of blocks = blocks.store
+
+  abbrev pub buffers_of : Blocks D G → Buffers
+  buffers_of blocks = blocks.buffers
+
+  -- Block u is there and has no buffer.
+  abbrev pub HasNoBuffer : Blocks D G → ℕ → Type 0
+  HasNoBuffer blocks u = (u < blocks.store.blocks) × (slot_of blocks.buffers u ≡ None)
+
+  -- A stop of an open store at any moment since the old state leaves the saved blocks, or all that were changed over them too.
+  abbrev pub ChangesAllOrNone : Store D G → Store D G → Buffers → List ℕ → Type 0
+  ChangesAllOrNone old new buffers space = (m : Maps) → StandsFor old m → m.closed ≡ false
+      → StopsLeave G old.device new.device (λ image. Means m.saved image ⊎ Means (next_map buffers space m) image)
+
+  -- A stop now leaves the blocks with all that were changed, and no others.
+  abbrev pub LeavesChanged : Store D G → Store D G → Buffers → List ℕ → Type 0
+  LeavesChanged old new buffers space = (m : Maps) → StandsFor old m
+      → (image : Image) → MayLeave (G.disk new.device) image → Means (next_map buffers space m) image

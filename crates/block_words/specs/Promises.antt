@@ -1,0 +1,51 @@
+-- What the calls of the block words have in common, over any device.
+use Rattle.std.specs.Prelude.{◌≡◌, ◌⊎◌, ◌↔◌, ◌≤◌, ◌+◌, ◌*◌, ℕ, true, false, List, [], length, Result, IsOk, IsErr, IfErr, OnOk, IsErrOf, IsSome}
+use Rattle.sector_disk.specs.declared.device.SectorDevice.{Ghosts}
+use Rattle.journal.specs.declared.store.Store.{Store}
+use Rattle.journal.specs.Store.{Continues, DeviceFailed, DeviceBegins, KeepsSaved, is_pending, pending_count}
+use Rattle.block_buffers.specs.Buffers.{Buffers, slot_of, updated_ones}
+use Rattle.block_words.specs.declared.BlockFault.{BlockFault}
+use Rattle.block_words.specs.declared.BlockFault.TheVariants.{NoBlock, NoBuffer, Device, Closed}
+use Rattle.block_words.specs.declared.Blocks.{Blocks}
+use Rattle.block_words.specs.Parts.{HasNoBuffer, ChangesAllOrNone, LeavesChanged}
+use Rattle.block_words.specs.Uses.{changed_count}
+
+module _ {D : Type 0} {G : Ghosts D} where
+  -- A call asks for block u: where it has no buffer, the store has to read it, or to spill another one.
+  pub record AsksFor {A : Type 0} (u : ℕ) (result : Result A BlockFault) (old new : Blocks D G) : Type 0 where
+    -- there is no such block: this is said before all else
+    pub no_block : IsErrOf result NoBlock ↔ (old.store.blocks ≤ u)
+    -- the block has no buffer, and the store is closed
+    pub closed : IsErrOf result Closed ↔ (HasNoBuffer old u × (old.store.closed ≡ true))
+    -- a call of the device failed
+    pub device : IsErrOf result Device → DeviceFailed old.store new.store
+    pub no_buffer : ¬ IsErrOf result NoBuffer
+    -- a block that has a buffer is given, and the store isn't called
+    pub found : IsSome (slot_of old.buffers u) → IsOk result
+    pub found_store : IsSome (slot_of old.buffers u) → new.store ≡ old.store
+    -- a closed store isn't called
+    pub closed_same : old.store.closed ≡ true → new.store ≡ old.store
+    -- a stop at any moment of the call leaves the saved blocks
+    pub stops : KeepsSaved old.store new.store
+    pub continues : Continues old.store new.store
+
+  -- A call saves all that was changed: these buffers are those at its start, with their bytes in this space.
+  pub record Saves (result : Result (Unit {0}) BlockFault) (old new : Store D G) (buffers : Buffers) (space : List ℕ) : Type 0 where
+    pub faults : IfErr result (λ fault. (fault ≡ Device) ⊎ (fault ≡ Closed))
+    -- the store was closed before, and isn't called
+    pub closed : IsErrOf result Closed ↔ (old.closed ≡ true)
+    pub closed_same : old.closed ≡ true → new ≡ old
+    -- a call of the device failed
+    pub device : IsErrOf result Device → DeviceFailed old new
+    -- a fault closes the store
+    pub shuts : IsErr result ↔ (new.closed ≡ true)
+    -- a stop at any moment of the call leaves the old blocks or all the new ones, and once it has returned the new ones alone
+    pub stops : ChangesAllOrNone old new buffers space
+    pub after : OnOk result (LeavesChanged old new buffers space)
+    pub continues : Continues old new
+    -- nothing is left to save
+    pub pending : OnOk result ((u : ℕ) → is_pending new u ≡ false)
+    -- two writes for each updated buffer, two for each block that is committed, and three for record and gate
+    pub begins : DeviceBegins old new (2 * length (updated_ones buffers) + 2 * changed_count old buffers + 3) 4
+    -- with nothing to save the device isn't called
+    pub nothing : updated_ones buffers ≡ [] → pending_count old ≡ 0 → new.device ≡ old.device

@@ -1,0 +1,48 @@
+-- What a use of a block does to the buffers, and how many blocks a save has to write. All this is known over any device.
+use Rattle.std.specs.Prelude.{ℕ, ◌==◌, ◌||◌, Bool, false, List, [], ◌∷◌, Option, Some, None, unwrap_or, replicate, Result, Ok, Err}
+use Rattle.sector_disk.specs.declared.device.SectorDevice.{Ghosts}
+use Rattle.journal.specs.declared.store.Store.{Store}
+use Rattle.journal.specs.Layout.{count_below}
+use Rattle.journal.specs.Store.{is_pending}
+use Rattle.data_space.specs.Space.{buffer_at, with_bytes}
+use Rattle.block_buffers.specs.declared.Assigned.{Assigned}
+use Rattle.block_buffers.specs.Buffers.{Buffers, assigned, slot_of, touched, slot_for, placed, updated_ones}
+
+abbrev pub used_if : Option Assigned → Buffers → ℕ → Buffers
+used_if (Some x) buffers u = touched buffers x
+used_if None buffers u = placed buffers u
+
+-- block u is used: its buffer comes to the front, or it gets one there
+abbrev pub used : Buffers → ℕ → Buffers
+used buffers u = used_if (assigned buffers.list u) buffers u
+
+-- the slot that it then has
+abbrev pub slot_used : Buffers → ℕ → ℕ
+slot_used buffers u = unwrap_or (slot_of buffers u) (slot_for buffers)
+
+abbrev pub blanked_if : Option ℕ → Buffers → List ℕ → List ℕ
+blanked_if (Some slot) buffers space = space
+blanked_if None buffers space = with_bytes space (buffer_at (slot_for buffers)) (replicate 1024 32)
+
+-- data space once block u has a buffer: a new one is blank
+abbrev pub blanked : Buffers → ℕ → List ℕ → List ℕ
+blanked buffers u space = blanked_if (slot_of buffers u) buffers space
+
+-- one of these buffers is assigned to block u
+abbrev pub is_among : List Assigned → ℕ → Bool
+is_among [] u = false
+is_among (x ∷ xs) u = (u == x.block) || is_among xs u
+
+-- what a call gave as its answer, and the bytes that it left in its argument
+abbrev pub with_bytes_left : {A E : Type 0} → Result A E → List ℕ → Result (List ℕ) E
+with_bytes_left (Ok value) bytes = Ok bytes
+with_bytes_left (Err fault) bytes = Err fault
+
+module _ {D : Type 0} {G : Ghosts D} where
+  -- whether block u was changed since the last save: its buffer is updated, or it was spilled
+  abbrev pub is_changed : Store D G → Buffers → ℕ → Bool
+  is_changed store buffers u = is_among (updated_ones buffers) u || is_pending store u
+
+  -- how many blocks a save has to commit
+  abbrev pub changed_count : Store D G → Buffers → ℕ
+  changed_count store buffers = count_below (is_changed store buffers) store.blocks

@@ -1,0 +1,163 @@
+// Buffers in their order, the bytes that they show, and how often the device is called.
+use super::support::{BLOCKS, Session, begun, check, opened};
+use crate::BlockFault;
+use sector_disk::{Counts, MemoryDisk};
+use std::test::Fail;
+
+#[test]
+fn buffers_are_given_in_turn(rt: HostRuntime) -> Result<(), Fail> {
+    let mut session = begun(&rt)?;
+    assert_eq!(rt; session.block(0), Ok(61440));
+    assert_eq!(rt; session.block(1), Ok(62464));
+    assert_eq!(rt; session.flush(), Ok(()));
+    assert_eq!(rt; session.block(1), Ok(61440));
+    assert_eq!(rt; session.block(2), Ok(62464));
+    assert_eq!(rt; session.block(3), Ok(63488));
+    assert_eq!(rt; session.block(4), Ok(64512));
+    // Block 1 is used again, so block 2's buffer is the next one.
+    assert_eq!(rt; session.block(1), Ok(61440));
+    assert_eq!(rt; session.block(5), Ok(62464));
+    Ok(())
+}
+
+#[test]
+fn update_marks_the_current_buffer(rt: HostRuntime) -> Result<(), Fail> {
+    let mut session = begun(&rt)?;
+    assert_eq!(rt; session.blocks.update(), Err(BlockFault::NoBuffer));
+    assert_eq!(rt; session.edit(1, 65), Ok(()));
+    assert_eq!(rt; session.flush(), Ok(()));
+    assert_eq!(rt; session.blocks.update(), Err(BlockFault::NoBuffer));
+    assert_eq!(rt; session.first_byte(1), Ok(65));
+    // A byte that is stored without a mark is gone with its buffer.
+    session.space.set_byte(61440, 66);
+    assert_eq!(rt; session.flush(), Ok(()));
+    assert_eq!(rt; session.first_byte(1), Ok(65));
+    Ok(())
+}
+
+#[test]
+fn a_new_buffer_is_blank(rt: HostRuntime) -> Result<(), Fail> {
+    let mut session = begun(&rt)?;
+    assert_eq!(rt; session.edit(1, 65), Ok(()));
+    // A buffer that is there isn't changed.
+    assert_eq!(rt; session.buffer(1), Ok(61440));
+    assert_eq!(rt; session.space.byte(61440), 65);
+    assert_eq!(rt; session.flush(), Ok(()));
+    assert_eq!(rt; session.buffer(1), Ok(61440));
+    check(
+        session.space.slice(61440, 1024) == Some([b' '; 1024].as_slice()),
+        "blanks",
+    )?;
+    // It wasn't updated, so block 1 still holds what was saved.
+    assert_eq!(rt; session.flush(), Ok(()));
+    assert_eq!(rt; session.first_byte(1), Ok(65));
+    Ok(())
+}
+
+#[test]
+fn blocks_past_the_last_one_are_no_blocks(rt: HostRuntime) -> Result<(), Fail> {
+    let mut session = begun(&rt)?;
+    for u in [BLOCKS, 40, 65535] {
+        assert_eq!(rt; session.block(u), Err(BlockFault::NoBlock), "block {u}");
+        assert_eq!(rt; session.buffer(u), Err(BlockFault::NoBlock), "block {u}");
+        assert_eq!(rt; session.text(u), Err(BlockFault::NoBlock), "block {u}");
+    }
+    assert_eq!(rt; session.block(BLOCKS - 1), Ok(61440));
+    Ok(())
+}
+
+// 65 in block 1, which then loses its buffer.
+fn evict(rt: &HostRuntime) -> Result<Session<MemoryDisk>, Fail> {
+    let mut session = begun(rt)?;
+    check(session.edit(1, 65) == Ok(()), "an edit")?;
+    for u in 2..6 {
+        check(session.block(u).is_ok(), "a block")?;
+    }
+    Ok(session)
+}
+
+// How many writes and syncs were begun since.
+fn since(before: Counts, now: Counts) -> (u64, u64) {
+    (
+        now.writes.saturating_sub(before.writes),
+        now.syncs.saturating_sub(before.syncs),
+    )
+}
+
+#[test]
+fn an_edit_outlives_its_buffer(rt: HostRuntime) -> Result<(), Fail> {
+    let before = evict(&rt)?.into_device().counts();
+    let mut session = evict(&rt)?;
+    assert_eq!(rt; session.save(), Ok(()));
+    let disk = session.into_device();
+    assert_eq!(rt; since(before, disk.counts()), (5, 4));
+    assert_eq!(rt; opened(&rt, disk)?.first_byte(1), Ok(65));
+    Ok(())
+}
+
+#[test]
+fn giving_the_store_back_saves_nothing(rt: HostRuntime) -> Result<(), Fail> {
+    let disk = evict(&rt)?.into_device();
+    let counts = disk.counts();
+    let disk = opened(&rt, disk.stop(&[]))?.into_device();
+    // Opening syncs once.
+    assert_eq!(rt; since(counts, disk.counts()), (0, 1));
+    let mut session = opened(&rt, disk)?;
+    assert_eq!(rt; session.first_byte(1), Ok(b' '));
+    Ok(())
+}
+
+#[test]
+fn a_save_of_nothing_calls_no_device(rt: HostRuntime) -> Result<(), Fail> {
+    let before = begun(&rt)?.into_device().counts();
+    let mut session = begun(&rt)?;
+    assert_eq!(rt; session.save(), Ok(()));
+    assert_eq!(rt; session.flush(), Ok(()));
+    assert_eq!(rt; session.into_device().counts(), before);
+    Ok(())
+}
+
+// Each block is changed and updated in turn, and then there are so many saves.
+fn change_all(rt: &HostRuntime, saves: usize) -> Result<Counts, Fail> {
+    let mut session = begun(rt)?;
+    for u in 0..BLOCKS {
+        check(session.edit(u, 65) == Ok(()), "an edit")?;
+    }
+    for _ in 0..saves {
+        check(session.save() == Ok(()), "a save")?;
+    }
+    Ok(session.into_device().counts())
+}
+
+#[test]
+fn all_blocks_are_saved_at_once(rt: HostRuntime) -> Result<(), Fail> {
+    let before = change_all(&rt, 0)?;
+    let saved = change_all(&rt, 1)?;
+    let (writes, syncs) = since(before, saved);
+    assert!(rt;
+        writes <= 75 && syncs <= 4,
+        "{writes} writes and {syncs} syncs"
+    );
+    assert_eq!(rt; change_all(&rt, 2)?, saved);
+    Ok(())
+}
+
+#[test]
+fn a_text_is_read_as_it_stands(rt: HostRuntime) -> Result<(), Fail> {
+    let mut session = begun(&rt)?;
+    assert_eq!(rt; session.text(1), Ok(b' '));
+    assert_eq!(rt; session.edit(1, 65), Ok(()));
+    assert_eq!(rt; session.text(1), Ok(65));
+    for u in 2..5 {
+        assert!(rt; session.block(u).is_ok());
+    }
+    // Reading block 1 doesn't bring it to the front: it loses its buffer to block 5.
+    assert_eq!(rt; session.text(1), Ok(65));
+    assert_eq!(rt; session.block(5), Ok(61440));
+    // It is spilled now, and its text needs no buffer.
+    assert_eq!(rt; session.text(1), Ok(65));
+    assert_eq!(rt; session.block(2), Ok(62464));
+    assert_eq!(rt; session.save(), Ok(()));
+    assert_eq!(rt; session.text(1), Ok(65));
+    Ok(())
+}

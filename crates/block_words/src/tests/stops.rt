@@ -1,0 +1,151 @@
+// Sessions stopped at each device call, with each unsynced sector lost, kept or torn in every combination.
+use super::support::{SECTORS, failing, opened};
+use crate::BlockFault;
+use sector_disk::{Fate, MemoryDisk, SectorDevice};
+use std::test::Fail;
+
+// What a sector held at the last sync, and what it holds.
+#[derive(Clone, Copy)]
+struct Unsynced {
+    is_gate: bool,
+    old: [u8; 512],
+    new: [u8; 512],
+}
+
+// Bytes that no session writes.
+const MARK: [u8; 512] = [0xee; 512];
+
+fn sector(disk: &mut MemoryDisk, k: u32) -> Result<[u8; 512], Fail> {
+    let mut bytes = [0; 512];
+    if k >= disk.sectors() || disk.read(k, &mut bytes).is_err() {
+        return Err("no such sector")?;
+    }
+    Ok(bytes)
+}
+
+// The unsynced sectors, in rising order: those in which a stop may leave a mark.
+fn unsynced_sectors(rt: &HostRuntime, disk: &MemoryDisk) -> Result<Vec<Unsynced>, Fail> {
+    let alloc = rt.alloc();
+    let marks = vec![in alloc; Fate::Torn(MARK); 200]?;
+    let mut marked = disk.try_clone(alloc)?.stop(&marks);
+    let mut lost = disk.try_clone(alloc)?.stop(&[]);
+    let mut present = disk.try_clone(alloc)?;
+    let mut found = Vec::new(alloc);
+    for k in 0..SECTORS {
+        if sector(&mut marked, k)? == MARK {
+            found.push(Unsynced {
+                is_gate: k == 1,
+                old: sector(&mut lost, k)?,
+                new: sector(&mut present, k)?,
+            })?;
+        }
+    }
+    Ok(found)
+}
+
+// Its first `n` bytes are new, and the rest is old.
+fn torn(sector: &Unsynced, n: usize) -> Fate {
+    let mut bytes = sector.old;
+    for (byte, new) in bytes.iter_mut().zip(sector.new.iter()).take(n) {
+        *byte = *new;
+    }
+    Fate::Torn(bytes)
+}
+
+// Three ways to leave a sector, and for the gate a fourth.
+fn ways(sector: &Unsynced) -> usize {
+    if sector.is_gate { 4 } else { 3 }
+}
+
+// The n-th combination of fates.
+fn combination(rt: &HostRuntime, sectors: &[Unsynced], n: usize) -> Result<Vec<Fate>, Fail> {
+    let mut fates = Vec::new(rt.alloc());
+    let mut rest = n;
+    for sector in sectors {
+        fates.push(match rest % 4 {
+            0 => Fate::Lost,
+            1 => Fate::Kept,
+            2 => torn(sector, 256),
+            _ => torn(sector, 4),
+        })?;
+        rest /= 4;
+    }
+    Ok(fates)
+}
+
+fn is_combination(sectors: &[Unsynced], n: usize) -> bool {
+    let mut rest = n;
+    for sector in sectors {
+        if rest % 4 >= ways(sector) {
+            return false;
+        }
+        rest /= 4;
+    }
+    rest == 0
+}
+
+// 65 in block 1, which then loses its buffer, and then a save or none: whether it all went well, and the disk.
+fn run_until(rt: &HostRuntime, k: u64, saves: bool) -> Result<(bool, MemoryDisk), Fail> {
+    let mut session = failing(rt, k, true)?;
+    let mut outcome = session.edit(1, 65);
+    for u in 2..6 {
+        outcome = match (outcome, session.block(u)) {
+            (Ok(()), Ok(_)) => Ok(()),
+            (Err(fault), _) | (Ok(()), Err(fault)) => Err(fault),
+        };
+    }
+    if saves && outcome == Ok(()) {
+        outcome = session.save();
+    }
+    Ok((outcome.is_ok(), session.into_device().into_device()))
+}
+
+// What all stops before call k leave: the first bytes of block 1, once the image is opened again.
+fn stops_at(rt: &HostRuntime, k: u64, saves: bool) -> Result<(Vec<u8>, bool), Fail> {
+    let (done, disk) = run_until(rt, k, saves)?;
+    let sectors = unsynced_sectors(rt, &disk)?;
+    let mut found = Vec::new(rt.alloc());
+    for n in 0..4096 {
+        if is_combination(&sectors, n) {
+            let stopped = disk
+                .try_clone(rt.alloc())?
+                .stop(&combination(rt, &sectors, n)?);
+            let byte: Result<u8, BlockFault> = opened(rt, stopped)?.first_byte(1);
+            found.push(byte.unwrap_or(0))?;
+        }
+    }
+    Ok((found, done))
+}
+
+#[test]
+fn an_edit_without_a_save_is_lost(rt: HostRuntime) -> Result<(), Fail> {
+    let mut most = 0;
+    for k in 1..14 {
+        let (found, done) = stops_at(&rt, k, false)?;
+        most = most.max(found.len());
+        assert!(rt; found.iter().all(|byte| *byte == b' '), "before call {k}");
+        // Five blocks are read and one is spilled, with two calls each.
+        assert_eq!(rt; done, k == 13);
+    }
+    // Both sectors of a slot are unsynced together.
+    assert_eq!(rt; most, 9);
+    Ok(())
+}
+
+#[test]
+fn a_save_is_whole_or_absent(rt: HostRuntime) -> Result<(), Fail> {
+    let mut saved = false;
+    for k in 13..26 {
+        let (found, done) = stops_at(&rt, k, true)?;
+        let new = found.iter().filter(|byte| **byte == 65).count();
+        let old = found.iter().filter(|byte| **byte == b' ').count();
+        assert_eq!(rt; new.saturating_add(old), found.len(), "before call {k}");
+        // A stop leaves both only while the gate is written and not synced.
+        assert!(rt; new == 0 || old == 0 || k == 16, "before call {k}");
+        // Once the save has returned, a stop leaves the new block alone.
+        assert!(rt; !done || old == 0, "before call {k}");
+        saved = saved || done;
+    }
+    assert!(rt; saved);
+    Ok(())
+}
