@@ -2,3 +2,14 @@ pub mod NumeralLemmas
 pub mod InterpretLemmas
 pub mod ReplyLemmas
 pub mod LineLaws
+pub mod Frugal
+pub mod Same
+pub mod Enter
+pub mod Beside
+pub mod Reaching
+pub mod Settling
+pub mod Answered
+pub mod Lasting
+pub mod Keeping
+pub mod Longer
+pub mod OneTurn

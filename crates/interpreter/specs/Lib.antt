@@ -6,3 +6,16 @@ pub mod TwelveLine
 pub mod TwelveLaws
 pub mod LineEnd
 pub mod TwelveCalls
+pub mod State
+pub mod Terminals
+pub mod Pictures
+pub mod Streams
+pub mod Naming
+pub mod Compiling
+pub mod Blocking
+pub mod Text
+pub mod FaultNames
+pub mod Lines
+pub mod Law
+pub mod Promise
+pub mod Table

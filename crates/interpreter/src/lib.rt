@@ -12,6 +12,7 @@ mod forth;
 mod interpret;
 pub mod laws;
 mod print;
+pub mod promise;
 mod reply;
 mod terminal;
 #[cfg(test)]

@@ -5,6 +5,8 @@ pub use run_fault::RunFault;
 pub use session::run;
 
 mod cut;
+pub mod laws;
+pub mod promise;
 mod run_fault;
 mod session;
 mod streams;

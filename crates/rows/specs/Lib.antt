@@ -1,0 +1,10 @@
+pub mod Playing
+pub mod Lines
+pub mod Arithmetic
+pub mod Memory
+pub mod Structures
+pub mod Definitions
+pub mod Screens
+pub mod Loads
+pub mod Limits
+pub mod Missing

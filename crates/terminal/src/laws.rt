@@ -1,0 +1,14 @@
+//! Laws over the definitions alone.
+
+ghost use Rattle.terminal.specs.Playing.{PlayedIsSession};
+ghost use Rattle.terminal.specs.Sessions.{HasOneSession};
+
+/// A session that is computed is a session.
+pub fn played()
+    ensures { PlayedIsSession }
+{}
+
+/// An input has one session without `DEVICE` and `MEMORY`, and so one output.
+pub fn one_session()
+    ensures { HasOneSession }
+{}
