@@ -18,6 +18,6 @@ returns-in-Ok g c = λ m stands is_open.
       made ++ more,
       subst (λ t. CallKeeps g.D.SectorDevice t old.store.device new.store.device m.saved (made ++ more)) is_open
           (c.calls_follow.ensures m.closed first.maps.closed old.store.device mid.store.device new.store.device m.saved first.maps.saved made more
-          c.in-Ok.ensures.continues.time c.save_buffers-in-Ok.ensures.continues.time first.shuts first.last
+          c.in-Ok.ensures.saves.continues.time c.save_buffers-in-Ok.ensures.saves.continues.time first.shuts first.last
           (λ closed. ap (λ t. save_begun t (next_map mid.buffers sp first.maps) ok) closed) first.kept second.kept),
     )
