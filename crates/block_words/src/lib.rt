@@ -2,13 +2,13 @@
 //! of data space, and all edits are saved at once.
 #![tactic(auto)]
 
-ghost use Rattle.std.specs.Prelude.{◌≡◌, ◌⊎◌, ◌↔◌, ◌≤◌, ◌+◌, ◌*◌, List, [], ℕ, true, false, None, length, replicate, is_ok, IsOk, IsErr, IfOk, IfErr, OnOk, OnErr, IsErrOf, IsSome, IfSome, MatchResult};
+ghost use Rattle.std.specs.Prelude.{◌≡◌, ◌↔◌, List, [], ℕ, true, None, is_ok, IfOk, IfErr, OnErr, IsErrOf, IsSome, IfSome, MatchResult};
 ghost use Rattle.journal.specs.Maps.{Maps};
-ghost use Rattle.journal.specs.Store.{blocks_of, closed_of, device_of, is_pending, pending_count, StandsFor, Continues, DeviceFailed, DeviceBegins, KeepsSaved, SamePending};
+ghost use Rattle.journal.specs.Store.{blocks_of, closed_of, StandsFor, DeviceBegins, KeepsSaved, SamePending};
 ghost use Rattle.data_space.specs.Space.{buffer_at, buffer_bytes};
-ghost use Rattle.block_buffers.specs.Buffers.{slot_of, none_assigned, updated_ones, unmarked, after_mark};
+ghost use Rattle.block_buffers.specs.Buffers.{slot_of, none_assigned, unmarked, after_mark};
 ghost use Rattle.block_words.specs.Words.{block, buffer, update, save_buffers, flush, source, next_map};
-ghost use Rattle.block_words.specs.Uses.{used, slot_used, blanked, with_bytes_left, changed_count};
+ghost use Rattle.block_words.specs.Uses.{used, slot_used, blanked, with_bytes_left};
 ghost use Rattle.block_words.specs.Rooms.{within};
 ghost use Rattle.block_words.specs.Calls.{CallRuns, save_begun};
 
