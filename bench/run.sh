@@ -59,7 +59,7 @@ per_step() {
         awk '{ printf "%.1f\n", ($2 - $1) / ($4 - $3) }'
 }
 # PROGRAM TURNS: least nanoseconds, one line for each compiler and machine, in turn
-times() {
+least_times() {
     for round in $(seq "$rounds"); do
         for compiler in $compilers; do
             echo "$compiler/limit $(field "$compiler" limit "$1" "$2" 12)"
