@@ -72,7 +72,7 @@ least_times() {
 
 printf '%-8s %-14s %10s %8s %8s\n' program machine instr/step ratio time
 while read -r program few many long; do
-    times "$program" "$long" > "$work/times"
+    least_times "$program" "$long" > "$work/times"
     base=$(awk '$1 == "gcc/limit" { print $2 }' "$work/times")
     limit=$(per_step gcc limit "$program" "$few" "$many")
     for which in $(for c in $compilers; do echo "$c/limit"; done) $machines; do
