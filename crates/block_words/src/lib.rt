@@ -43,8 +43,8 @@ pub enum BlockFault {
 /// Blocks in four buffers over a store.
 ///
 /// The buffers' bytes are those of data space at 61,440, 62,464, 63,488 and 64,512, which each call is lent; no other
-/// copy of them is kept. A block's present contents are its buffer's bytes, or else what the store has. No call but
-/// `new`, and `block` and `buffer` of a block without a buffer, takes memory.
+/// copy of them is kept. A block's present contents are its buffer's bytes, or else what the store has. Memory is
+/// taken by `new`, and by the first `block` or `buffer` of a block that has none, and by no other call.
 ///
 /// Contracts speak of the store and of the list of buffers. Where the device keeps the disk model, `CallRuns` says that a
 /// call is a run of its word, and what a stop at any moment of it leaves; all other clauses hold over any device.

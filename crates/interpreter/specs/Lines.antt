@@ -112,9 +112,9 @@ pub record Line (opening : Forth) (bytes : List ℕ) (turn : Turn) (closing : Fo
   pub saved : (line_on opening bytes turn.given answers).world.run.saves ≡ turn.saves
   pub failed : (line_on opening bytes turn.given answers).world.run.failures ≡ turn.failures
 
--- The terminal failed in the line, after it had given these bytes and these saves were begun, and that system is left.
-pub record Broken (opening : Forth) (bytes given : List ℕ) (made : List Save) (closing : Forth) : Type 0 where
-  pub answers : List Answer
+-- The terminal failed in the line, after it had given these bytes and these saves were begun, where the device answers
+-- so, and that system is left.
+pub record Broken (opening : Forth) (bytes given : List ℕ) (answers : List Answer) (made : List Save) (closing : Forth) : Type 0 where
   -- how many calls of the terminal went well
   pub calls : ℕ
   pub breaks : (line opening bytes (new_run given answers (Some calls))).ending ≡ Io

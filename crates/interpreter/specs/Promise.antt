@@ -48,8 +48,8 @@ pub record Stopped (opening : Forth) (bytes : List ℕ) (closing : Forth) (input
   pub reply : AppendsSome output printed turn.reply
   pub saves : Begins made turn.saves
   pub cause : Rose turn.failures before after
-  -- the system that it leaves
-  pub broken : Broken opening bytes turn.given made closing
+  -- the system that it leaves: the device answers as it does in the line above, so it closes the store only where it fails there
+  pub broken : Broken opening bytes turn.given line.answers made closing
 
 -- what a line's end promises of input, output and saves
 abbrev pub Answers : LineEnd → (opening : Forth) (bytes : List ℕ) (closing : Forth) (input left output printed : Option (List ℕ)) (before after : ℕ) (made : List Save) → Type 0

@@ -1,7 +1,7 @@
 -- A disk of sectors: its images, what each call does to it, and what a stop may leave.
 use Rattle.std.specs.Prelude.{◌≡◌, ◌⊎◌, ◌==◌, if◌then◌else◌, ℕ, Bool, true, false, List}
 
--- The bytes of each sector, by its number. What stands past the last sector is of no account. A sector is any list here:
+-- The bytes of each sector, by its number. What an image says past the last sector counts for nothing. A sector is any list here:
 -- so what is said of every image is said of more images than those whose sectors have 512 bytes.
 abbrev pub Image : Type 0
 Image = ℕ → List ℕ

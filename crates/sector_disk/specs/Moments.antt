@@ -7,7 +7,7 @@ pub record Elapses {D : Type 0} (time : D → ℕ) (left_since : D → ℕ → I
   pub later : time old ≤ time new
   -- What a stop since t might have left, it might have left before, or since the old state.
   pub only : (t : ℕ) (c : Image) → t ≤ time old → left_since new t c → left_since old t c ⊎ left_since new (time old) c
-  -- A past image is forgotten for all times at once or for none: one that still counts since some t counts since each s
+  -- A device forgets a past image for every time or not at all: one that still counts since some t counts since each s
   -- since which it counted before. A device that knows its whole history forgets none, one that knows only the present all.
   -- So two calls in a row are one passage of time.
   pub still : (t s : ℕ) (c : Image) → t ≤ time old → s ≤ time old → left_since new t c → left_since old s c → left_since new s c

@@ -8,7 +8,7 @@ pub fn played()
     ensures { PlayedIsSession }
 {}
 
-/// An input has one session without `DEVICE` and `MEMORY`, and so one output.
+/// An input has at most one session without `DEVICE` and `MEMORY`, and so at most one output.
 pub fn one_session()
     ensures { HasOneSession }
 {}
