@@ -9,3 +9,4 @@ pub mod Closing
 pub mod Fields
 pub mod Ends
 pub mod Sound
+pub mod Running

@@ -2,7 +2,7 @@ use Rattle.std.proofs.Common.{◌≡◌, ◌+◌, None, Some, arith}
 use Rattle.compiler.specs.Definition.{end_definition, opened, body_of}
 use Rattle.compiler.specs.Represents.{used}
 use Rattle.compiler.proofs.Sound.{sound_opened, sound_finished}
-use Rattle.compiler.proofs.tests.empty_body.Goals as goal
+use Rattle.compiler.proofs.tests.definitions.empty_body.Goals as goal
 
 pub finish-requires : goal.finish-requires
 finish-requires c =

@@ -1,5 +1,5 @@
 use Rattle.compiler.specs.Represents.{IsSound}
-use Rattle.compiler.proofs.tests.apply_all.Given as goal
+use Rattle.compiler.proofs.tests.support.all_refused.Given as goal
 
 abbrev pub invariant-loop-step : goal.invariant-loop-step
 invariant-loop-step l = IsSound l.compiler l.code

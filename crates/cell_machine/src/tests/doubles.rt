@@ -1,0 +1,119 @@
+//! Double numbers: two cells, the most significant on top.
+
+use super::support::{Cells, event_of, first_wrong_cells};
+use super::tokens;
+use crate::event::{Event, MachineFault};
+use std::test::Fail;
+
+const PRODUCTS: [Cells; 8] = [
+    (&[0, 65535], &[0, 0]),
+    (&[9, 1, 65535], &[9, 65535, 0]),
+    (&[300, 300], &[24464, 1]),
+    (&[256, 256], &[0, 1]),
+    (&[65535, 2], &[65534, 1]),
+    (&[32768, 2], &[0, 1]),
+    (&[32768, 32768], &[0, 16384]),
+    (&[65535, 65535], &[1, 65534]),
+];
+
+const QUOTIENTS: [Cells; 9] = [
+    (&[0, 0, 1], &[0, 0]),
+    (&[9, 7, 0, 2], &[9, 1, 3]),
+    (&[24464, 1, 300], &[0, 300]),
+    (&[65535, 0, 1], &[0, 65535]),
+    (&[65535, 0, 65535], &[0, 1]),
+    (&[0, 1, 2], &[0, 32768]),
+    (&[65535, 1, 2], &[1, 65535]),
+    (&[0, 32768, 65535], &[32768, 32768]),
+    (&[65535, 65534, 65535], &[65534, 65535]),
+];
+
+// divisors of 0, and quotients of 65,536 and more
+const UNDIVIDED: [&[u16]; 6] = [
+    &[0, 0, 0],
+    &[1, 0, 0],
+    &[0, 1, 1],
+    &[0, 2, 2],
+    &[0, 65535, 65535],
+    &[65535, 65535, 1],
+];
+
+const SUMS: [Cells; 7] = [
+    (&[1, 0, 2, 0], &[3, 0]),
+    (&[9, 65535, 0, 1, 0], &[9, 0, 1]),
+    (&[65535, 65535, 1, 0], &[0, 0]),
+    (&[65535, 32767, 1, 0], &[0, 32768]),
+    (&[0, 32768, 0, 32768], &[0, 0]),
+    (&[0, 1, 65535, 65535], &[65535, 0]),
+    (&[65535, 65535, 65535, 65535], &[65534, 65535]),
+];
+
+const NEGATIONS: [Cells; 6] = [
+    (&[0, 0], &[0, 0]),
+    (&[9, 1, 0], &[9, 65535, 65535]),
+    (&[65535, 65535], &[1, 0]),
+    (&[0, 1], &[0, 65535]),
+    (&[65535, 32767], &[1, 32768]),
+    (&[0, 32768], &[0, 32768]),
+];
+
+// signed as a whole, and the low cells unsigned
+const LESS: [Cells; 14] = [
+    (&[0, 0, 0, 0], &[0]),
+    (&[9, 1, 0, 2, 0], &[9, 65535]),
+    (&[2, 0, 1, 0], &[0]),
+    (&[65535, 65535, 0, 0], &[65535]),
+    (&[0, 0, 65535, 65535], &[0]),
+    (&[0, 32768, 65535, 32767], &[65535]),
+    (&[65535, 32767, 0, 32768], &[0]),
+    (&[0, 32768, 0, 32768], &[0]),
+    (&[65535, 0, 0, 1], &[65535]),
+    (&[0, 1, 65535, 0], &[0]),
+    (&[32767, 0, 32768, 0], &[65535]),
+    (&[32768, 0, 32767, 0], &[0]),
+    (&[0, 65535, 1, 65535], &[65535]),
+    (&[1, 65535, 0, 65535], &[0]),
+];
+
+#[test]
+fn products_and_quotients_are_unsigned(rt: HostRuntime) -> Result<(), Fail> {
+    let alloc = rt.alloc();
+    assert_eq!(rt;
+        first_wrong_cells(alloc, tokens::UM_TIMES, &PRODUCTS)?,
+        None,
+        "UM*"
+    );
+    assert_eq!(rt;
+        first_wrong_cells(alloc, tokens::UM_DIVIDE_MOD, &QUOTIENTS)?,
+        None,
+        "UM/MOD"
+    );
+    for cells in UNDIVIDED {
+        assert_eq!(rt;
+            event_of(alloc, tokens::UM_DIVIDE_MOD, cells, 1)?,
+            Event::Fault(MachineFault::Division)
+        );
+    }
+    Ok(())
+}
+
+#[test]
+fn doubles_wrap_and_compare(rt: HostRuntime) -> Result<(), Fail> {
+    let alloc = rt.alloc();
+    assert_eq!(rt;
+        first_wrong_cells(alloc, tokens::D_PLUS, &SUMS)?,
+        None,
+        "D+"
+    );
+    assert_eq!(rt;
+        first_wrong_cells(alloc, tokens::DNEGATE, &NEGATIONS)?,
+        None,
+        "DNEGATE"
+    );
+    assert_eq!(rt;
+        first_wrong_cells(alloc, tokens::D_LESS, &LESS)?,
+        None,
+        "D<"
+    );
+    Ok(())
+}

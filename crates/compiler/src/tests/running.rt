@@ -1,0 +1,297 @@
+//! A body that is compiled and run. It is that of word 133, so a call of 133 in it is a call of itself. `.` and `,` and
+//! texts are done here, and a part is run where `DOES>` gives it.
+
+ghost use Rattle.std.specs.Prelude.{◌≡◌, [], None, OnOk, IfOk};
+ghost use Rattle.compiler.specs.Represents.{IsSound};
+ghost use Rattle.compiler.specs.Running.{IsBody, IsGoing, IsAsked, IsWork};
+
+use super::support::{Step, apply_all, begin};
+use crate::{Compiler, Refusal};
+use arrayvec::ArrayVec;
+use cell_machine::code::Code;
+use cell_machine::event::{Event, MachineFault, Op, Work};
+use cell_machine::machine::Machine;
+use data_space::DataSpace;
+use stacks::{DataStack, ReturnStack};
+use std::alloc::Global;
+use std::test::Fail;
+
+const COMMA: u16 = 104;
+
+const CREATE: u16 = 113;
+
+const DOT: u16 = 78;
+
+const ITSELF: u16 = 133;
+
+/// Where the data field of the word that a part belongs to begins.
+const DATA_FIELD: u16 = 1280;
+
+/// The cells that a body printed, the bytes of its texts, and the words that it added.
+#[derive(Drop)]
+struct Printed {
+    cells: ArrayVec<u16, 64>,
+}
+
+impl Printed {
+    /// Notes one more, as far as there is room.
+    fn note(&mut self, cell: u16) {
+        let _ = self.cells.try_push(cell);
+    }
+
+    fn text(&mut self, code: &Code, place: u16)
+        requires { IsAsked code.now (Op.Text place) }
+    {
+        let mut bytes = [0; 1024];
+        let count = code.text(place, &mut bytes);
+        for byte in bytes.iter().take(count) {
+            self.note(u16::from(*byte));
+        }
+    }
+}
+
+/// The place of a body of these.
+#[tactic(auto, using(crate::proofs::Running::finished_body))]
+fn compiled(compiler: &mut Compiler, code: &mut Code, steps: &[Step]) -> Result<u16, Refusal>
+    requires { IsSound compiler.old code.old }
+    ensures { IfOk result (λ place. IsBody code.new place) }
+{
+    begin(compiler, code)?;
+    apply_all(compiler, code, steps)?;
+    compiler.finish(code)
+}
+
+/// A machine with all that it works on, and what a body printed.
+#[derive(Drop)]
+struct Session {
+    machine: Machine,
+    stack: DataStack,
+    returns: ReturnStack,
+    space: DataSpace,
+    budget: u32,
+    printed: Printed,
+}
+
+impl Session {
+    /// Nothing is left to do, and these cells are on the stack, the top last.
+    fn new(alloc: Global, cells: &[u16], budget: u32) -> Result<Session, Fail>
+        ensures idle { IfOk result (λ session. session.machine.pending ≡ None) }
+        ensures empty { IfOk result (λ session. session.returns ≡ []) }
+    {
+        let space = DataSpace::new(alloc)?;
+        let mut stack = DataStack::new();
+        for cell in cells {
+            stack.push(*cell)?;
+        }
+        Ok(Session {
+            machine: Machine::new(),
+            stack,
+            returns: ReturnStack::new(),
+            space,
+            budget,
+            printed: Printed {
+                cells: ArrayVec::new(),
+            },
+        })
+    }
+
+    /// A body next, or a part of it.
+    fn call(&mut self, code: &Code, work: Work) -> Result<(), Event>
+        requires going { IsGoing code.now self.old.machine self.old.returns }
+        requires idle { self.old.machine.pending ≡ None }
+        requires body { IsWork code.now work }
+        ensures { OnOk result (IsGoing code.now self.new.machine self.new.returns) }
+    {
+        match self.machine.enter(&mut self.stack, &mut self.returns, work) {
+            Ok(()) => Ok(()),
+            Err(fault) => Err(Event::Fault(fault)),
+        }
+    }
+
+    /// The next service, or how it ends.
+    fn go_on(&mut self, code: &Code) -> Result<Op, Event>
+        requires { IsGoing code.now self.old.machine self.old.returns }
+        ensures going { OnOk result (IsGoing code.now self.new.machine self.new.returns) }
+        ensures idle { self.new.machine.pending ≡ None }
+        ensures asked { IfOk result (λ op. IsAsked code.now op) }
+    {
+        let event = self.machine.resume(
+            code,
+            &mut self.stack,
+            &mut self.returns,
+            &mut self.space,
+            &mut self.budget,
+        );
+        match event {
+            Event::Service(op) => Ok(op),
+            event => Err(event),
+        }
+    }
+
+    /// The top of the stack, taken.
+    fn take(&mut self) -> Result<u16, Event>
+        ensures machine { self.new.machine ≡ self.old.machine }
+        ensures returns { self.new.returns ≡ self.old.returns }
+    {
+        match self.stack.pop() {
+            Ok(cell) => Ok(cell),
+            Err(_) => Err(Event::Fault(MachineFault::StackEmpty)),
+        }
+    }
+
+    /// `.`
+    fn print(&mut self) -> Result<(), Event>
+        ensures machine { self.new.machine ≡ self.old.machine }
+        ensures returns { self.new.returns ≡ self.old.returns }
+    {
+        let cell = self.take()?;
+        self.printed.note(cell);
+        Ok(())
+    }
+
+    /// `,` at the data field
+    fn comma(&mut self) -> Result<(), Event>
+        ensures machine { self.new.machine ≡ self.old.machine }
+        ensures returns { self.new.returns ≡ self.old.returns }
+    {
+        let cell = self.take()?;
+        self.space.set_cell(DATA_FIELD, cell);
+        Ok(())
+    }
+
+    /// Does a service.
+    fn serve(&mut self, code: &Code, body: u16, op: Op) -> Result<(), Event>
+        requires going { IsGoing code.now self.old.machine self.old.returns }
+        requires idle { self.old.machine.pending ≡ None }
+        requires body { IsBody code.now body }
+        requires asked { IsAsked code.now op }
+        ensures { OnOk result (IsGoing code.now self.new.machine self.new.returns) }
+    {
+        match op {
+            Op::Word(ITSELF) => self.call(code, Work::Body(body)),
+            Op::Word(DOT) => self.print(),
+            Op::Word(COMMA) => self.comma(),
+            Op::Word(CREATE) => Ok(()),
+            Op::Word(_) => Err(Event::Service(op)),
+            Op::Text(place) => {
+                self.printed.text(code, place);
+                Ok(())
+            }
+            Op::AbortText(place) => {
+                self.printed.text(code, place);
+                Err(Event::Abort)
+            }
+            Op::Compile(word) => {
+                self.printed.note(word);
+                Ok(())
+            }
+            Op::Does(part) => self.call(code, Work::Part(part, DATA_FIELD)),
+        }
+    }
+
+    /// Runs a body to its end, which is an event, or for a thousand services.
+    fn run(&mut self, code: &Code, body: u16) -> Result<(), Event>
+        requires idle { self.old.machine.pending ≡ None }
+        requires empty { self.old.returns ≡ [] }
+        requires body { IsBody code.now body }
+    {
+        self.call(code, Work::Body(body))?;
+        for _ in 0..1000 {
+            let op = self.go_on(code)?;
+            self.serve(code, body, op)?;
+        }
+        Ok(())
+    }
+}
+
+/// What came of a body, and where.
+#[derive(Drop)]
+struct Ran {
+    event: Result<(), Event>,
+    session: Session,
+}
+
+fn outcome(alloc: Global, steps: &[Step], before: &[u16], budget: u32) -> Result<Ran, Fail> {
+    let mut code = Code::new(alloc)?;
+    let mut compiler = Compiler::new();
+    let body = compiled(&mut compiler, &mut code, steps)?;
+    let mut session = Session::new(alloc, before, budget)?;
+    let event = session.run(&code, body);
+    Ok(Ran { event, session })
+}
+
+/// Whether these cells, the top last, are all that is on the stack.
+fn holds(stack: &mut DataStack, cells: &[u16]) -> Result<bool, Fail> {
+    if stack.depth() != cells.len() {
+        return Ok(false);
+    }
+    for cell in cells.iter().rev() {
+        if stack.pop()? != *cell {
+            return Ok(false);
+        }
+    }
+    Ok(true)
+}
+
+/// A body, the cells before it, what it prints, the cells after it, the top last, and its steps.
+pub type Body = (
+    &'static [Step],
+    &'static [u16],
+    &'static [u16],
+    &'static [u16],
+    u32,
+);
+
+/// A body, the cells before it, what it prints, its steps, and how it ends.
+pub type Broken = (&'static [Step], &'static [u16], &'static [u16], u32, Event);
+
+/// Whether a body is refused where one step is missing.
+fn wants(alloc: Global, steps: &[Step], before: &[u16], budget: u32) -> Result<bool, Fail> {
+    if budget == 0 {
+        return Ok(true);
+    }
+    let short = outcome(alloc, steps, before, budget - 1)?;
+    Ok(short.event == Err(Event::Fault(MachineFault::Steps)))
+}
+
+fn does(alloc: Global, row: Body) -> Result<bool, Fail> {
+    let (steps, before, printed, after, budget) = row;
+    let mut ran = outcome(alloc, steps, before, budget)?;
+    Ok(
+        ran.event == Err(Event::Done)
+            && ran.session.budget == 0
+            && ran.session.printed.cells.as_slice() == printed
+            && holds(&mut ran.session.stack, after)?
+            && wants(alloc, steps, before, budget)?,
+    )
+}
+
+fn breaks(alloc: Global, row: Broken) -> Result<bool, Fail> {
+    let (steps, before, printed, budget, event) = row;
+    let ran = outcome(alloc, steps, before, budget)?;
+    Ok(
+        ran.event == Err(event)
+            && ran.session.printed.cells.as_slice() == printed
+            && wants(alloc, steps, before, budget)?,
+    )
+}
+
+/// The first of the bodies that doesn't run so, if there is one.
+pub fn first_wrong(alloc: Global, rows: &[Body]) -> Result<Option<usize>, Fail> {
+    for (i, row) in rows.iter().enumerate() {
+        if !does(alloc, *row)? {
+            return Ok(Some(i));
+        }
+    }
+    Ok(None)
+}
+
+/// The first of the bodies that doesn't end so, if there is one.
+pub fn first_unbroken(alloc: Global, rows: &[Broken]) -> Result<Option<usize>, Fail> {
+    for (i, row) in rows.iter().enumerate() {
+        if !breaks(alloc, *row)? {
+            return Ok(Some(i));
+        }
+    }
+    Ok(None)
+}
