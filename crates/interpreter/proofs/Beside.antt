@@ -20,13 +20,13 @@ use Rattle.cell_machine.specs.Value.{Outcome, Did, Ends, Serve, body_value, word
 use Rattle.cell_machine.proofs.Rules.{charge-rel, push-rel, pop-rel}
 use Rattle.cell_machine.proofs.Lasts.{world_at}
 use Rattle.cell_machine.proofs.Linked as link
-use Rattle.cell_machine.proofs.Linked.{did, ends, parted}
+use Rattle.cell_machine.proofs.Linked.{did, ends}
 use Rattle.interpreter.specs.State.{World, Run, with_run, fits, state_cell, Part, ForthWord, popping, pushing, needing, with_args, cell, set_cell, to_in_cell, blk_cell, blocks_of, blocks_done, pad, base_cell}
 use Rattle.interpreter.specs.Terminals.{terminal_call, print, paying, key_of, expect_of, on_terminal}
 use Rattle.interpreter.specs.Pictures.{with_base, hold, hold_all, push_double, on_picture}
 use Rattle.interpreter.specs.Streams.{stream_of, take_word, take_text, take_new_name, token_or, take_known, known, take_token}
 use Rattle.interpreter.specs.Naming.{in_current, forgotten, none_open, take_new_word, found, data_of, data_address, part_given, give_part, on_naming, mark_of}
-use Rattle.interpreter.specs.Compiling.{ended, definition_or, added, changing, compile_text, colon, ended_or, semicolon, on_compile}
+use Rattle.interpreter.specs.Compiling.{with_ended, definition_or, added, changing, compile_text, colon, ended_or, semicolon, on_compile}
 use Rattle.interpreter.specs.Blocking.{on_blocks, leaving}
 use Rattle.interpreter.specs.Text.{back, with_number, number_value, on_parse, found_word, treat, next_word, text, load, user_kind, user_word, on_service, due_word, service, serve}
 
@@ -230,7 +230,7 @@ module _ (other : Run → Run) (Q : Run → Type 0) (Apart : Ending → World �
     colon-li c x h = search (h, take_new_word-li, done-li) depth 8
 
     ended_or-li : (r : Adding Definition) (c : Core) (x : World) → Q x.run → Linked (ended_or r c x) (ended_or r c (beside x))
-    ended_or-li (Adds d) c x h = done-li (set_cell state_cell 0 c) (ended d x) h
+    ended_or-li (Adds d) c x h = done-li (set_cell state_cell 0 c) (with_ended d x) h
     ended_or-li (Refuses f) c x h = ends _ c x h
 
     semicolon-li : (c : Core) (x : World) → Q x.run → Linked (semicolon c x) (semicolon c (beside x))

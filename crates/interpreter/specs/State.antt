@@ -8,7 +8,7 @@ use Rattle.block_words.specs.declared.BlockFault.{BlockFault}
 use Rattle.block_words.specs.declared.BlockFault.TheVariants.{NoBlock, NoBuffer, Device, Closed, Memory}
 use Rattle.block_words.specs.Words.{Answer, Save, Blocks, BlockOutcome, Gives, Fails}
 use Rattle.cell_machine.specs.Fault as fault
-use Rattle.cell_machine.specs.Fault.{Fault, StackEmpty, Ending, Faults}
+use Rattle.cell_machine.specs.Fault.{Fault, StackEmpty, Faults}
 use Rattle.cell_machine.specs.Tree.{Trees}
 use Rattle.cell_machine.specs.Frames.{Core, need, pop, push}
 use Rattle.cell_machine.specs.Value.{Outcome, Did, Ends}

@@ -6,7 +6,7 @@ use Rattle.number_io.proofs.Taken.{text_is_taken}
 use Rattle.block_words.specs.Words.{Answer}
 use Rattle.interpreter.specs.State.{Forth}
 use Rattle.interpreter.specs.Lines.{line_on, settled}
-use Rattle.terminal.specs.Cut.{IsFirstLine, text_of}
+use Rattle.terminal.specs.Cut.{IsFirstLine, line_text}
 use Rattle.terminal.specs.Sessions.{Session}
 use Rattle.terminal.specs.Playing.{is_empty, tried, takes, play, session}
 
@@ -75,7 +75,7 @@ play_is zero s [] answers short whole = (refl, refl)
 play_is zero s (b ∷ input) answers short whole = absurd (omega (arith, short))
 play_is (suc n) s [] answers short whole = (refl, refl)
 play_is (suc n) s (b ∷ input) answers short whole =
-    let bytes = text_of (up_to 10 (b ∷ input)) in
+    let bytes = line_text (up_to 10 (b ∷ input)) in
     let rest = drop 1 (from 10 (b ∷ input)) in
     let k = takes s bytes rest answers in
     let e = line_on s bytes (take k rest) answers in

@@ -5,7 +5,7 @@ use Rattle.number_io.specs.Taking.{up_to, from}
 use Rattle.block_words.specs.Words.{Answer}
 use Rattle.interpreter.specs.State.{Forth}
 use Rattle.interpreter.specs.Lines.{Ended, line_on, settled, Turn}
-use Rattle.terminal.specs.Cut.{text_of}
+use Rattle.terminal.specs.Cut.{line_text}
 use Rattle.terminal.specs.Sessions.{Session}
 
 -- the turns, the system after them, the input that is left, and whether each line took all that it was given
@@ -48,7 +48,7 @@ abbrev pub play : ℕ → Forth → (input : List ℕ) → List Answer → Playe
 play zero s input answers = record { turns = []; forth = s; left = input; whole = true }
 play (suc n) s [] answers = record { turns = []; forth = s; left = []; whole = true }
 play (suc n) s (b ∷ input) answers =
-    let bytes = text_of (up_to 10 (b ∷ input)) in
+    let bytes = line_text (up_to 10 (b ∷ input)) in
     let rest = drop 1 (from 10 (b ∷ input)) in
     let k = takes s bytes rest answers in
     let e = line_on s bytes (take k rest) answers in
