@@ -32,12 +32,12 @@ at_rest c = set_cell blk_cell 0 (set_cell state_cell 0 c)
 abbrev pub dropped : World → World
 dropped x = record x { definition = None }
 
-abbrev pub cleared : Core → Core
-cleared c = record c { stack = [] }
+abbrev pub with_empty_stack : Core → Core
+with_empty_stack c = record c { stack = [] }
 
 -- a terminal that failed leaves the line as a fault does
 abbrev pub broken : Core → World → Ended
-broken c x = record { ending = Io; core = cleared (at_rest c); world = dropped x }
+broken c x = record { ending = Io; core = with_empty_stack (at_rest c); world = dropped x }
 
 -- the end of the reply, at which a terminal may fail too
 abbrev pub replied : LineEnd → Outcome World → Ended
@@ -49,7 +49,7 @@ reply ending bytes c x = replied ending (print bytes c x)
 
 abbrev pub after_fault : Fault → Core → World → Ended
 after_fault f c x =
-    reply (Fails f) (codes " ? " ++ (fault_name f ++ 10 ∷ [])) (cleared (at_rest c)) (dropped x)
+    reply (Fails f) (codes " ? " ++ (fault_name f ++ 10 ∷ [])) (with_empty_stack (at_rest c)) (dropped x)
 
 abbrev pub end_of_line : Bool → Core → World → Ended
 end_of_line true c x = reply Compiling (10 ∷ []) c x
@@ -58,7 +58,7 @@ end_of_line false c x = reply Interpreting (codes " ok" ++ 10 ∷ []) c x
 abbrev pub ended : Outcome World → Ended
 ended (Did c x) = end_of_line (compiling c) c x
 ended (Ends Quits c x) = reply Quit (10 ∷ []) (at_rest c) (dropped x)
-ended (Ends Aborts c x) = reply Quit (10 ∷ []) (cleared (at_rest c)) (dropped x)
+ended (Ends Aborts c x) = reply Quit (10 ∷ []) (with_empty_stack (at_rest c)) (dropped x)
 ended (Ends Breaks c x) = broken c x
 ended (Ends (Faults f) c x) = after_fault f c x
 
@@ -81,8 +81,8 @@ abbrev pub line : Forth → List ℕ → Run → Ended
 line s bytes run = line_if (nat_le (length bytes) tib_bytes) bytes s.budget s.core (with_run run s.world)
 
 -- the system between that line and the next one
-abbrev pub settled : ℕ → Ended → Forth
-settled budget e = record { budget = budget; core = record e.core { steps = 0 }; world = with_run idle e.world }
+abbrev pub between_lines : ℕ → Ended → Forth
+between_lines budget e = record { budget = budget; core = record e.core { steps = 0 }; world = with_run idle e.world }
 
 -- ---- turns
 
@@ -104,7 +104,7 @@ line_on s bytes given answers = line s bytes (new_run given answers None)
 pub record Line (opening : Forth) (bytes : List ℕ) (turn : Turn) (closing : Forth) : Type 0 where
   pub answers : List Answer
   pub ends : (line_on opening bytes turn.given answers).ending ≡ turn.ending
-  pub leaves : settled opening.budget (line_on opening bytes turn.given answers) ≡ closing
+  pub leaves : between_lines opening.budget (line_on opening bytes turn.given answers) ≡ closing
   -- all that was given is taken
   pub taken : (line_on opening bytes turn.given answers).world.run.input ≡ []
   pub met : (line_on opening bytes turn.given answers).world.run.at_end ≡ turn.at_end
@@ -118,7 +118,7 @@ pub record Broken (opening : Forth) (bytes given : List ℕ) (made : List Save) 
   -- how many calls of the terminal went well
   pub calls : ℕ
   pub breaks : (line opening bytes (new_run given answers (Some calls))).ending ≡ Io
-  pub leaves : settled opening.budget (line opening bytes (new_run given answers (Some calls))) ≡ closing
+  pub leaves : between_lines opening.budget (line opening bytes (new_run given answers (Some calls))) ≡ closing
   pub taken : (line opening bytes (new_run given answers (Some calls))).world.run.input ≡ []
   pub saved : (line opening bytes (new_run given answers (Some calls))).world.run.saves ≡ made
 
