@@ -13,3 +13,4 @@ pub mod Images
 pub mod Stops
 pub mod Openings
 pub mod Twelve
+pub mod Formats

@@ -22,23 +22,30 @@ abbrev pub after_calls : Disk → List DiskCall → Disk
 after_calls disk [] = disk
 after_calls disk (call ∷ calls) = after_calls (after_call disk call) calls
 
+-- a disk that holds this image, all of it synced
+abbrev pub synced_disk : Image → Disk
+synced_disk image = record { content = image; synced = image; unsynced = λ _. false }
+
 -- ---- what a stop leaves
 
--- the fates that are tried: each unsynced sector below k lost, kept, or torn
+-- each unsynced sector below k lost, kept, or torn
 abbrev pub choices : Disk → ℕ → List (List Fate)
 choices disk zero = [] ∷ []
 choices disk (suc k) =
     if disk.unsynced k then flat_map (λ fates. map (λ fate. fates ++ fate ∷ []) (Lost ∷ Kept ∷ Torn (255 ∷ 255 ∷ []) ∷ [])) (choices disk k)
     else choices disk k
 
--- what a stop leaves by these fates, of an image of 32 blocks
-abbrev pub stops : Disk → List Image
-stops disk = map (stopped disk) (choices disk 131)
+abbrev pub every_way : Disk → List (List Fate)
+every_way disk = choices disk 131
+
+-- what a stop leaves where these fates are tried
+abbrev pub stops : (Disk → List (List Fate)) → Disk → List Image
+stops tried disk = map (stopped disk) (tried disk)
 
 -- the test holds of each image that a stop before, between, within or after these calls leaves
-abbrev pub at_each_stop : (Image → Bool) → Disk → List DiskCall → Bool
-at_each_stop test disk [] = list_all test (stops disk)
-at_each_stop test disk (call ∷ calls) = list_all test (stops disk) && at_each_stop test (after_call disk call) calls
+abbrev pub at_each_stop : (Disk → List (List Fate)) → (Image → Bool) → Disk → List DiskCall → Bool
+at_each_stop tried test disk [] = list_all test (stops tried disk)
+at_each_stop tried test disk (call ∷ calls) = list_all test (stops tried disk) && at_each_stop tried test (after_call disk call) calls
 
 -- the bytes of the blocks 0 to 4, one after another
 abbrev pub first_blocks : Image → List ℕ
@@ -61,7 +68,7 @@ first_image k =
     if k == 0 then label_of 32 else (if k == 1 then closed_gate else (if k == 2 then 8 ∷ 0 ∷ [] else (if nat_lt k 67 then 83 ∷ 83 ∷ [] else 32 ∷ 32 ∷ [])))
 
 abbrev pub disk_at_rest : Disk
-disk_at_rest = record { content = first_image; synced = first_image; unsynced = λ _. false }
+disk_at_rest = synced_disk first_image
 
 abbrev pub old_blocks : List ℕ
 old_blocks = replicate 20 32
@@ -83,17 +90,17 @@ abbrev pub a_save : List DiskCall
 a_save = slot_writes ++ the_record ∷ Sync ∷ Write 1 open_gate ∷ Sync ∷ home_writes ++ Sync ∷ Write 1 closed_gate ∷ Sync ∷ []
 
 abbrev pub all_or_nothing : List DiskCall → Bool
-all_or_nothing calls = at_each_stop (λ image. means_these old_blocks image || means_these new_blocks image) disk_at_rest calls
+all_or_nothing calls = at_each_stop every_way (λ image. means_these old_blocks image || means_these new_blocks image) disk_at_rest calls
 
 old_or_new : all_or_nothing a_save ≡ true
 old_or_new = refl
 
 -- once it is done, a stop leaves the new blocks alone
-new_alone : at_each_stop (means_these new_blocks) (after_calls disk_at_rest a_save) [] ≡ true
+new_alone : at_each_stop every_way (means_these new_blocks) (after_calls disk_at_rest a_save) [] ≡ true
 new_alone = refl
 
 -- a stop of the slot_writes, and of the record, leaves the old ones
-old_alone : at_each_stop (means_these old_blocks) disk_at_rest (slot_writes ++ the_record ∷ []) ≡ true
+old_alone : at_each_stop every_way (means_these old_blocks) disk_at_rest (slot_writes ++ the_record ∷ []) ≡ true
 old_alone = refl
 
 -- ---- other orders lose blocks
@@ -118,12 +125,9 @@ disk_with_an_open_gate = after_calls disk_at_rest (slot_writes ++ the_record ∷
 abbrev pub a_recovery : List DiskCall
 a_recovery = Sync ∷ home_writes ++ Sync ∷ Write 1 closed_gate ∷ Sync ∷ []
 
-always_new : at_each_stop (means_these new_blocks) disk_with_an_open_gate a_recovery ≡ true
+always_new : at_each_stop every_way (means_these new_blocks) disk_with_an_open_gate a_recovery ≡ true
 always_new = refl
 
 -- stopped and begun again, it still leaves the new blocks
-abbrev pub found_after : Image → Disk
-found_after image = record { content = image; synced = image; unsynced = λ _. false }
-
-begun_again : list_all (λ image. at_each_stop (means_these new_blocks) (found_after image) a_recovery) (stops (after_calls disk_with_an_open_gate (Sync ∷ home_writes))) ≡ true
+begun_again : list_all (λ image. at_each_stop every_way (means_these new_blocks) (synced_disk image) a_recovery) (stops every_way (after_calls disk_with_an_open_gate (Sync ∷ home_writes))) ≡ true
 begun_again = refl
