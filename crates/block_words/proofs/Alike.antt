@@ -7,7 +7,7 @@ use Rattle.block_buffers.specs.declared.Assigned.{Assigned}
 use Rattle.block_buffers.specs.Buffers.{Buffers, assigned, oldest, updated_ones, unmarked, none_assigned}
 use Rattle.block_words.specs.declared.BlockFault.{BlockFault}
 use Rattle.block_words.specs.declared.BlockFault.TheVariants.{NoBlock, NoBuffer, Device, Closed, Memory}
-use Rattle.block_words.specs.Words.{Answer, Well, Failed, Save, Blocks, BlockOutcome, Gives, Fails, first_answer, answered, device_call, with_closed, bytes_of, spill, spill_if, spill_oldest, give_buffer, assign, open_store, with_buffer, within, is_block, block, buffer, mark_current, update, next_map, spill_each, commit, returned, save_and, save_buffers, flush, source_of, source}
+use Rattle.block_words.specs.Words.{Answer, Well, Failed, Save, Blocks, BlockOutcome, Gives, Fails, first_answer, answered, device_call, with_closed, bytes_of, spill, spill_if, spill_oldest, give_buffer, assign, open_store, with_buffer, if_block, is_block, block, buffer, mark_current, update, next_map, spill_each, commit, returned, save_and, save_buffers, flush, source_of, source}
 
 -- with the same answers, or with none
 abbrev pub same_or_none : Bool → List Answer → List Answer
@@ -72,9 +72,9 @@ module _ {A : Type 0} (Q R : List Save → Type 0) (qr : (l : List Save) → Q l
     open-li true s go h k = fails Closed s (qr s.saves h)
     open-li false s go h k = k
 
-    within-li : (b : Bool) (s : Blocks) (go : Blocks → BlockOutcome A) → Q s.saves → Linked same R (go s) (go (other same s)) → Linked same R (within b s go) (within b (other same s) go)
-    within-li true s go h k = k
-    within-li false s go h k = fails NoBlock s (qr s.saves h)
+    if_block-li : (b : Bool) (s : Blocks) (go : Blocks → BlockOutcome A) → Q s.saves → Linked same R (go s) (go (other same s)) → Linked same R (if_block b s go) (if_block b (other same s) go)
+    if_block-li true s go h k = k
+    if_block-li false s go h k = fails NoBlock s (qr s.saves h)
 
 module _ (same : Bool) (Q R : List Save → Type 0) (qr : (l : List Save) → Q l → R l) where
   spill_each-li : (xs : List Assigned) (s : Blocks) (go : Blocks → BlockOutcome (Unit {0})) → Q s.saves → ((t : Blocks) → Q t.saves → Linked same R (go t) (go (other same t))) → Linked same R (spill_each xs s go) (spill_each xs (other same s) go)
@@ -108,11 +108,11 @@ module _ (same : Bool) (R : List Save → Type 0) (grows : Grows R) where
 
   pub block-li : (b : ℕ) (s : Blocks) → R s.saves → Linked same R (block b s) (block b (other same s))
   block-li b s h =
-      within-li R R (λ l h. h) same (is_block s b) s _ h (with_buffer-li (assigned s.buffers.list b) s _ h
+      if_block-li R R (λ l h. h) same (is_block s b) s _ h (with_buffer-li (assigned s.buffers.list b) s _ h
       (device-li R R (λ l h. h) same s (λ s. assign b (contents s.maps b) s) (λ s. Fails Device s) h (λ t ht. assign-li b _ t ht) (λ t ht. fails Device t ht) (λ t o e. parted Device t o e tt)))
 
   pub buffer-li : (b : ℕ) (s : Blocks) → R s.saves → Linked same R (buffer b s) (buffer b (other same s))
-  buffer-li b s h = within-li R R (λ l h. h) same (is_block s b) s _ h (with_buffer-li (assigned s.buffers.list b) s _ h (assign-li b (replicate 1024 32) s h))
+  buffer-li b s h = if_block-li R R (λ l h. h) same (is_block s b) s _ h (with_buffer-li (assigned s.buffers.list b) s _ h (assign-li b (replicate 1024 32) s h))
 
   mark-li : (o : Option ℕ) (s : Blocks) → R s.saves → Linked same R (mark_current o s) (mark_current o (other same s))
   mark-li None s h = fails NoBuffer s h
@@ -128,7 +128,7 @@ module _ (same : Bool) (R : List Save → Type 0) (grows : Grows R) where
       (device-li R R (λ l h. h) same s (λ s. Gives (contents s.maps b) s) (λ s. Fails Device s) h (λ t ht. gives _ t ht) (λ t ht. fails Device t ht) (λ t o e. parted Device t o e tt))
 
   pub source-li : (b : ℕ) (s : Blocks) → R s.saves → Linked same R (source b s) (source b (other same s))
-  source-li b s h = within-li R R (λ l h. h) same (is_block s b) s _ h (source_of-li (assigned s.buffers.list b) b s h)
+  source-li b s h = if_block-li R R (λ l h. h) same (is_block s b) s _ h (source_of-li (assigned s.buffers.list b) b s h)
 
   save-li : (change : Buffers → Buffers) (s : Blocks) → R s.saves → Linked same R (save_and change s) (save_and change (other same s))
   save-li change s h =

@@ -98,9 +98,10 @@ abbrev pub with_buffer : Option Assigned → Blocks → (Blocks → BlockOutcome
 with_buffer (Some x) s go = Gives (buffer_at x.slot) (record s { buffers = touched s.buffers x })
 with_buffer None s go = open_store s.maps.closed s go
 
-abbrev pub within : {A : Type 0} → Bool → Blocks → (Blocks → BlockOutcome A) → BlockOutcome A
-within true s go = go s
-within false s go = Fails NoBlock s
+-- what goes on only where this is a block
+abbrev pub if_block : {A : Type 0} → Bool → Blocks → (Blocks → BlockOutcome A) → BlockOutcome A
+if_block true s go = go s
+if_block false s go = Fails NoBlock s
 
 abbrev pub is_block : Blocks → ℕ → Bool
 is_block s b = nat_lt b (length s.maps.saved)
@@ -108,13 +109,13 @@ is_block s b = nat_lt b (length s.maps.saved)
 -- BLOCK
 abbrev pub block : ℕ → Blocks → BlockOutcome ℕ
 block b s =
-    within (is_block s b) s (λ s. with_buffer (assigned s.buffers.list b) s (λ s.
+    if_block (is_block s b) s (λ s. with_buffer (assigned s.buffers.list b) s (λ s.
     device_call s (λ s. assign b (contents s.maps b) s) (λ s. Fails Device s)))
 
 -- BUFFER
 abbrev pub buffer : ℕ → Blocks → BlockOutcome ℕ
 buffer b s =
-    within (is_block s b) s (λ s. with_buffer (assigned s.buffers.list b) s (λ s. assign b (replicate 1024 32) s))
+    if_block (is_block s b) s (λ s. with_buffer (assigned s.buffers.list b) s (λ s. assign b (replicate 1024 32) s))
 
 -- UPDATE
 abbrev pub mark_current : Option ℕ → Blocks → BlockOutcome (Unit {0})
@@ -169,4 +170,4 @@ source_of None b s =
     open_store s.maps.closed s (λ s. device_call s (λ s. Gives (contents s.maps b) s) (λ s. Fails Device s))
 
 abbrev pub source : ℕ → Blocks → BlockOutcome (List ℕ)
-source b s = within (is_block s b) s (λ s. source_of (assigned s.buffers.list b) b s)
+source b s = if_block (is_block s b) s (λ s. source_of (assigned s.buffers.list b) b s)

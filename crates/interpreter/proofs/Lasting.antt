@@ -9,7 +9,7 @@ use Rattle.cell_machine.specs.Frames.{Core, Level}
 use Rattle.cell_machine.specs.Value.{Outcome}
 use Rattle.cell_machine.proofs.Linked.{did, ends, parted, strayed}
 use Rattle.interpreter.specs.State.{World, Run, Forth, new_run, with_run, tib_bytes}
-use Rattle.interpreter.specs.Lines.{LineEnd, Io, Fails, Ended, Turn, Line, line, line_if, line_on, settled}
+use Rattle.interpreter.specs.Lines.{LineEnd, Io, Fails, Ended, Turn, Line, line, line_if, line_on, between_lines}
 use Rattle.interpreter.specs.Promise.{Begins}
 use Rattle.interpreter.specs.Law.{left, run_after, Grows, IsCalm}
 use Rattle.interpreter.proofs.Reaching.{Lasts, Parts, parts, answered_so}
@@ -123,7 +123,7 @@ module _ (opening : Forth) (bytes : List ℕ) (one two : Turn) (first second : F
         (sym l.ends ∙ ap (λ e. e.ending) same_end ∙ m.ends)
         (sym l.saved ∙ ap (λ e. e.world.run.saves) same_end ∙ m.saved)
         (sym l.failed ∙ ap (λ e. e.world.run.failures) same_end ∙ m.failed),
-    sym l.leaves ∙ ap (λ e. settled opening.budget e) same_end ∙ m.leaves,
+    sym l.leaves ∙ ap (λ e. between_lines opening.budget e) same_end ∙ m.leaves,
   )
 
 -- ---- a turn without input
@@ -146,7 +146,7 @@ pub turn_without : (opening : Forth) (bytes : List ℕ) → (turn : Turn) × (cl
 turn_without opening bytes =
     let e : Ended = line_on opening bytes [] [] in (
       record { given = []; at_end = e.world.run.at_end; reply = e.world.run.output; ending = e.ending; saves = e.world.run.saves; failures = e.world.run.failures },
-      settled opening.budget e,
+      between_lines opening.budget e,
       record {
         answers = [];
         ends = refl;
@@ -176,7 +176,7 @@ long_lines opening bytes other turn closing h k l =
     record {
       answers = l.answers;
       ends = ap (λ e. e.ending) same ∙ l.ends;
-      leaves = ap (λ e. settled opening.budget e) same ∙ l.leaves;
+      leaves = ap (λ e. between_lines opening.budget e) same ∙ l.leaves;
       taken = ap (λ e. e.world.run.input) same ∙ l.taken;
       met = ap (λ e. e.world.run.at_end) same ∙ l.met;
       printed = ap (λ e. e.world.run.output) same ∙ l.printed;

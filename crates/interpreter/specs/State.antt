@@ -8,7 +8,7 @@ use Rattle.block_words.specs.declared.BlockFault.{BlockFault}
 use Rattle.block_words.specs.declared.BlockFault.TheVariants.{NoBlock, NoBuffer, Device, Closed, Memory}
 use Rattle.block_words.specs.Words.{Answer, Save, Blocks, BlockOutcome, Gives, Fails}
 use Rattle.cell_machine.specs.Fault as fault
-use Rattle.cell_machine.specs.Fault.{Fault, StackEmpty, Ending, Faults}
+use Rattle.cell_machine.specs.Fault.{Fault, StackEmpty, Faults}
 use Rattle.cell_machine.specs.Tree.{Trees}
 use Rattle.cell_machine.specs.Frames.{Core, need, pop, push}
 use Rattle.cell_machine.specs.Value.{Outcome, Did, Ends}
@@ -109,8 +109,9 @@ needing b f c x go = need b f c (λ e c. Ends e c x) go
 abbrev pub with_args : ℕ → Core → World → (Core → Outcome World) → Outcome World
 with_args n c x go = needing (nat_le n (length c.stack)) StackEmpty c x go
 
-abbrev pub cell : ℕ → Core → ℕ
-cell a c = cell_at c.space a
+-- what the system cell at this address holds
+abbrev pub system_cell : ℕ → Core → ℕ
+system_cell a c = cell_at c.space a
 
 abbrev pub set_cell : ℕ → ℕ → Core → Core
 set_cell a w c = record c { space = with_cell c.space a w }
@@ -160,8 +161,8 @@ fault_of Closed = fault.Fault.Closed
 fault_of Memory = fault.Fault.Memory
 
 -- a block word on the store and the buffers of the state
-abbrev pub blocks_of : Core → World → Blocks
-blocks_of c x = record { maps = x.maps; buffers = x.buffers; space = c.space; answers = x.run.answers; failures = x.run.failures; saves = x.run.saves }
+abbrev pub block_state : Core → World → Blocks
+block_state c x = record { maps = x.maps; buffers = x.buffers; space = c.space; answers = x.run.answers; failures = x.run.failures; saves = x.run.saves }
 
 abbrev pub core_with : Blocks → Core → Core
 core_with s c = record c { space = s.space }

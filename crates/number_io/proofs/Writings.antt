@@ -1,8 +1,8 @@
 -- A number is written in one way alone.
-use Rattle.std.proofs.Common.{◌≡◌, refl, sym, ap, ◌∙◌, subst, length, ◌≤◌, ◌<◌, ◌*◌, ◌+◌, ◌^◌, ◌⊎◌, inl, inr, ℕ, List, [], ◌∷◌, arith, zero, suc, slice_index}
+use Rattle.std.proofs.Common.{◌≡◌, refl, sym, ap, ◌∙◌, length, ◌≤◌, ◌<◌, ◌*◌, ◌+◌, ◌^◌, ◌⊎◌, inl, inr, ℕ, List, [], ◌∷◌, arith, suc}
 use Rattle.std.specs.List.{AllByRecursion}
-use Rattle.std.proofs.Math.Nat.{pow-succ', pow-zero, one-le-pow, pow-le-pow_right}
-use Rattle.std.proofs.lemmas.Nat.{mul-le, row_fits}
+use Rattle.std.proofs.Math.Nat.{pow-succ', pow-zero, pow-le-pow_right}
+use Rattle.std.proofs.lemmas.Nat.{row_fits}
 use Rattle.std.proofs.lemmas.Bool.{cases_order}
 use Rattle.number_io.specs.Digits.{sum_of_powers}
 use Rattle.number_io.specs.Writing.{digits_of, IsWritten}

@@ -7,21 +7,21 @@ use Rattle.interpreter.specs.State.{Forth, ForthWord}
 use Rattle.rows.specs.Playing.{◌⇒◌, Replies, Plays, image, over}
 
 -- the word A with this many cells
-abbrev pub word_of : ℕ → ForthWord
-word_of cells = record { name = codes "A"; vocabulary = forth_token; immediate = false; here = 1280; kind = Colon (record { parts = End ∷ []; cells = cells }) }
+abbrev pub colon_word : ℕ → ForthWord
+colon_word cells = record { name = codes "A"; vocabulary = forth_token; immediate = false; here = 1280; kind = Colon (record { parts = End ∷ []; cells = cells }) }
 
 abbrev pub with_words : List ForthWord → Forth
 with_words words = let s = over (image []) in record s { world = record s.world { words = first_words ++ words } }
 
 -- 3,963 words beside the system's leave room for one
-one_word_left : Plays (with_words (replicate 3963 (word_of 1))) [] (codes ": B ;" ⇒ codes " ok" ∷ codes ": B ;" ⇒ codes " ? DICTIONARY FULL" ∷ codes "CREATE C" ⇒ codes " ? DICTIONARY FULL" ∷ [])
+one_word_left : Plays (with_words (replicate 3963 (colon_word 1))) [] (codes ": B ;" ⇒ codes " ok" ∷ codes ": B ;" ⇒ codes " ? DICTIONARY FULL" ∷ codes "CREATE C" ⇒ codes " ? DICTIONARY FULL" ∷ [])
 one_word_left = refl
 
 -- 16,383 literals and an end take all code cells but one
-one_cell_left : Plays (with_words (word_of 32767 ∷ [])) [] (codes ": B ;" ⇒ codes " ok" ∷ codes ": C ;" ⇒ codes " ? CODE FULL" ∷ codes "FORGET B : C ;" ⇒ codes " ok" ∷ [])
+one_cell_left : Plays (with_words (colon_word 32767 ∷ [])) [] (codes ": B ;" ⇒ codes " ok" ∷ codes ": C ;" ⇒ codes " ? CODE FULL" ∷ codes "FORGET B : C ;" ⇒ codes " ok" ∷ [])
 one_cell_left = refl
 
-cells_given_back : Plays (with_words (word_of 32765 ∷ [])) [] (codes ": B 1 ;" ⇒ codes " ok" ∷ codes ": C 1 ;" ⇒ codes " ? CODE FULL" ∷ codes "FORGET B : C DUP DUP ;" ⇒ codes " ok" ∷ [])
+cells_given_back : Plays (with_words (colon_word 32765 ∷ [])) [] (codes ": B 1 ;" ⇒ codes " ok" ∷ codes ": C 1 ;" ⇒ codes " ? CODE FULL" ∷ codes "FORGET B : C DUP DUP ;" ⇒ codes " ok" ∷ [])
 cells_given_back = refl
 
 -- n times IF

@@ -16,13 +16,13 @@ infix 90 ◌⇒◌
 abbrev pub ◌⇒◌ : List ℕ → List ℕ → Exchange
 line ⇒ reply = record { line = line; reply = reply }
 
-abbrev pub asked : List Exchange → List ℕ
-asked [] = []
-asked (x ∷ xs) = x.line ++ (10 ∷ asked xs)
+abbrev pub asked_lines : List Exchange → List ℕ
+asked_lines [] = []
+asked_lines (x ∷ xs) = x.line ++ (10 ∷ asked_lines xs)
 
-abbrev pub answered : List Exchange → List ℕ
-answered [] = []
-answered (x ∷ xs) = x.reply ++ (10 ∷ answered xs)
+abbrev pub reply_lines : List Exchange → List ℕ
+reply_lines [] = []
+reply_lines (x ∷ xs) = x.reply ++ (10 ∷ reply_lines xs)
 
 -- a block with this text, followed by blanks
 abbrev pub screen : List ℕ → List ℕ
@@ -50,7 +50,7 @@ Gives input output = replies_of (session (over (image [])) input []) ≡ Some ou
 
 -- in this system, where the device answers so, these lines have these replies
 abbrev pub Plays : Forth → List Answer → List Exchange → Type 0
-Plays forth answers xs = replies_of (session forth (asked xs) answers) ≡ Some (answered xs)
+Plays forth answers xs = replies_of (session forth (asked_lines xs) answers) ≡ Some (reply_lines xs)
 
 -- the same over 32 blank blocks, where all goes well
 abbrev pub Replies : List Exchange → Type 0
@@ -62,4 +62,4 @@ RepliesIn steps xs = Plays (new_forth steps [] (fresh (image []))) [] xs
 
 -- the saved blocks after a session of these lines: what an image that is opened again has
 abbrev pub saved_after : Forth → List Answer → List Exchange → List (List ℕ)
-saved_after forth answers xs = (session forth (asked xs) answers).forth.world.maps.saved
+saved_after forth answers xs = (session forth (asked_lines xs) answers).forth.world.maps.saved

@@ -4,7 +4,7 @@ use Rattle.number_io.specs.Writing.{divided, digits_of}
 use Rattle.block_words.specs.Words.{Well, Failed}
 use Rattle.terminal.specs.Sessions.{saves_of}
 use Rattle.terminal.specs.Playing.{session}
-use Rattle.rows.specs.Playing.{Exchange, ◌⇒◌, asked, Replies, Plays, image, over, saved_after}
+use Rattle.rows.specs.Playing.{Exchange, ◌⇒◌, asked_lines, Replies, Plays, image, over, saved_after}
 
 -- the least recently used buffer is used again
 reuse : Replies (codes "0 BLOCK 1 BLOCK 2 BLOCK 3 BLOCK 0 BLOCK 4 BLOCK U." ⇒ codes "62464  ok" ∷ [])
@@ -39,7 +39,7 @@ unfolding digits_of divided
 saved_and_opened_again = refl
 
 -- one save, which has returned
-saves : map (λ s. s.returned) (saves_of (session (over (image [])) (asked saving) []).turns) ≡ true ∷ []
+saves : map (λ s. s.returned) (saves_of (session (over (image [])) (asked_lines saving) []).turns) ≡ true ∷ []
 saves = refl
 
 -- a buffer that gave way before the save is saved with the others
@@ -100,7 +100,7 @@ unfolding digits_of divided
 closed_and_opened_again = refl
 
 -- a save that did not return stands last
-not_returned : map (λ s. s.returned) (saves_of (session (over (image [])) (asked failed_commit) (Well ∷ Well ∷ Well ∷ Failed ∷ [])).turns) ≡ false ∷ []
+not_returned : map (λ s. s.returned) (saves_of (session (over (image [])) (asked_lines failed_commit) (Well ∷ Well ∷ Well ∷ Failed ∷ [])).turns) ≡ false ∷ []
 not_returned = refl
 
 -- with a closed store each save is CLOSED, and a block that is none is NO BLOCK first

@@ -41,6 +41,7 @@ impl FileDisk {
     pub fn open(rt: &impl Files<File = File>, path: &str) -> Result<FileDisk, FileFault>
         ensures refusal { IfErr result (λ fault. fault ≡ FileFault.Cannot) }
         ensures counts { IfOk result (λ d. ⟦<FileDisk as SectorDevice>⟧.counts d ≡ record { reads = 0; writes = 0; syncs = 0 }) }
+        ensures failures { IfOk result (λ d. ⟦<FileDisk as SectorDevice>⟧.failures d ≡ 0) }
     {
         let file = OpenOptions::new()
             .read(true)
@@ -60,6 +61,7 @@ impl FileDisk {
     ) -> Result<FileDisk, FileFault>
         ensures sectors { IfOk result (λ d. ⟦<FileDisk as SectorDevice>⟧.sector_count d ≡ sectors) }
         ensures counts { IfOk result (λ d. ⟦<FileDisk as SectorDevice>⟧.counts d ≡ record { reads = 0; writes = 0; syncs = 0 }) }
+        ensures failures { IfOk result (λ d. ⟦<FileDisk as SectorDevice>⟧.failures d ≡ 0) }
     {
         let file = OpenOptions::new()
             .read(true)
@@ -77,6 +79,7 @@ impl FileDisk {
 
     fn with_sectors(file: File, sectors: u32) -> FileDisk
         ensures sectors { result.sectors ≡ sectors }
+        ensures failures { result.failures ≡ 0 }
         ensures counts { result.counts ≡ record { reads = 0; writes = 0; syncs = 0 } }
     {
         FileDisk {

@@ -48,6 +48,7 @@ impl MemoryDisk {
         ensures synced { IfOk result (λ d. (k : ℕ) → (held d).unsynced k ≡ false) }
         ensures model { IfOk result (λ d. IsTrue (⟦<MemoryDisk as SectorDevice>⟧.keeps_model d)) }
         ensures counts { IfOk result (λ d. begun d ≡ record { reads = 0; writes = 0; syncs = 0 }) }
+        ensures failures { IfOk result (λ d. ⟦<MemoryDisk as SectorDevice>⟧.failures d ≡ 0) }
     {
         let blank = Sector {
             synced: [0; 512],

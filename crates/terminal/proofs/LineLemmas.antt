@@ -11,7 +11,7 @@ use Rattle.std.specs.Io.BufRead.{strip_last, ends_with_byte}
 use Rattle.interpreter.specs.Turn.{Turn}
 use Rattle.interpreter.specs.TwelveLine.{System, Line}
 use Rattle.interpreter.specs.TwelveLaws.{LongLinesHaveOneTurn}
-use Rattle.terminal.specs.Cut.{blank_for_tab, text_of}
+use Rattle.terminal.specs.Cut.{blank_for_tab, line_text}
 use Rattle.terminal.specs.Calls.{ReadsLine}
 
 pub record LineSoFar (input left : Option (List ℕ)) (items : List ℕ) : Type 0 where
@@ -84,7 +84,7 @@ long-stripped xs h = omega (arith, length-stripped (ends_with_byte 13 xs) xs)
 
 -- the bytes that were kept of a line have its reply
 pub line-of_kept : LongLinesHaveOneTurn → (opening : System) (bytes : List ℕ) (turn : Turn) (closing : System)
-    → Line opening (strip_last 13 (take 1026 (map blank_for_tab bytes))) turn closing → Line opening (text_of bytes) turn closing
+    → Line opening (strip_last 13 (take 1026 (map blank_for_tab bytes))) turn closing → Line opening (line_text bytes) turn closing
 line-of_kept long_lines opening bytes turn closing line =
     let xs = map blank_for_tab bytes in
     elim (cases_lt 1026 (length xs)) [

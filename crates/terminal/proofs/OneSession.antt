@@ -8,7 +8,7 @@ use Rattle.interpreter.specs.State.{Forth}
 use Rattle.interpreter.specs.Lines.{Turn, Line}
 use Rattle.interpreter.specs.Law.{IsCalm}
 use Rattle.interpreter.proofs.OneTurn.{one_turn}
-use Rattle.terminal.specs.Cut.{IsFirstLine, text_of}
+use Rattle.terminal.specs.Cut.{IsFirstLine, line_text}
 use Rattle.terminal.specs.Sessions.{FirstTurn, Session, AreCalm}
 
 -- ---- the first line is one
@@ -72,8 +72,8 @@ first_turn opening input one two left left' between between' f g calm calm' =
     let d = cut_is input g.bytes g.rest g.first in
     let bytes : g.bytes ≡ f.bytes = d.before ∙ sym c.before in
     let rest : g.rest ≡ f.rest = d.after ∙ sym c.after in
-    let line : Line opening (text_of f.bytes) two between' = subst (λ b. Line opening (text_of b) two between') bytes g.line in
-    let same = one_turn opening (text_of f.bytes) f.rest one two left left' between between' f.line (record { taken = f.taken; at_end = f.at_end }) line (record { taken = sym rest ∙ g.taken; at_end = g.at_end }) calm calm' in
+    let line : Line opening (line_text f.bytes) two between' = subst (λ b. Line opening (line_text b) two between') bytes g.line in
+    let same = one_turn opening (line_text f.bytes) f.rest one two left left' between between' f.line (record { taken = f.taken; at_end = f.at_end }) line (record { taken = sym rest ∙ g.taken; at_end = g.at_end }) calm calm' in
     record { turn = same.0; leaves = same.1; closes = same.2 }
 
 pub one_session : (turns turns' : List Turn) (opening : Forth) (input : List ℕ) (closing closing' : Forth)

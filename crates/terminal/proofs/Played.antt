@@ -5,8 +5,8 @@ use Rattle.number_io.specs.Taking.{BeginsWith, up_to, from}
 use Rattle.number_io.proofs.Taken.{text_is_taken}
 use Rattle.block_words.specs.Words.{Answer}
 use Rattle.interpreter.specs.State.{Forth}
-use Rattle.interpreter.specs.Lines.{line_on, settled}
-use Rattle.terminal.specs.Cut.{IsFirstLine, text_of}
+use Rattle.interpreter.specs.Lines.{line_on, between_lines}
+use Rattle.terminal.specs.Cut.{IsFirstLine, line_text}
 use Rattle.terminal.specs.Sessions.{Session}
 use Rattle.terminal.specs.Playing.{is_empty, tried, takes, play, session}
 
@@ -75,13 +75,13 @@ play_is zero s [] answers short whole = (refl, refl)
 play_is zero s (b ∷ input) answers short whole = absurd (omega (arith, short))
 play_is (suc n) s [] answers short whole = (refl, refl)
 play_is (suc n) s (b ∷ input) answers short whole =
-    let bytes = text_of (up_to 10 (b ∷ input)) in
+    let bytes = line_text (up_to 10 (b ∷ input)) in
     let rest = drop 1 (from 10 (b ∷ input)) in
     let k = takes s bytes rest answers in
     let e = line_on s bytes (take k rest) answers in
-    let later = play n (settled s.budget e) (drop k rest) e.world.run.answers in (
+    let later = play n (between_lines s.budget e) (drop k rest) e.world.run.answers in (
       drop k rest,
-      settled s.budget e,
+      between_lines s.budget e,
       record {
         bytes = up_to 10 (b ∷ input);
         rest = rest;
@@ -99,7 +99,7 @@ play_is (suc n) s (b ∷ input) answers short whole =
           failed = refl;
         };
       },
-      play_is n (settled s.budget e) (drop k rest) e.world.run.answers (drop_shorter k n rest (let r = rest_shorter b input in omega (arith, r, short))) (both_second (is_empty e.world.run.input) later.whole whole),
+      play_is n (between_lines s.budget e) (drop k rest) e.world.run.answers (drop_shorter k n rest (let r = rest_shorter b input in omega (arith, r, short))) (both_second (is_empty e.world.run.input) later.whole whole),
     )
 
 pub played_is : (s : Forth) (input : List ℕ) (answers : List Answer) → (session s input answers).whole ≡ true → Session s input (session s input answers).turns (session s input answers).forth

@@ -6,7 +6,7 @@ use Rattle.interpreter.specs.Turn.{Turn}
 use Rattle.interpreter.specs.TwelveLine.{System, Line}
 use Rattle.interpreter.specs.TwelveLaws.{EachLineHasATurn}
 use Rattle.interpreter.specs.Terminal.{IsPrefix}
-use Rattle.terminal.specs.Cut.{text_of}
+use Rattle.terminal.specs.Cut.{line_text}
 use Rattle.terminal.specs.Session.{FirstTurn, Session, Completes, BreaksOff, output_of}
 use Rattle.terminal.specs.Calls.{ReadsPart, TurnDone}
 use Rattle.terminal.proofs.Known.{Consumes-known, IsAtEnd-known, empty-parts}
@@ -20,7 +20,7 @@ pub record CutTurn (opening : System) (turn : Turn) (closing : System) (input : 
   pub first : (rest : List ℕ) → (unread ≡ [] → rest ≡ []) → (IsTrue turn.at_end → rest ≡ []) → FirstTurn opening (taken ++ rest) turn rest closing
 
 module _ (opening closing : System) (turn : Turn) (a b c : Option (List ℕ)) (input bytes : List ℕ) (is : a ≡ Some input)
-    (no_feed : AllByRecursion (λ x. x ≢ 10) bytes) (given : Consumes b c turn.given) (line : Line opening (text_of bytes) turn closing) where
+    (no_feed : AllByRecursion (λ x. x ≢ 10) bytes) (given : Consumes b c turn.given) (line : Line opening (line_text bytes) turn closing) where
   cut_turn-fed : Consumes a b (bytes ++ 10 ∷ []) → CutTurn opening turn closing input c
   cut_turn-fed cut =
       let (left, b_is, split) = Consumes-known a b (bytes ++ 10 ∷ []) input is cut in
@@ -110,7 +110,7 @@ breaks_off-bytes total opening input held [] unread left written no_feed known r
   whole = ([], refl);
 }
 breaks_off-bytes total opening input held (x ∷ xs) unread left written no_feed known read output =
-    let (turn, closing, line, none) = total opening (text_of (x ∷ xs)) in
+    let (turn, closing, line, none) = total opening (line_text (x ∷ xs)) in
     record {
       taken = x ∷ xs;
       unread = unread;

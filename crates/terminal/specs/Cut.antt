@@ -13,5 +13,5 @@ abbrev pub blank_for_tab : ℕ → ℕ
 blank_for_tab b = if b == 9 then 32 else b
 
 -- the text of a line: a carriage return at its end is dropped
-abbrev pub text_of : List ℕ → List ℕ
-text_of bytes = strip_last 13 (map blank_for_tab bytes)
+abbrev pub line_text : List ℕ → List ℕ
+line_text bytes = strip_last 13 (map blank_for_tab bytes)

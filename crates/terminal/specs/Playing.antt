@@ -4,8 +4,8 @@ use Rattle.std.specs.Prelude.{◌≡◌, ℕ, zero, suc, Bool, true, false, ◌&
 use Rattle.number_io.specs.Taking.{up_to, from}
 use Rattle.block_words.specs.Words.{Answer}
 use Rattle.interpreter.specs.State.{Forth}
-use Rattle.interpreter.specs.Lines.{Ended, line_on, settled, Turn}
-use Rattle.terminal.specs.Cut.{text_of}
+use Rattle.interpreter.specs.Lines.{Ended, line_on, between_lines, Turn}
+use Rattle.terminal.specs.Cut.{line_text}
 use Rattle.terminal.specs.Sessions.{Session}
 
 -- the turns, the system after them, the input that is left, and whether each line took all that it was given
@@ -48,11 +48,11 @@ abbrev pub play : ℕ → Forth → (input : List ℕ) → List Answer → Playe
 play zero s input answers = record { turns = []; forth = s; left = input; whole = true }
 play (suc n) s [] answers = record { turns = []; forth = s; left = []; whole = true }
 play (suc n) s (b ∷ input) answers =
-    let bytes = text_of (up_to 10 (b ∷ input)) in
+    let bytes = line_text (up_to 10 (b ∷ input)) in
     let rest = drop 1 (from 10 (b ∷ input)) in
     let k = takes s bytes rest answers in
     let e = line_on s bytes (take k rest) answers in
-    with_turn (take k rest) e (play n (settled s.budget e) (drop k rest) e.world.run.answers)
+    with_turn (take k rest) e (play n (between_lines s.budget e) (drop k rest) e.world.run.answers)
 
 abbrev pub session : Forth → (input : List ℕ) → List Answer → Played
 session s input answers = play (length input) s input answers

@@ -4,7 +4,7 @@ use Rattle.std.specs.List.{flat_map}
 use Rattle.interpreter.specs.Turn.{Turn}
 use Rattle.interpreter.specs.TwelveLine.{System, Line}
 use Rattle.interpreter.specs.Terminal.{IsPrefix}
-use Rattle.terminal.specs.Cut.{IsFirstLine, text_of}
+use Rattle.terminal.specs.Cut.{IsFirstLine, line_text}
 
 -- what the turns printed
 abbrev pub output_of : List Turn → List ℕ
@@ -17,7 +17,7 @@ pub record FirstTurn (opening : System) (input : List ℕ) (turn : Turn) (left :
   pub first : IsFirstLine input bytes rest
   pub taken : rest ≡ turn.given ++ left
   pub at_end : IsTrue turn.at_end → left ≡ []
-  pub line : Line opening (text_of bytes) turn closing
+  pub line : Line opening (line_text bytes) turn closing
 
 -- the input takes the system from opening to closing in these turns, one for each line
 abbrev pub Session : System → List ℕ → List Turn → System → Type 0

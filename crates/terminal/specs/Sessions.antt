@@ -6,7 +6,7 @@ use Rattle.interpreter.specs.State.{Forth}
 use Rattle.interpreter.specs.Lines.{Turn, Line}
 use Rattle.interpreter.specs.Promise.{Rose, Begins}
 use Rattle.interpreter.specs.Law.{IsCalm}
-use Rattle.terminal.specs.Cut.{IsFirstLine, text_of}
+use Rattle.terminal.specs.Cut.{IsFirstLine, line_text}
 
 -- what the turns printed, and the saves that they began
 abbrev pub output_of : List Turn → List ℕ
@@ -22,7 +22,7 @@ pub record FirstTurn (opening : Forth) (input : List ℕ) (turn : Turn) (left : 
   pub first : IsFirstLine input bytes rest
   pub taken : rest ≡ turn.given ++ left
   pub at_end : turn.at_end ≡ true → left ≡ []
-  pub line : Line opening (text_of bytes) turn closing
+  pub line : Line opening (line_text bytes) turn closing
 
 -- the input takes the system from opening to closing in these turns, one for each line
 abbrev pub Session : Forth → List ℕ → List Turn → Forth → Type 0

@@ -1,4 +1,4 @@
-use Rattle.std.proofs.Common.{◌≡◌, true, List, ◌++◌, ap, subst}
+use Rattle.std.proofs.Common.{true, ◌++◌, ap, subst}
 use Rattle.std.specs.Prelude.{is_ok}
 use Rattle.block_words.specs.Words.{next_map}
 use Rattle.block_words.specs.Calls.{CallKeeps, save_begun}

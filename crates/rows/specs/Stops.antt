@@ -1,0 +1,133 @@
+-- A save that is stopped at every call, by the disk model and by what an image means. Where only two bytes of a sector
+-- tell something, it has two bytes here.
+use Rattle.std.specs.Prelude.{◌≡◌, ◌==◌, ◌&&◌, ◌||◌, ℕ, zero, suc, Bool, true, false, nat_eq, nat_lt, if◌then◌else◌, List, [], ◌∷◌, ◌++◌, codes, map, replicate, refl}
+use Rattle.std.specs.List.{flat_map, list_all}
+use lib.Pointwise.{pointwise}
+use Rattle.sector_disk.specs.Disk.{Image, Disk, written, settled}
+use Rattle.sector_disk.specs.Stop.{stopped}
+use Rattle.sector_disk.specs.declared.memory.Fate.{Fate}
+use Rattle.sector_disk.specs.declared.memory.Fate.TheVariants.{Lost, Kept, Torn}
+use Rattle.journal.specs.Layout.{label_of}
+use Rattle.journal.specs.Images.{block_of}
+
+pub data DiskCall : Type 0 where
+  Write : ℕ → List ℕ → DiskCall
+  Sync : DiskCall
+
+abbrev pub after_call : Disk → DiskCall → Disk
+after_call disk (Write k bytes) = written disk k bytes
+after_call disk Sync = settled disk
+
+abbrev pub after_calls : Disk → List DiskCall → Disk
+after_calls disk [] = disk
+after_calls disk (call ∷ calls) = after_calls (after_call disk call) calls
+
+-- a disk that holds this image, all of it synced
+abbrev pub synced_disk : Image → Disk
+synced_disk image = record { content = image; synced = image; unsynced = λ _. false }
+
+-- ---- what a stop leaves
+
+-- each unsynced sector below k lost, kept, or torn
+abbrev pub choices : Disk → ℕ → List (List Fate)
+choices disk zero = [] ∷ []
+choices disk (suc k) =
+    if disk.unsynced k then flat_map (λ fates. map (λ fate. fates ++ fate ∷ []) (Lost ∷ Kept ∷ Torn (255 ∷ 255 ∷ []) ∷ [])) (choices disk k)
+    else choices disk k
+
+abbrev pub every_way : Disk → List (List Fate)
+every_way disk = choices disk 131
+
+-- what a stop leaves where these fates are tried
+abbrev pub stops : (Disk → List (List Fate)) → Disk → List Image
+stops tried disk = map (stopped disk) (tried disk)
+
+-- the test holds of each image that a stop before, between, within or after these calls leaves
+abbrev pub at_each_stop : (Disk → List (List Fate)) → (Image → Bool) → Disk → List DiskCall → Bool
+at_each_stop tried test disk [] = list_all test (stops tried disk)
+at_each_stop tried test disk (call ∷ calls) = list_all test (stops tried disk) && at_each_stop tried test (after_call disk call) calls
+
+-- the bytes of the blocks 0 to 4, one after another
+abbrev pub first_blocks : Image → List ℕ
+first_blocks image = flat_map (block_of 32 image) (0 ∷ 1 ∷ 2 ∷ 3 ∷ 4 ∷ [])
+
+abbrev pub means_these : List ℕ → Image → Bool
+means_these bytes image = pointwise nat_eq (first_blocks image) bytes
+
+-- ---- a save of the blocks 1 and 2
+
+abbrev pub open_gate : List ℕ
+open_gate = codes "COMMIT83" ++ replicate 8 0
+
+abbrev pub closed_gate : List ℕ
+closed_gate = replicate 16 0
+
+-- blank home_writes, other bytes in the slots, and the record of an earlier save, which lists block 3
+abbrev pub first_image : Image
+first_image k =
+    if k == 0 then label_of 32 else (if k == 1 then closed_gate else (if k == 2 then 8 ∷ 0 ∷ [] else (if nat_lt k 67 then 83 ∷ 83 ∷ [] else 32 ∷ 32 ∷ [])))
+
+abbrev pub disk_at_rest : Disk
+disk_at_rest = synced_disk first_image
+
+abbrev pub old_blocks : List ℕ
+old_blocks = replicate 20 32
+
+abbrev pub new_blocks : List ℕ
+new_blocks = replicate 4 32 ++ replicate 4 65 ++ replicate 4 66 ++ replicate 8 32
+
+abbrev pub slot_writes : List DiskCall
+slot_writes = Write 5 (65 ∷ 65 ∷ []) ∷ Write 6 (65 ∷ 65 ∷ []) ∷ Write 7 (66 ∷ 66 ∷ []) ∷ Write 8 (66 ∷ 66 ∷ []) ∷ []
+
+abbrev pub the_record : DiskCall
+the_record = Write 2 (6 ∷ 0 ∷ [])
+
+abbrev pub home_writes : List DiskCall
+home_writes = Write 69 (65 ∷ 65 ∷ []) ∷ Write 70 (65 ∷ 65 ∷ []) ∷ Write 71 (66 ∷ 66 ∷ []) ∷ Write 72 (66 ∷ 66 ∷ []) ∷ []
+
+-- the order of a save
+abbrev pub a_save : List DiskCall
+a_save = slot_writes ++ the_record ∷ Sync ∷ Write 1 open_gate ∷ Sync ∷ home_writes ++ Sync ∷ Write 1 closed_gate ∷ Sync ∷ []
+
+abbrev pub all_or_nothing : List DiskCall → Bool
+all_or_nothing calls = at_each_stop every_way (λ image. means_these old_blocks image || means_these new_blocks image) disk_at_rest calls
+
+old_or_new : all_or_nothing a_save ≡ true
+old_or_new = refl
+
+-- once it is done, a stop leaves the new blocks alone
+new_alone : at_each_stop every_way (means_these new_blocks) (after_calls disk_at_rest a_save) [] ≡ true
+new_alone = refl
+
+-- a stop of the slot_writes, and of the record, leaves the old ones
+old_alone : at_each_stop every_way (means_these old_blocks) disk_at_rest (slot_writes ++ the_record ∷ []) ≡ true
+old_alone = refl
+
+-- ---- other orders lose blocks
+
+gate_before_the_record : all_or_nothing (slot_writes ++ Write 1 open_gate ∷ Sync ∷ the_record ∷ []) ≡ false
+gate_before_the_record = refl
+
+one_sync_for_record_and_gate : all_or_nothing (slot_writes ++ the_record ∷ Write 1 open_gate ∷ []) ≡ false
+one_sync_for_record_and_gate = refl
+
+homes_before_the_gate_is_synced : all_or_nothing (slot_writes ++ the_record ∷ Sync ∷ Write 1 open_gate ∷ home_writes) ≡ false
+homes_before_the_gate_is_synced = refl
+
+gate_closed_before_the_homes_are_synced : all_or_nothing (slot_writes ++ the_record ∷ Sync ∷ Write 1 open_gate ∷ Sync ∷ home_writes ++ Write 1 closed_gate ∷ []) ≡ false
+gate_closed_before_the_homes_are_synced = refl
+
+-- ---- a recovery of the image with an open gate
+
+abbrev pub disk_with_an_open_gate : Disk
+disk_with_an_open_gate = after_calls disk_at_rest (slot_writes ++ the_record ∷ Sync ∷ Write 1 open_gate ∷ Sync ∷ [])
+
+abbrev pub a_recovery : List DiskCall
+a_recovery = Sync ∷ home_writes ++ Sync ∷ Write 1 closed_gate ∷ Sync ∷ []
+
+always_new : at_each_stop every_way (means_these new_blocks) disk_with_an_open_gate a_recovery ≡ true
+always_new = refl
+
+-- stopped and begun again, it still leaves the new blocks
+begun_again : list_all (λ image. at_each_stop every_way (means_these new_blocks) (synced_disk image) a_recovery) (stops every_way (after_calls disk_with_an_open_gate (Sync ∷ home_writes))) ≡ true
+begun_again = refl
