@@ -6,7 +6,7 @@ use Rattle.std.specs.Prelude.{slice_index, nat_le, not, ◌==◌, if◌then◌el
 use Rattle.cell_machine.specs.Tree.{Trees, End, Lit, Call, Exit, Compile, append}
 use Rattle.cell_machine.specs.Words.{exit_token, compile_token}
 use Rattle.cell_machine.specs.Fault.{CodeFull, Unbalanced}
-use Rattle.cell_machine.specs.Layout.{Cell, IsIn, IsCalled, Reaches, literal_cell, most_cells}
+use Rattle.cell_machine.specs.Layout.{Cell, IsIn, IsCalled, IsAdded, Reaches, literal_cell, most_cells, most_tokens}
 use Rattle.cell_machine.proofs.Laid.{at_once, stays}
 use Rattle.compiler.specs.declared.Compiler.{Compiler}
 use Rattle.compiler.specs.declared.opens.Open.{Open}
@@ -203,9 +203,9 @@ adds_mark c old new op ma fits same a (Some d) h =
     )
 
 -- and the word after it is one that the body adds when it runs
-pub adds_marked : (c : Compiler) (old new : List ℕ) (w : ℕ) → c.is_open ≡ true → c.marked ≡ true → c.here + 1 ≤ most_cells → SameBelow c.here old new → slice_index new c.here ≡ w → Added c old (record c { here = c.here + 1; marked = false }) new (λ used. add_word used w)
-adds_marked c old new w op ma fits same a None h = absurd (cc)
-adds_marked c old new w op ma fits same a (Some d) h =
+pub adds_marked : (c : Compiler) (old new : List ℕ) (w : ℕ) → IsAdded w → c.is_open ≡ true → c.marked ≡ true → c.here + 1 ≤ most_cells → SameBelow c.here old new → slice_index new c.here ≡ w → Added c old (record c { here = c.here + 1; marked = false }) new (λ used. add_word used w)
+adds_marked c old new w token op ma fits same a None h = absurd (cc)
+adds_marked c old new w token op ma fits same a (Some d) h =
     let r = h.1 in
     let size : c.start + d.cells ≡ c.here = r.size in
     let m : d.marked ≡ true = sym r.marked ∙ ma in
@@ -228,7 +228,7 @@ adds_marked c old new w op ma fits same a (Some d) h =
     record {
       longer = omega arith;
       still = record { cell = compile_token; holds = mark; no_jump = omega arith; no_back = omega arith };
-      lies = at_once _ r.end (mark, word, subst (λ n. Reaches (Cell new r.end (c.here + 1) r.waiting) n (c.here + 1)) here (stays _ (c.here + 1)));
+      lies = at_once _ r.end (mark, word, subst (λ n. Reaches (Cell new r.end (c.here + 1) r.waiting) n (c.here + 1)) here (stays _ (c.here + 1)), token);
     }
     in
     let part : c.part ≤ r.end = stands_le old r.waiting c.leaves c.part d.begun c.opens d.trees r.end r.stands in (
@@ -261,7 +261,7 @@ pub for_equal : (c : Compiler) (old : List ℕ) (a b : Compiler) (new : List ℕ
 for_equal c old a b new add e h = subst (λ s. Added c old s new add) (sym e) h
 
 -- any word but COMPILE
-pub adds_word : (c : Compiler) (old new : List ℕ) (w : ℕ) → 0 < w → w ≤ 4096 → w ≢ compile_token → (w ≡ exit_token → c.leaves ≡ None) → c.is_open ≡ true → c.marked ≡ false → c.here + 1 ≤ most_cells → SameBelow c.here old new → slice_index new c.here ≡ w → Added c old (record c { here = c.here + 1 }) new (λ used. add_word used w)
+pub adds_word : (c : Compiler) (old new : List ℕ) (w : ℕ) → 0 < w → w ≤ most_tokens → w ≢ compile_token → (w ≡ exit_token → c.leaves ≡ None) → c.is_open ≡ true → c.marked ≡ false → c.here + 1 ≤ most_cells → SameBelow c.here old new → slice_index new c.here ≡ w → Added c old (record c { here = c.here + 1 }) new (λ used. add_word used w)
 adds_word c old new w from most n out op ma fits same a =
     ⊎_elim
     (λ (e : w ≡ exit_token).

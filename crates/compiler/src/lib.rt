@@ -3,7 +3,7 @@
 
 ghost use Rattle.std.specs.Prelude.{◌≡◌, ◌≢◌, ◌+◌, ◌<◌, ◌≤◌, ℕ, List, [], ◌∷◌, length, slice_index, true, false, None, Some, OnOk, IfOk, IfErr, Option, is_some};
 ghost use Rattle.cell_machine.specs.Tree.{ByOne, ByTop};
-ghost use Rattle.cell_machine.specs.Layout.{text_cell, end_of};
+ghost use Rattle.cell_machine.specs.Layout.{text_cell, end_of, most_tokens};
 ghost use Rattle.compiler.specs.Definition.{Definition, add_literal, add_word, add_text, add_if, add_else, add_then, add_begin, add_until, add_while, add_repeat, add_do, add_loop, add_leave, add_does, end_definition};
 ghost use Rattle.compiler.specs.Represents.{IsSound, IsClosed, Holds, used, name_of};
 ghost use Rattle.compiler.specs.Promise.{SameBelow, Added, Refused, BodiesStay, Opened, NotOpened, Finished, kind_of, loop_kind_of};
@@ -178,7 +178,7 @@ impl Compiler {
     pub fn call(&mut self, code: &mut Code, token: u16) -> Result<(), Refusal>
         requires sound { IsSound self.old code.old }
         requires from { 0 < token }
-        requires most { token ≤ 4096 }
+        requires most { token ≤ most_tokens }
         ensures added { OnOk result (Added self.old code.old self.new code.new (λ used. add_word used token)) }
         ensures refused { IfErr result (Refused self.old code.old self.new code.new (λ used. add_word used token)) }
         ensures bodies { BodiesStay self.old code.old self.new code.new }

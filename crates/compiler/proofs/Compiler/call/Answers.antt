@@ -22,7 +22,7 @@ returns-in_err-room-clause-refused c =
 pub returns-then-self-clause-added : goal.returns-then-self-clause-added
 returns-then-self-clause-added c =
     let s = c.args.self.now in
-    adds_marked s c.args.code.now c.set.new.self c.args.token (search rules) (search rules) (search rules)
+    adds_marked s c.args.code.now c.set.new.self c.args.token (record { above = c.requires.from; most = c.requires.most }) (search rules) (search rules) (search rules)
     (record { same = λ y l. let n : y ≢ s.here = omega arith in c.set.ensures.others y n }) c.set.ensures.stored
 
 pub returns-then-token-eq-COMPILE-clause-added : goal.returns-then-token-eq-COMPILE-clause-added
