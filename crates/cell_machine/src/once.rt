@@ -12,8 +12,32 @@ use crate::operands::Operands;
 use data_space::DataSpace;
 use stacks::ReturnStack;
 
-/// A word by itself: nothing is put aside for it.
+/// A word by itself: nothing is put aside for it. It works on copies, so that the loop over the cells of a body, which
+/// goes on with the same operands, can keep them in registers.
+#[inline(always)]
 pub fn once(
+    word: u16,
+    operands: &mut Operands,
+    places: &mut [u16],
+    returns: &ReturnStack,
+    space: &mut DataSpace,
+    budget: &mut u32,
+) -> Result<(), Event>
+    requires sized { length places.old ≡ 257 }
+    ensures did { OnOk result (OnceDid word (units returns.now) (core_of (held places.old operands.old.depth operands.old.top) space.old budget.old) (core_of (held places.new operands.new.depth operands.new.top) space.new budget.new)) }
+    ensures ended { IfErr result (λ e. OnceEnded word e (units returns.now) (core_of (held places.old operands.old.depth operands.old.top) space.old budget.old) (core_of (held places.new operands.new.depth operands.new.top) space.new budget.new)) }
+{
+    let mut kept = *operands;
+    let mut left = *budget;
+    let done = alone(word, &mut kept, places, returns, space, &mut left);
+    *operands = kept;
+    *budget = left;
+    done
+}
+
+/// A word by itself, by its token.
+#[inline(never)]
+fn alone(
     word: u16,
     operands: &mut Operands,
     places: &mut [u16],
