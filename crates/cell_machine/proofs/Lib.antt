@@ -18,6 +18,10 @@ pub mod Tokens
 pub mod Strides
 pub mod Onces
 pub mod Enters
+pub mod Paid
+pub mod Asking
+pub mod Calling
+pub mod Served
 pub mod Deeds
 pub mod Shapes
 pub mod Trims

@@ -12,4 +12,7 @@ pub mod Events
 pub mod Deeds
 pub mod Layout
 pub mod Levels
+pub mod Calling
 pub mod Moves
+pub mod Passes
+pub mod Served

@@ -2,6 +2,7 @@
 #![tactic(auto)]
 
 mod aside;
+pub mod calls;
 pub mod cells;
 pub mod code;
 mod control;
