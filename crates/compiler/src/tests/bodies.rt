@@ -250,92 +250,46 @@ const LEAVES: [Body; 6] = [
     ),
 ];
 
+const CHOICE: &[Step] = &[If, Literal(1), Else, Literal(2), Then];
+
+const CHOICE_WITHIN: &[Step] = &[
+    If,
+    If,
+    Literal(1),
+    Else,
+    Literal(2),
+    Then,
+    Else,
+    Literal(3),
+    Then,
+];
+
 const CHOICES: [Body; 13] = [
     (&[], &[7], &[], &[7], 0),
-    (
-        &[If, Literal(1), Else, Literal(2), Then],
-        &[0],
-        &[],
-        &[2],
-        2,
-    ),
-    (
-        &[If, Literal(1), Else, Literal(2), Then],
-        &[1],
-        &[],
-        &[1],
-        2,
-    ),
-    (
-        &[If, Literal(1), Else, Literal(2), Then],
-        &[256],
-        &[],
-        &[1],
-        2,
-    ),
-    (
-        &[If, Literal(1), Else, Literal(2), Then],
-        &[32768],
-        &[],
-        &[1],
-        2,
-    ),
+    (CHOICE, &[0], &[], &[2], 2),
+    (CHOICE, &[1], &[], &[1], 2),
+    (CHOICE, &[256], &[], &[1], 2),
+    (CHOICE, &[32768], &[], &[1], 2),
     (&[If, Literal(1), Then], &[0], &[], &[], 1),
     (&[If, Literal(1), Then], &[65535], &[], &[1], 2),
     (&[If, Else, Then], &[0], &[], &[], 1),
     (&[If, Else, Then], &[1], &[], &[], 1),
-    (
-        &[
-            If,
-            If,
-            Literal(1),
-            Else,
-            Literal(2),
-            Then,
-            Else,
-            Literal(3),
-            Then,
-        ],
-        &[0],
-        &[],
-        &[3],
-        2,
-    ),
-    (
-        &[
-            If,
-            If,
-            Literal(1),
-            Else,
-            Literal(2),
-            Then,
-            Else,
-            Literal(3),
-            Then,
-        ],
-        &[0, 1],
-        &[],
-        &[2],
-        3,
-    ),
-    (
-        &[
-            If,
-            If,
-            Literal(1),
-            Else,
-            Literal(2),
-            Then,
-            Else,
-            Literal(3),
-            Then,
-        ],
-        &[1, 1],
-        &[],
-        &[1],
-        3,
-    ),
+    (CHOICE_WITHIN, &[0], &[], &[3], 2),
+    (CHOICE_WITHIN, &[0, 1], &[], &[2], 3),
+    (CHOICE_WITHIN, &[1, 1], &[], &[1], 3),
     (&[If, Begin, DUP, Until, Then], &[7, 1], &[], &[7], 3),
+];
+
+const COUNT_DOWN: &[Step] = &[
+    Begin,
+    DUP,
+    ZERO_GREATER,
+    While,
+    DUP,
+    DOT,
+    ONE_MINUS,
+    Repeat,
+    DROP,
 ];
 
 const REPEATS: [Body; 5] = [
@@ -346,57 +300,9 @@ const REPEATS: [Body; 5] = [
         &[],
         19,
     ),
-    (
-        &[
-            Begin,
-            DUP,
-            ZERO_GREATER,
-            While,
-            DUP,
-            DOT,
-            ONE_MINUS,
-            Repeat,
-            DROP,
-        ],
-        &[3],
-        &[3, 2, 1],
-        &[],
-        22,
-    ),
-    (
-        &[
-            Begin,
-            DUP,
-            ZERO_GREATER,
-            While,
-            DUP,
-            DOT,
-            ONE_MINUS,
-            Repeat,
-            DROP,
-        ],
-        &[0],
-        &[],
-        &[],
-        4,
-    ),
-    (
-        &[
-            Begin,
-            DUP,
-            ZERO_GREATER,
-            While,
-            DUP,
-            DOT,
-            ONE_MINUS,
-            Repeat,
-            DROP,
-        ],
-        &[65535],
-        &[],
-        &[],
-        4,
-    ),
+    (COUNT_DOWN, &[3], &[3, 2, 1], &[], 22),
+    (COUNT_DOWN, &[0], &[], &[], 4),
+    (COUNT_DOWN, &[65535], &[], &[], 4),
     (
         &[
             Begin,
@@ -448,6 +354,27 @@ const EXITS: [Body; 6] = [
     (&[DUP, If, ONE_MINUS, ITSELF, Then], &[0], &[], &[0], 2),
     // all 256 units
     (&[DUP, If, ONE_MINUS, ITSELF, Then], &[255], &[], &[0], 1022),
+];
+
+// a word by its token, in the middle of a body
+const EXECUTED: [Body; 5] = [
+    (&[Literal(36), EXECUTE], &[7], &[], &[7, 7], 3),
+    (&[Literal(5), EXECUTE, DUP], &[3, 4], &[], &[7, 7], 4),
+    (&[Literal(78), EXECUTE, Literal(5)], &[7], &[7], &[5], 4),
+    (
+        &[Literal(2), Literal(0), Do, Literal(36), EXECUTE, Loop],
+        &[7],
+        &[],
+        &[7, 7, 7],
+        11,
+    ),
+    (
+        &[DUP, If, ONE_MINUS, Literal(133), EXECUTE, Then],
+        &[255],
+        &[],
+        &[0],
+        1277,
+    ),
 ];
 
 const ASIDE: [Body; 6] = [
@@ -581,6 +508,7 @@ fn tests_choose(rt: HostRuntime) -> Result<(), Fail> {
 #[test]
 fn bodies_call_and_exit(rt: HostRuntime) -> Result<(), Fail> {
     assert_eq!(rt; first_wrong(rt.alloc(), &EXITS)?, None, "EXIT");
+    assert_eq!(rt; first_wrong(rt.alloc(), &EXECUTED)?, None, "EXECUTE");
     assert_eq!(rt; first_wrong(rt.alloc(), &ASIDE)?, None, ">R");
     Ok(())
 }

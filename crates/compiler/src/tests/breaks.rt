@@ -111,7 +111,7 @@ const ASIDE: [Broken; 17] = [
 ];
 
 // a call reaches nothing below its own list, and the 257th unit is refused
-const UNITS: [Broken; 5] = [
+const UNITS: [Broken; 6] = [
     (
         &[If, R_FROM, Else, Literal(7), TO_R, Literal(1), ITSELF, Then],
         &[0],
@@ -138,6 +138,7 @@ const UNITS: [Broken; 5] = [
         RETURN_STACK,
     ),
     (&[ITSELF], &[], &[], 256, RETURN_STACK),
+    (&[Literal(133), EXECUTE], &[], &[], 512, RETURN_STACK),
     (
         &[Begin, DUP, While, DUP, TO_R, ONE_MINUS, Repeat],
         &[256],
@@ -217,7 +218,35 @@ const FULL: [Broken; 7] = [
     (&[Does, DROP], &ALL_CELLS, &[], 0, STACK_FULL),
 ];
 
-const OTHERS: [Broken; 8] = [
+const OTHERS: [Broken; 12] = [
+    (
+        &[Literal(35), EXECUTE, Literal(5), DOT],
+        &[],
+        &[],
+        3,
+        STACK_EMPTY,
+    ),
+    (
+        &[Literal(97), EXECUTE, Literal(5), DOT],
+        &[],
+        &[],
+        3,
+        Event::Quit,
+    ),
+    (
+        &[Literal(8), EXECUTE, Literal(5), DOT],
+        &[1, 0],
+        &[],
+        3,
+        Event::Fault(MachineFault::Division),
+    ),
+    (
+        &[Literal(62), EXECUTE, Literal(5), DOT],
+        &[7],
+        &[],
+        3,
+        Event::Service(Op::Word(62)),
+    ),
     (
         &[Begin, Literal(0), Until],
         &[],

@@ -22,6 +22,8 @@ const CREATE: u16 = 113;
 
 const DOT: u16 = 78;
 
+const EXECUTE: u16 = 37;
+
 const ITSELF: u16 = 133;
 
 /// Where the data field of the word that a part belongs to begins.
@@ -159,6 +161,21 @@ impl Session {
         Ok(())
     }
 
+    /// `EXECUTE`
+    fn execute(&mut self, code: &Code, body: u16) -> Result<(), Event>
+        requires going { IsGoing code.now self.old.machine self.old.returns }
+        requires idle { self.old.machine.pending ≡ None }
+        requires body { IsBody code.now body }
+        ensures { OnOk result (IsGoing code.now self.new.machine self.new.returns) }
+    {
+        let token = self.take()?;
+        if token == ITSELF {
+            self.call(code, Work::Body(body))
+        } else {
+            self.call(code, Work::Primitive(token))
+        }
+    }
+
     /// Does a service.
     fn serve(&mut self, code: &Code, body: u16, op: Op) -> Result<(), Event>
         requires going { IsGoing code.now self.old.machine self.old.returns }
@@ -169,6 +186,7 @@ impl Session {
     {
         match op {
             Op::Word(ITSELF) => self.call(code, Work::Body(body)),
+            Op::Word(EXECUTE) => self.execute(code, body),
             Op::Word(DOT) => self.print(),
             Op::Word(COMMA) => self.comma(),
             Op::Word(CREATE) => Ok(()),

@@ -24,6 +24,8 @@ pub const DROP: Step = Step::Word(35);
 
 pub const DUP: Step = Step::Word(36);
 
+pub const EXECUTE: Step = Step::Word(37);
+
 pub const EXIT: Step = Step::Word(38);
 
 pub const I: Step = Step::Word(40);
