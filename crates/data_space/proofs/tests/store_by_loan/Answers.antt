@@ -1,4 +1,4 @@
-use Rattle.std.proofs.Common.{◌≡◌, ap, ◌∙◌, length, slice_set, arith}
+use Rattle.std.proofs.Common.{ap, ◌∙◌, slice_set}
 use Rattle.std.proofs.lemmas.List.{take_at, length-set}
 use Rattle.data_space.specs.Space.{with_byte}
 use Rattle.data_space.proofs.tests.store_by_loan.Goals as goal
