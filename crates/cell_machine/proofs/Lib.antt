@@ -7,6 +7,7 @@ pub mod Lasts
 pub mod Linked
 pub mod Divides
 pub mod Laid
+pub mod Staying
 pub mod Texts
 pub mod Steps
 pub mod Sights

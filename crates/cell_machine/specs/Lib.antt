@@ -9,6 +9,7 @@ pub mod Effects
 pub mod Frames
 pub mod Value
 pub mod Events
+pub mod Staying
 pub mod Deeds
 pub mod Layout
 pub mod Levels
