@@ -1,3 +1,4 @@
 pub mod Stacks
 pub mod Places
 pub mod Lending
+pub mod Entries

@@ -20,6 +20,11 @@ abbrev pub units : List Entry → ℕ
 units [] = 0
 units (entry ∷ entries) = entry_units entry + units entries
 
+-- the top, or a load where there is none
+abbrev pub top_or_load : List Entry → Entry
+top_or_load [] = LoadOf 0 0
+top_or_load (entry ∷ entries) = entry
+
 -- the top is a loop
 abbrev pub has_loop : List Entry → Bool
 has_loop (LoopOf limit index ∷ entries) = true

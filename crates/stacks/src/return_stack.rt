@@ -1,13 +1,16 @@
 //! The return stack.
-ghost use Rattle.std.specs.Prelude.{◌≡◌, ◌+◌, ◌<◌, ◌≤◌, ◌↔◌, [], ◌∷◌, length, slice_get, IsTrue, IsOk, OnOk, OnErr, IfOk, IfErr, if◌then◌else◌};
-ghost use Rattle.stacks.specs.Stacks.{units, entry_units, has_loop, with_index};
+ghost use Rattle.std.specs.Prelude.{◌≡◌, ◌≢◌, ◌+◌, ◌<◌, ◌≤◌, ◌↔◌, [], ◌∷◌, ℕ, length, slice_get, IsTrue, IsOk, OnOk, OnErr, IfOk, IfErr, IfSome, IfNone, if◌then◌else◌};
+ghost use Rattle.stacks.specs.Stacks.{units, entry_units, has_loop, with_index, top_or_load};
 
 use super::StackFault;
-use arrayvec::ArrayVec;
 use std::marker::Model;
 
 /// How many units the return stack holds at most, by this project's profile.
 pub const CAPACITY: usize = 256;
+
+/// How many places the entries lie in, one for each unit. Place 0 is below the bottom, where a load stands that is no
+/// entry: a look at the top needs no case for the empty stack.
+const PLACES: usize = CAPACITY + 1;
 
 /// What is left to do, or kept for it.
 #[derive(Clone, Copy, Debug, PartialEq, Eq)]
@@ -48,21 +51,23 @@ impl Entry {
 /// A stack of entries that take up to 256 units in all. Contracts see it as a list, the top first.
 #[derive(Drop)]
 pub struct ReturnStack {
-    entries: ArrayVec<Entry, CAPACITY>,
+    // an entry lies at the place of its last unit, so the place of the top is the number of all units
+    places: [Entry; PLACES],
     units: usize,
 }
 
 impl Model for ReturnStack {
-    ghost use Rattle.std.specs.Prelude.{List, reverse, ◌≡◌, ◌≤◌};
+    ghost use Rattle.std.specs.Prelude.{List, ◌≡◌, ◌≤◌};
     ghost use Rattle.stacks.specs.declared.return_stack.Entry.{Entry};
+    ghost use Rattle.stacks.specs.Entries.{entries_in, IsGround};
 
     ghost Value = { List Entry };
 
     ghost use Rattle.stacks.specs.Stacks.{units as units_of};
 
-    ghost view = { λ s. reverse s.entries.items };
+    ghost view = { λ s. entries_in 256 s.places s.units };
 
-    ghost invariant = { λ s. (s.units ≡ units_of (reverse s.entries.items)) × (s.units ≤ 256) };
+    ghost invariant = { λ s. (units_of (entries_in 256 s.places s.units) ≡ s.units) × (s.units ≤ 256) × IsGround s.places };
 }
 
 impl ReturnStack {
@@ -71,13 +76,13 @@ impl ReturnStack {
         ensures { result ≡ [] }
     {
         ReturnStack {
-            entries: ArrayVec::new(),
+            places: [Entry::Load { block: 0, to_in: 0 }; PLACES],
             units: 0,
         }
     }
 
     /// How many units all entries take, from 0 to 256.
-    #[inline]
+    #[inline(always)]
     pub fn units(&self) -> usize
         ensures value { result ≡ units self.now }
         ensures fits { result ≤ 256 }
@@ -86,7 +91,7 @@ impl ReturnStack {
     }
 
     /// Puts an entry on top. `Full` where it would need more units than are left; the stack then is as it was.
-    #[inline]
+    #[inline(always)]
     pub fn push(&mut self, entry: Entry) -> Result<(), StackFault>
         ensures room { IsOk result ↔ (units self.old + entry_units entry ≤ 256) }
         ensures ok { OnOk result (self.new ≡ entry ∷ self.old) }
@@ -97,13 +102,13 @@ impl ReturnStack {
         if units > CAPACITY {
             return Err(StackFault::Full);
         }
+        self.places[units] = entry;
         self.units = units;
-        self.entries.push(entry);
         Ok(())
     }
 
     /// Takes the top entry. `Empty` where there is none.
-    #[inline]
+    #[inline(always)]
     pub fn pop(&mut self) -> Result<Entry, StackFault>
         ensures ok { IfOk result (λ entry. self.old ≡ entry ∷ self.new) }
         ensures empty { OnErr result (self.old ≡ []) }
@@ -111,56 +116,77 @@ impl ReturnStack {
         ensures fault { IfErr result (λ fault. fault ≡ StackFault.Empty) }
         ensures bound { units self.old ≤ 256 }
     {
-        match self.entries.pop() {
-            Some(entry) => {
-                self.units -= entry.units();
-                Ok(entry)
-            }
-            None => Err(StackFault::Empty),
+        if self.units == 0 {
+            return Err(StackFault::Empty);
         }
+        let entry = self.places[self.units];
+        self.units -= entry.units();
+        Ok(entry)
+    }
+
+    /// Takes the call on top, and gives the place to go on at. None where the top is no call; then nothing is changed.
+    #[inline(always)]
+    pub fn end_call(&mut self) -> Option<u16>
+        ensures ok { IfSome result (λ back. self.old ≡ Entry.Call back ∷ self.new) }
+        ensures other { IfNone result ((back : ℕ) → top_or_load self.old ≢ Entry.Call back) }
+        ensures none { IfNone result (self.new ≡ self.old) }
+        ensures bound { units self.old ≤ 256 }
+    {
+        let Entry::Call(back) = self.places[self.units] else {
+            return None;
+        };
+        self.units -= 1;
+        Some(back)
     }
 
     /// The top entry. `Empty` where there is none.
-    #[inline]
+    #[inline(always)]
     pub fn top(&self) -> Result<Entry, StackFault>
         ensures ok { IfOk result (λ entry. Some entry ≡ slice_get self.now 0) }
         ensures empty { OnErr result (self.now ≡ []) }
         ensures fault { IfErr result (λ fault. fault ≡ StackFault.Empty) }
     {
-        match self.entries.last() {
-            Some(entry) => Ok(*entry),
-            None => Err(StackFault::Empty),
+        if self.units == 0 {
+            return Err(StackFault::Empty);
         }
+        Ok(self.places[self.units])
+    }
+
+    /// The top entry, or a load where there is none.
+    #[inline(always)]
+    pub fn peek(&self) -> Entry
+        ensures { result ≡ top_or_load self.now }
+    {
+        self.places[self.units]
     }
 
     /// The entry below the top. `Empty` where there are fewer than two.
-    #[inline]
+    #[inline(always)]
     pub fn second(&self) -> Result<Entry, StackFault>
         ensures two { IsOk result ↔ (1 < length self.now) }
         ensures ok { IfOk result (λ entry. Some entry ≡ slice_get self.now 1) }
         ensures fault { IfErr result (λ fault. fault ≡ StackFault.Empty) }
     {
-        let length = self.entries.len();
-        if length < 2 {
+        if self.units == 0 {
             return Err(StackFault::Empty);
         }
-        Ok(self.entries[length - 2])
+        let below = self.units - self.places[self.units].units();
+        if below == 0 {
+            return Err(StackFault::Empty);
+        }
+        Ok(self.places[below])
     }
 
     /// Gives the loop on top another index. False where the top is no loop; then nothing is changed.
-    #[inline]
+    #[inline(always)]
     pub fn set_index(&mut self, index: u16) -> bool
         ensures top { result ≡ has_loop self.old }
         ensures after { self.new ≡ (if result then with_index index self.old else self.old) }
     {
-        let length = self.entries.len();
-        if length == 0 {
-            return false;
-        }
-        let Entry::Loop { limit, .. } = self.entries[length - 1] else {
+        let Entry::Loop { limit, .. } = self.places[self.units] else {
             return false;
         };
-        self.entries[length - 1] = Entry::Loop { limit, index };
+        self.places[self.units] = Entry::Loop { limit, index };
         true
     }
 
@@ -168,7 +194,6 @@ impl ReturnStack {
     pub fn clear(&mut self)
         ensures { self.new ≡ [] }
     {
-        self.entries.clear();
         self.units = 0;
     }
 }

@@ -1,0 +1,19 @@
+-- The places that the entries of the return stack lie in.
+use Rattle.std.specs.Prelude.{◌≡◌, ℕ, zero, suc, ◌-◌, List, [], ◌∷◌, length, slice_index_or}
+use Rattle.stacks.specs.declared.return_stack.Entry.{Entry}
+use Rattle.stacks.specs.declared.return_stack.Entry.TheVariants.{Call, Load}
+use Rattle.stacks.specs.Stacks.{entry_units}
+
+abbrev pub entry_at : List Entry → ℕ → Entry
+entry_at places at = slice_index_or places at (Call 0)
+
+-- at most this many entries, the top at place `top`, each of the others where the one above it begins
+unfoldable pub entries_in : (most : ℕ) → List Entry → (top : ℕ) → List Entry
+entries_in zero places top = []
+entries_in (suc most) places zero = []
+entries_in (suc most) places (suc k) = entry_at places (suc k) ∷ entries_in most places (suc k - entry_units (entry_at places (suc k)))
+
+-- 257 places, with a load below the bottom
+pub record IsGround (places : List Entry) : Type 0 where
+  pub size : length places ≡ 257
+  pub below : entry_at places 0 ≡ Load 0 0
