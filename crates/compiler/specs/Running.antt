@@ -1,6 +1,8 @@
 -- A finished body that runs.
 use Rattle.std.specs.Prelude.{ℕ, List, ◌∷◌}
 use Rattle.stacks.specs.declared.return_stack.Entry.{Entry}
+use Rattle.cell_machine.specs.declared.event.Event.{Event}
+use Rattle.cell_machine.specs.declared.event.Event.TheVariants as event
 use Rattle.cell_machine.specs.declared.event.Op.{Op}
 use Rattle.cell_machine.specs.declared.event.Op.TheVariants as op
 use Rattle.cell_machine.specs.declared.event.Work.{Work}
@@ -23,6 +25,11 @@ IsBody code place = (owner : ℕ) × (part : Trees) × (parts : List Trees) × B
 -- what is left for the machine to do lies in such bodies
 abbrev pub IsGoing : (code : List ℕ) → Machine → List Entry → Type 0
 IsGoing code machine entries = (levels : List Level) × Left code owner_of machine.pending machine.place entries levels
+
+-- where nothing is left above a load, what stands around the load is left
+abbrev pub IsOver : (code : List ℕ) → Event → Machine → List Entry → Type 0
+IsOver code event.Done machine entries = IsGoing code machine entries
+IsOver code _ machine entries = Unit {0}
 
 -- what a service finds in the cells
 abbrev pub IsAsked : (code : List ℕ) → Op → Type 0

@@ -377,6 +377,30 @@ const EXECUTED: [Body; 5] = [
     ),
 ];
 
+// a load of block 0 is nothing, and one of another block calls the body
+const LOADS: [Body; 5] = [
+    (&[Literal(0), LOAD, Literal(2), DOT], &[], &[2], &[], 4),
+    (
+        &[Literal(7), TO_R, Literal(0), LOAD, R_FROM],
+        &[],
+        &[],
+        &[7],
+        5,
+    ),
+    (
+        &[Literal(2), Literal(0), Do, I, Literal(0), LOAD, DOT, Loop],
+        &[],
+        &[0, 1],
+        &[],
+        13,
+    ),
+    (LOAD_OFTEN, &[3], &[], &[0], 17),
+    // a load takes two units
+    (LOAD_OFTEN, &[85], &[], &[0], 427),
+];
+
+const LOAD_OFTEN: &[Step] = &[DUP, If, ONE_MINUS, Literal(1), LOAD, Then];
+
 const ASIDE: [Body; 6] = [
     (&[TO_R, R_FETCH, R_FROM], &[7], &[], &[7, 7], 3),
     (&[TO_R, TO_R, R_FROM, R_FROM], &[1, 2], &[], &[1, 2], 4),
@@ -509,6 +533,7 @@ fn tests_choose(rt: HostRuntime) -> Result<(), Fail> {
 fn bodies_call_and_exit(rt: HostRuntime) -> Result<(), Fail> {
     assert_eq!(rt; first_wrong(rt.alloc(), &EXITS)?, None, "EXIT");
     assert_eq!(rt; first_wrong(rt.alloc(), &EXECUTED)?, None, "EXECUTE");
+    assert_eq!(rt; first_wrong(rt.alloc(), &LOADS)?, None, "LOAD");
     assert_eq!(rt; first_wrong(rt.alloc(), &ASIDE)?, None, ">R");
     Ok(())
 }

@@ -111,7 +111,32 @@ const ASIDE: [Broken; 17] = [
 ];
 
 // a call reaches nothing below its own list, and the 257th unit is refused
-const UNITS: [Broken; 6] = [
+const UNITS: [Broken; 8] = [
+    (
+        &[DUP, If, ONE_MINUS, Literal(1), LOAD, Then],
+        &[86],
+        &[],
+        430,
+        RETURN_STACK,
+    ),
+    // nor does a load reach below itself
+    (
+        &[
+            If,
+            R_FROM,
+            Else,
+            Literal(7),
+            TO_R,
+            Literal(1),
+            Literal(1),
+            LOAD,
+            Then,
+        ],
+        &[0],
+        &[],
+        8,
+        RETURN_STACK,
+    ),
     (
         &[If, R_FROM, Else, Literal(7), TO_R, Literal(1), ITSELF, Then],
         &[0],

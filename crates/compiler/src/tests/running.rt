@@ -1,9 +1,9 @@
-//! A body that is compiled and run. It is that of word 133, so a call of 133 in it is a call of itself. `.` and `,` and
-//! texts are done here, and a part is run where `DOES>` gives it.
+//! A body that is compiled and run. It is that of word 133, so a call of 133 in it is a call of itself. `.`, `,`,
+//! `EXECUTE`, `LOAD` and texts are done here, and a part is run where `DOES>` gives it.
 
-ghost use Rattle.std.specs.Prelude.{◌≡◌, [], None, OnOk, IfOk};
+ghost use Rattle.std.specs.Prelude.{◌≡◌, [], None, OnOk, IfOk, IfErr};
 ghost use Rattle.compiler.specs.Represents.{IsSound};
-ghost use Rattle.compiler.specs.Running.{IsBody, IsGoing, IsAsked, IsWork};
+ghost use Rattle.compiler.specs.Running.{IsBody, IsGoing, IsAsked, IsOver, IsWork};
 
 use super::support::{Step, apply_all, begin};
 use crate::{Compiler, Refusal};
@@ -12,7 +12,7 @@ use cell_machine::code::Code;
 use cell_machine::event::{Event, MachineFault, Op, Work};
 use cell_machine::machine::Machine;
 use data_space::DataSpace;
-use stacks::{DataStack, ReturnStack};
+use stacks::{DataStack, Entry, ReturnStack};
 use std::alloc::Global;
 use std::test::Fail;
 
@@ -23,6 +23,8 @@ const CREATE: u16 = 113;
 const DOT: u16 = 78;
 
 const EXECUTE: u16 = 37;
+
+const LOAD: u16 = 95;
 
 const ITSELF: u16 = 133;
 
@@ -116,6 +118,7 @@ impl Session {
         ensures going { OnOk result (IsGoing code.now self.new.machine self.new.returns) }
         ensures idle { self.new.machine.pending ≡ None }
         ensures asked { IfOk result (λ op. IsAsked code.now op) }
+        ensures over { IfErr result (λ event. IsOver code.now event self.new.machine self.new.returns) }
     {
         let event = self.machine.resume(
             code,
@@ -126,7 +129,10 @@ impl Session {
         );
         match event {
             Event::Service(op) => Ok(op),
-            event => Err(event),
+            Event::Done => Err(Event::Done),
+            Event::Quit => Err(Event::Quit),
+            Event::Abort => Err(Event::Abort),
+            Event::Fault(fault) => Err(Event::Fault(fault)),
         }
     }
 
@@ -176,6 +182,46 @@ impl Session {
         }
     }
 
+    /// `LOAD`: the text of block 0 is empty, and that of each other block calls the body.
+    fn load(&mut self, code: &Code, body: u16) -> Result<(), Event>
+        requires going { IsGoing code.now self.old.machine self.old.returns }
+        requires idle { self.old.machine.pending ≡ None }
+        requires body { IsBody code.now body }
+        ensures { OnOk result (IsGoing code.now self.new.machine self.new.returns) }
+    {
+        let block = self.take()?;
+        self.enter_load(code, block)?;
+        if block == 0 {
+            return Ok(());
+        }
+        self.call(code, Work::Body(body))
+    }
+
+    /// A load stands before what was left.
+    fn enter_load(&mut self, code: &Code, block: u16) -> Result<(), Event>
+        requires going { IsGoing code.now self.old.machine self.old.returns }
+        requires idle { self.old.machine.pending ≡ None }
+        ensures going { OnOk result (IsGoing code.now self.new.machine self.new.returns) }
+        ensures idle { self.new.machine.pending ≡ None }
+    {
+        match self.returns.push(Entry::Load { block, to_in: 0 }) {
+            Ok(()) => Ok(()),
+            Err(_) => Err(Event::Fault(MachineFault::ReturnStack)),
+        }
+    }
+
+    /// The end of a load, or of all.
+    fn leave_load(&mut self, code: &Code) -> Result<(), Event>
+        requires going { IsGoing code.now self.old.machine self.old.returns }
+        requires idle { self.old.machine.pending ≡ None }
+        ensures { OnOk result (IsGoing code.now self.new.machine self.new.returns) }
+    {
+        match self.returns.pop() {
+            Ok(Entry::Load { .. }) => Ok(()),
+            _ => Err(Event::Done),
+        }
+    }
+
     /// Does a service.
     fn serve(&mut self, code: &Code, body: u16, op: Op) -> Result<(), Event>
         requires going { IsGoing code.now self.old.machine self.old.returns }
@@ -187,6 +233,7 @@ impl Session {
         match op {
             Op::Word(ITSELF) => self.call(code, Work::Body(body)),
             Op::Word(EXECUTE) => self.execute(code, body),
+            Op::Word(LOAD) => self.load(code, body),
             Op::Word(DOT) => self.print(),
             Op::Word(COMMA) => self.comma(),
             Op::Word(CREATE) => Ok(()),
@@ -215,8 +262,11 @@ impl Session {
     {
         self.call(code, Work::Body(body))?;
         for _ in 0..1000 {
-            let op = self.go_on(code)?;
-            self.serve(code, body, op)?;
+            match self.go_on(code) {
+                Ok(op) => self.serve(code, body, op)?,
+                Err(Event::Done) => self.leave_load(code)?,
+                Err(event) => return Err(event),
+            }
         }
         Ok(())
     }

@@ -42,6 +42,8 @@ pub const DOT: Step = Step::Word(78); // .
 
 pub const ABORT: Step = Step::Word(83);
 
+pub const LOAD: Step = Step::Word(95);
+
 pub const QUIT: Step = Step::Word(97);
 
 pub const COMMA: Step = Step::Word(104); // ,
