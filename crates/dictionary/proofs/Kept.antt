@@ -1,12 +1,12 @@
 -- What each call keeps of the chains.
-use Rattle.std.proofs.Common.{◌≡◌, ◌≢◌, ℕ, zero, suc, ◌+◌, ◌-◌, ◌<◌, ◌≤◌, ◌⊎◌, inl, inr, Bool, true, false, ◌&&◌, cond, nat_eq, List, [], ◌∷◌, ◌++◌, length, map, take, Option, Some, None, refl, sym, ◌∙◌, ap, subst, arith, get_or, set, get_or-set_same, get_or-set_other, length-set, length-append}
+use Rattle.std.proofs.Common.{◌≡◌, ◌≢◌, ℕ, zero, suc, ◌+◌, ◌-◌, ◌<◌, ◌≤◌, ◌⊎◌, inl, inr, true, false, cond, nat_eq, List, [], ◌∷◌, ◌++◌, length, map, take, Option, Some, None, refl, sym, ◌∙◌, ap, subst, arith, get_or, set, get_or-set_same, get_or-set_other, length-set}
 use Rattle.std.specs.List.{slice_get}
 use Rattle.std.specs.Option.{option_map}
 use Rattle.std.proofs.lemmas.Bool.Decides.{nat_tests}
 use Rattle.std.proofs.lemmas.Grind.{common_steps}
 use Rattle.dictionary.specs.declared.chains.Header.{Header}
 use Rattle.dictionary.specs.declared.Kind.TheVariants as Kind
-use Rattle.dictionary.specs.Words.{Word, same_text, find_in}
+use Rattle.dictionary.specs.Words.{same_text, find_in}
 use Rattle.dictionary.specs.Dictionary.{Named}
 use Rattle.dictionary.specs.Chains.{header_word, last_in, IsChained}
 use Rattle.dictionary.proofs.Links.{get_at, get-map, get-below, get-append, get-end, get-take, last_in-same, last_in-below, last_in-vocabulary, named_in, named_in-last, find_in-chain}

@@ -1,5 +1,5 @@
--- A format that is stopped at every call. At each stop all unsynced sectors are lost, all kept, all torn, and kept and
--- lost in turn. Where only two bytes of a sector tell something, it has two bytes here.
+-- A format that is stopped at every call. Each stop is tried in four ways: every unsynced sector lost, every one kept,
+-- every one torn, or every second one kept. Where only two bytes of a sector tell something, it has two bytes here.
 use Rattle.std.specs.Prelude.{◌≡◌, ◌==◌, ◌+◌, ◌||◌, not, ℕ, zero, suc, Bool, true, false, nat_eq, nat_lt, if◌then◌else◌, List, [], ◌∷◌, ◌++◌, map, replicate, refl}
 use Rattle.std.specs.List.{flat_map}
 use lib.Pointwise.{pointwise}
