@@ -117,3 +117,18 @@ fn entries_take_their_units(rt: HostRuntime) -> Result<(), Fail> {
     assert_eq!(rt; stack.top(), Err(StackFault::Empty));
     Ok(())
 }
+
+#[test]
+fn a_call_on_top_is_ended(rt: HostRuntime) -> Result<(), Fail> {
+    let mut stack = ReturnStack::new();
+    assert_eq!(rt; stack.peek(), Entry::Load { block: 0, to_in: 0 });
+    assert_eq!(rt; stack.end_call(), None);
+    stack.push(Entry::Call(9))?;
+    stack.push(Entry::Value(7))?;
+    assert_eq!(rt; stack.peek(), Entry::Value(7));
+    assert_eq!(rt; stack.end_call(), None);
+    assert_eq!(rt; stack.pop()?, Entry::Value(7));
+    assert_eq!(rt; stack.end_call(), Some(9));
+    assert_eq!(rt; stack.units(), 0);
+    Ok(())
+}
