@@ -1,7 +1,7 @@
 //! Laws over the definitions alone.
 
 ghost use Rattle.cell_machine.specs.Division.{DivisionIs};
-ghost use Rattle.cell_machine.specs.Staying.{FramesStay, BodyStays, StepsStay};
+ghost use Rattle.cell_machine.specs.Staying.{FramesStay, BodyStays, StepsStay, CallsStay};
 
 /// Quotient and remainder give the dividend back, and the remainder is 0 or has the sign of the
 /// divisor and is nearer to 0: floored division of the Forth-83 Standard.
@@ -15,4 +15,5 @@ pub fn frames_stay()
     ensures frames { FramesStay }
     ensures bodies { BodyStays }
     ensures steps { StepsStay }
+    ensures calls { CallsStay }
 {}

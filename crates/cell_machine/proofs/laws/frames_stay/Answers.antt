@@ -1,4 +1,4 @@
-use Rattle.cell_machine.proofs.Staying.{left_stays, body_stays, steps-before}
+use Rattle.cell_machine.proofs.Staying.{left_stays, body_stays, steps-before, calls-before}
 use Rattle.cell_machine.proofs.laws.frames_stay.Goals as goal
 
 pub returns-clause-frames : goal.returns-clause-frames
@@ -11,3 +11,6 @@ returns-clause-bodies c past code owner_at code' owner_at' s owner place parts k
 
 pub returns-clause-steps : goal.returns-clause-steps
 returns-clause-steps c past k levels core all = steps-before past k levels core all
+
+pub returns-clause-calls : goal.returns-clause-calls
+returns-clause-calls c past words known k levels core all = calls-before past words known k levels core all
