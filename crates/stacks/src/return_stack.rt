@@ -16,7 +16,7 @@ const PLACES: usize = CAPACITY + 1;
 #[derive(Clone, Copy, Debug, PartialEq, Eq)]
 pub enum Entry {
     /// A call of a body, with the place to go on at: one unit.
-    Call(u16),
+    Call(usize),
     /// A cell that the body put aside: one unit.
     Value(u16),
     /// A loop with its limit and its present index: three units.
@@ -126,7 +126,7 @@ impl ReturnStack {
 
     /// Takes the call on top, and gives the place to go on at. None where the top is no call; then nothing is changed.
     #[inline(always)]
-    pub fn end_call(&mut self) -> Option<u16>
+    pub fn end_call(&mut self) -> Option<usize>
         ensures ok { IfSome result (λ back. self.old ≡ Entry.Call back ∷ self.new) }
         ensures other { IfNone result ((back : ℕ) → top_or_load self.old ≢ Entry.Call back) }
         ensures none { IfNone result (self.new ≡ self.old) }
