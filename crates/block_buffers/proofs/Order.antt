@@ -211,10 +211,6 @@ cleared-seen u (e ∷ es) = rw (no_mark e.1, cleared-list u es) refl
 
 -- ---- the oldest, and a new block's slot
 
-pub first_slot : (u : List Bool) (es : List (ℕ × ℕ)) (e : ℕ × ℕ) → Rattle.std.specs.List.slice_get es 0 ≡ Some e → IsValid (seen es u) → e.1 < 4
-first_slot u [] e h v = cc
-first_slot u (f ∷ es) e h v = let same : f ≡ e = cc in let below = v.slots.0 in let few = v.few in rw (← same) (omega arith)
-
 last_slot-below : (n : ℕ) (u : List Bool) (es : List (ℕ × ℕ)) (k : ℕ) (e : ℕ × ℕ) → SlotsBelow n (map (assigned_at u) es) → Rattle.std.specs.List.slice_get es k ≡ Some e → e.1 < n
 last_slot-below n u [] k e h found = cc
 last_slot-below n u (f ∷ es) zero e h found = let same : f ≡ e = cc in rw (← same) h.0
@@ -231,13 +227,6 @@ oldest-seen u (a ∷ b ∷ []) e v n found = absurd (omega arith)
 oldest-seen u (a ∷ b ∷ c ∷ []) e v n found = absurd (omega arith)
 oldest-seen u (a ∷ b ∷ c ∷ d ∷ []) e v n found = let same : d ≡ e = cc in rw same refl
 oldest-seen u (a ∷ b ∷ c ∷ d ∷ f ∷ es) e v n found = absurd (let few = v.few in omega arith)
-
-pub oldest-few : (u : List Bool) (es : List (ℕ × ℕ)) → length es < 4 → None ≡ oldest (seen es u)
-oldest-few u [] n = refl
-oldest-few u (a ∷ []) n = refl
-oldest-few u (a ∷ b ∷ []) n = refl
-oldest-few u (a ∷ b ∷ c ∷ []) n = refl
-oldest-few u (a ∷ b ∷ c ∷ d ∷ es) n = absurd (omega arith)
 
 -- the slot that is given is nobody's of those who stay
 place_free : (u : List Bool) (es : List (ℕ × ℕ)) → IsValid (seen es u) → IsFree (slot_for (seen es u)) (take 3 es)

@@ -30,11 +30,6 @@ pub within_map : (n : ℕ) (f : Assigned → Assigned) (xs : List Assigned) → 
 within_map n f [] same h = refl
 within_map n f (x ∷ xs) same h = both_of (nat_lt (f x).block n) (within n (map f xs)) (ap (λ b. nat_lt b n) (same x) ∙ left_of (nat_lt x.block n) (within n xs) h) (within_map n f xs same (right_of (nat_lt x.block n) (within n xs) h))
 
-pub within_take : (n k : ℕ) (xs : List Assigned) → within n xs ≡ true → within n (take k xs) ≡ true
-within_take n zero xs h = refl
-within_take n (suc k) [] h = refl
-within_take n (suc k) (x ∷ xs) h = both_of (nat_lt x.block n) (within n (take k xs)) (left_of (nat_lt x.block n) (within n xs) h) (within_take n k xs (right_of (nat_lt x.block n) (within n xs) h))
-
 pub within_marked : (n b : ℕ) (bs : Buffers) → within n bs.list ≡ true → within n (with_mark bs b).list ≡ true
 within_marked n b bs h = within_map n (marked b) bs.list (λ x. same (b == x.block) x) h
   where
@@ -44,23 +39,6 @@ within_marked n b bs h = within_map n (marked b) bs.list (λ x. same (b == x.blo
 
 pub within_unmarked : (n : ℕ) (bs : Buffers) → within n bs.list ≡ true → within n (unmarked bs).list ≡ true
 within_unmarked n bs h = within_map n cleared bs.list (λ x. refl) h
-
-pub within_placed : (n b : ℕ) (bs : Buffers) → b < n → within n bs.list ≡ true → within n (placed bs b).list ≡ true
-within_placed n b bs below h = both_of (nat_lt b n) (within n (take 3 bs.list)) (lt-ltb b n below) (within_take n 3 bs.list h)
-
-pub within_last : (n : ℕ) (xs : List Assigned) (y : Assigned) → within n xs ≡ true → last_of xs ≡ Some y → y.block < n
-within_last n [] y h last = cc
-within_last n (x ∷ []) y h last =
-    let same : x ≡ y = cc in
-    ltb-true y.block n (subst (λ (z : Assigned). nat_lt z.block n ≡ true) same (left_of (nat_lt x.block n) true h))
-within_last n (x ∷ z ∷ xs) y h last = within_last n (z ∷ xs) y (right_of (nat_lt x.block n) (within n (z ∷ xs)) h) last
-
-pub within_oldest : (n : ℕ) (bs : Buffers) (y : Assigned) → within n bs.list ≡ true → oldest bs ≡ Some y → y.block < n
-within_oldest n bs y h is = pick (length bs.list == 4) is
-  where
-    pick : (t : Bool) → cond t (last_of bs.list) None ≡ Some y → y.block < n
-    pick true last = within_last n bs.list y h last
-    pick false none = cc
 
 pub within_at : (n : ℕ) (xs : List Assigned) (i : ℕ) (y : Assigned) → within n xs ≡ true → slice_get xs i ≡ Some y → y.block < n
 within_at n [] i y h is = cc

@@ -175,10 +175,6 @@ pub device_fault : (f : StoreFault) → (f ≡ Shut → ⊥) → f ≡ Broken
 device_fault Broken other = refl
 device_fault Shut other = absurd (other refl)
 
-pub on_ok : {A E P : Type 0} (r : Result A E) → P → OnOk r P
-on_ok (Ok v) p = p
-on_ok (Err e) p = tt
-
 -- a spill after others
 pub keeps_then_spill : {D : Type 0} (G : Ghosts D) (old mid new : Store D G) (front : List Assigned) (sp : List ℕ) → Continues old mid → Continues mid new
     → ((m : Maps) → StandsFor old m → StandsFor mid (all_spilled front sp m)) → KeepsSaved old mid → KeepsSaved mid new → KeepsSaved old new

@@ -27,10 +27,6 @@ chain_from code (y ∷ ys) last n h =
     let e : last ≡ y = h.0 in
     (ys, (ap (λ z. z ∷ ys) (sym e), subst (λ z. slice_index code z < z) (sym e) h.1, subst (λ z. Chain code ys (slice_index code z)) (sym e) h.2))
 
-pub chain_empty : (code : List ℕ) (ls : List ℕ) (last : ℕ) → last ≡ 0 → Chain code ls last → ls ≡ []
-chain_empty code [] last e h = refl
-chain_empty code (y ∷ ys) last e h = let a : last ≡ y = h.0 in let d : slice_index code y < y = h.1 in absurd (omega arith)
-
 -- the chain up to a place below the cell that is written stays
 pub chain_past : (old new : List ℕ) (ls : List ℕ) (last x : ℕ) → last < x → ((y : ℕ) → y ≢ x → slice_index new y ≡ slice_index old y) → Chain old ls last → Chain new ls last
 chain_past old new ls last x h others c =

@@ -16,9 +16,6 @@ fewer old new p q h s = record { same = λ y l. s.same y (omega arith) }
 pub nothing_changed : (code : List ℕ) (q : ℕ) → SameBelow q code code
 nothing_changed code q = record { same = λ y l. refl }
 
-pub then_same : (a b c : List ℕ) (q : ℕ) → SameBelow q a b → SameBelow q b c → SameBelow q a c
-then_same a b c q h k = record { same = λ y l. k.same y l ∙ h.same y l }
-
 -- more cells wait, but none below q
 pub record Grows (q : ℕ) (ls more : List ℕ) : Type 0 where
   pub waits : (y : ℕ) → IsIn y ls → IsIn y more
@@ -133,10 +130,6 @@ unmoved old new q ls last w =
 pub grows_at : (old new : List ℕ) (q : ℕ) (ls : List ℕ) (last : Option ℕ) (more : List ℕ) (last' : Option ℕ) → Leaving old new q ls last more last' → (x : ℕ) → x ≤ q → Grows x ls more
 grows_at old new q ls last more last' g x h =
     record { waits = g.waits; settled = λ y l i. ⊎_elim (λ o. o) (λ far. absurd (omega arith)) (g.waiting y i) }
-
-pub later_by : (old new : List ℕ) (q : ℕ) (ls : List ℕ) (last : Option ℕ) (more : List ℕ) (last' : Option ℕ) → Leaving old new q ls last more last' → (x : ℕ) → x ≤ q → Leaving old new x ls last more last'
-later_by old new q ls last more last' g x h =
-    record { waits = g.waits; waiting = λ y i. ⊎_elim (λ o. inl o) (λ far. inr (omega arith)) (g.waiting y i); none = g.none; some = g.some }
 
 module _ (old new : List ℕ) where
   abbrev at_do : (ls : List ℕ) (last : Option ℕ) (more : List ℕ) (last' : Option ℕ) (q0 : ℕ) → Leaving old new q0 ls last more last' → SameBelow q0 old new → (x : ℕ) (t u : Trees) (q r : ℕ) → q ≤ q0 → AtDo old ls last x t q → Segment new more (x + 1) u r → AtDo new more last' x u r

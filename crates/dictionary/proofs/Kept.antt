@@ -11,9 +11,6 @@ use Rattle.dictionary.specs.Dictionary.{Named}
 use Rattle.dictionary.specs.Chains.{header_word, last_in, IsChained}
 use Rattle.dictionary.proofs.Links.{get_at, get-map, get-below, get-append, get-end, get-take, last_in-same, last_in-below, last_in-vocabulary, named_in, named_in-last, find_in-chain}
 
-words_of : List Header → List Named
-words_of hs = map header_word hs
-
 pub length-words : (hs : List Header) → length (map header_word hs) ≡ length hs
 length-words [] = refl
 length-words (h ∷ hs) = ap suc (length-words hs)

@@ -33,26 +33,6 @@ module _ {D : Type 0} (time : D → ℕ) (left_since : D → ℕ → Image → T
   leaves_then a b d P Q R first then p q from_p from_q c since =
       ⊎_elim (λ past. from_p c (p c past)) (λ now. from_q c (q c now)) (then.only (time a) c first.later since)
 
--- what a write did, whether it failed or not
-pub may_write : {T E : Type 0} (result : Result T E) (k : ℕ) (bytes : List ℕ) (old new : Disk)
-    → OnOk result (new ≡ written old k bytes) → OnErr result (MayWrite k old new) → MayWrite k old new
-may_write (Ok v) k bytes old new ok err = inr (bytes, ok)
-may_write (Err e) k bytes old new ok err = err
-
--- what a sync did
-pub may_sync : {T E : Type 0} (result : Result T E) (old new : Disk)
-    → OnOk result (new ≡ settled old) → OnErr result (SettlesNothing old new) → SettlesNothing old new ⊎ (new ≡ settled old)
-may_sync (Ok v) old new ok err = inr ok
-may_sync (Err e) old new ok err = inl err
-
--- a sync that settled nothing leaves no further image to a stop
-pub leaves_same : (old new : Disk) → SettlesNothing old new → (c : Image) → MayLeave new c → MayLeave old c
-leaves_same old new same c may = λ k synced. may k (ap (λ u. u k) same.unsynced ∙ synced) ∙ ap (λ image. image k) same.synced
-
--- and no image less
-pub leaves_no_less : (old new : Disk) → SettlesNothing old new → (c : Image) → MayLeave old c → MayLeave new c
-leaves_no_less old new same c may = λ k synced. may k (sym (ap (λ u. u k) same.unsynced) ∙ synced) ∙ sym (ap (λ image. image k) same.synced)
-
 pub sector_same : (image : Image) (k : ℕ) (bytes : List ℕ) → with_sector image k bytes k ≡ bytes
 sector_same image k bytes = grind (arith, nat_tests)
 

@@ -11,12 +11,5 @@ one_unit (ValueOf cell) = omega arith
 one_unit (LoopOf limit index) = omega arith
 one_unit (LoadOf block to_in) = omega arith
 
-length-le-units : (entries : List Entry) → length entries ≤ units entries
-length-le-units [] = omega arith
-length-le-units (entry ∷ entries) = omega (arith, one_unit entry, length-le-units entries)
-
-pub length-le-reversed : (entries : List Entry) → length entries ≤ units (reverse entries)
-length-le-reversed entries = omega (arith, length-le-units (reverse entries), length-reverse entries)
-
 pub at_least_one : (entry : Entry) → 1 ≤ entry_units entry
 at_least_one entry = one_unit entry

@@ -157,7 +157,7 @@ impl ReturnStack {
     pub fn peek(&self) -> Entry
         ensures { result ≡ top_or_load self.now }
     {
-        self.places[self.units]
+        self.places[self.units] // below the bottom, in place 0, stands a load
     }
 
     /// The entry below the top. `Empty` where there are fewer than two.

@@ -64,11 +64,6 @@ pub line-ended : (a c : Option (List ℕ)) (items : List ℕ) → LineSoFar a c 
 line-ended a c items so_far end some =
     (so_far.bytes, record { no_feed = so_far.no_feed; cut = inr (so_far.read, end, some-bytes items so_far.bytes so_far.kept some) }, so_far.kept)
 
-pub line-fed : (a b c : Option (List ℕ)) (items : List ℕ) → LineSoFar a b items → Consumes b c (10 ∷ [])
-    → (bytes : List ℕ) × ReadsLine a c bytes × (items ≡ take 1026 (map blank_for_tab bytes))
-line-fed a b c items so_far feed =
-    (so_far.bytes, record { no_feed = so_far.no_feed; cut = inl (Consumes-trans a b c so_far.bytes (10 ∷ []) so_far.read feed) }, so_far.kept)
-
 pub kept-room : (n : ℕ) (xs : List ℕ) (y : ℕ) → length xs < n → xs ++ y ∷ [] ≡ take n (xs ++ y ∷ [])
 kept-room n xs y h = sym (take_all n (xs ++ y ∷ []) (omega (arith, length-append xs (y ∷ []))))
 
