@@ -3,11 +3,11 @@
 
 mod aside;
 pub mod calls;
-pub mod cells;
+mod cells;
 pub mod code;
 mod control;
 mod dispatch;
-pub mod division;
+mod division;
 mod doubles;
 pub mod event;
 pub mod laws;
@@ -20,4 +20,4 @@ mod returns;
 mod step;
 #[cfg(test)]
 mod tests;
-pub mod words;
+mod words;

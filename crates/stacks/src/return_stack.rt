@@ -25,14 +25,6 @@ pub enum Entry {
     Load { block: u16, to_in: u16 },
 }
 
-impl Default for Entry {
-    fn default() -> Self
-        ensures { result ≡ Entry.Value 0 }
-    {
-        Entry::Value(0)
-    }
-}
-
 impl Entry {
     /// How many units the entry takes: one, two or three.
     #[inline]
