@@ -4,4 +4,4 @@ use Rattle.cell_machine.proofs.once.nothing_aside.Goals as goal
 
 pub returns-clause-ended : goal.returns-clause-ended
 returns-clause-ended c = λ u places space.
-    nothing_aside places c.args.operands.now.depth c.args.operands.now.top space c.args.budget.now c.begin.new.budget u c.args.word _ _ c.requires.list c.in_ok-begin.ensures.step refl
+    nothing_aside places c.args.operands.now.depth c.args.operands.now.top space c.args.budget.now c.begin.new.budget u c.args.word _ _ c.requires.list c.in_ok-begin.ensures.step c.in_ok-begin.ensures.paid refl
