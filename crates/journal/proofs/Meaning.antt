@@ -269,6 +269,7 @@ saved n bytes old mid new label is_mid applied = record {
       ∙ sym (ap (λ x. cond x (slot_of old.content b) (home_of n old.content b)) none))
       (true_or_false (listed bytes b));
   synced = applied.synced;
+  closed = applied.gate;
 }
   where
     base : (k : ℕ) → 3 ≤ k → mid.content k ≡ old.content k

@@ -59,12 +59,13 @@ pub record HasApplied (n : ℕ) (bytes : List ℕ) (old new : Disk) : Type 0 whe
 abbrev pub merged : ℕ → List ℕ → Image → ℕ → List ℕ
 merged n bytes image b = if listed bytes b then slot_of image b else home_of n image b
 
--- The merged blocks are in their homes under a closed gate, the record was written, and nothing is unsynced.
+-- The merged blocks are in their homes under a closed gate of zeros, the record was written, and nothing is unsynced.
 pub record HasSaved (n : ℕ) (bytes : List ℕ) (old new : Disk) : Type 0 where
   pub sound : IsSound n new
   pub listed : new.content 2 ≡ bytes
   pub blocks : (b : ℕ) → b < n → home_of n new.content b ≡ merged n bytes old.content b
   pub synced : (k : ℕ) → new.unsynced k ≡ false
+  pub closed : new.content 1 ≡ replicate 512 0
 
 -- The gate is closed, nothing is unsynced, and each block is what it was.
 pub record HasRecovered (n : ℕ) (old new : Disk) : Type 0 where

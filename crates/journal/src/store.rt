@@ -1,5 +1,5 @@
 // Blocks on a device, spilled one by one and saved all at once.
-ghost use Rattle.std.specs.Prelude.{◌≡◌, ◌≢◌, ◌==◌, ◌||◌, ◌<◌, ◌≤◌, ◌+◌, ◌*◌, ◌↔◌, ℕ, true, false, length, IsTrue, OnOk, OnErr, IsOk, IsErr, IsErrOf, MatchResult};
+ghost use Rattle.std.specs.Prelude.{◌≡◌, ◌≢◌, ◌==◌, ◌||◌, ◌<◌, ◌≤◌, ◌+◌, ◌*◌, ◌↔◌, ℕ, true, false, length, replicate, IsTrue, OnOk, OnErr, IsOk, IsErr, IsErrOf, MatchResult};
 ghost use Rattle.sector_disk.specs.Disk.{Image, MayLeave};
 ghost use Rattle.journal.specs.Clean.{IsClean};
 ghost use Rattle.journal.specs.Images.{meaning, Means};
@@ -188,9 +188,11 @@ impl<D: SectorDevice> Store<D> {
         ensures continues { Continues self.old self.new }
         ensures pending { MatchResult result (λ _. (a : ℕ)
             → is_pending self.new a ≡ false) (λ _. SamePending self.old self.new) }
-        // The record on the device lists the blocks that were pending, and no bit past the last block.
+        // The record on the device lists the blocks that were pending, and no bit past the last block. The gate is closed
+        // by zeros.
         ensures recorded { IsTrue (D.keeps_model (device_of self.old)) → pending_count self.old ≢ 0
-            → OnOk result (IsRecordOf (blocks_of self.old) (is_pending self.old) ((disk_of self.new).content 2)) }
+            → OnOk result (IsRecordOf (blocks_of self.old) (is_pending self.old) ((disk_of self.new).content 2)
+            × ((disk_of self.new).content 1 ≡ replicate 512 0)) }
         ensures begins { DeviceBegins self.old self.new (2 * pending_count self.old + 3) 4 }
     {
         // A closed store says so even where nothing is pending.

@@ -62,11 +62,14 @@ returns-in-Ok-clause-ok g c = λ s stands.
 pub returns-in-Ok-clause-recorded : goal.returns-in-Ok-clause-recorded
 returns-in-Ok-clause-recorded g c = λ keeps some.
     let old = c.args.self.now in
-    let is = (c.in-Ok.ensures.ok keeps).listed in
-    record {
-      each = λ b below. ap (λ bytes. listed bytes b) is;
-      rest = λ b past. ap (λ bytes. listed bytes b) is ∙ old.clear b past;
-    }
+    let saved = c.in-Ok.ensures.ok keeps in
+    let is = saved.listed in (
+      record {
+        each = λ b below. ap (λ bytes. listed bytes b) is;
+        rest = λ b past. ap (λ bytes. listed bytes b) is ∙ old.clear b past;
+      },
+      saved.closed,
+    )
 
 pub returns-in-Ok-clause-stops : goal.returns-in-Ok-clause-stops
 returns-in-Ok-clause-stops g c = λ s stands is_open x since. means_either c.args.self.now s stands c.if-self.false x (c.save.ensures.stops stands.model x since)
