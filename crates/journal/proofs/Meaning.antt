@@ -6,7 +6,7 @@ use Rattle.sector_disk.specs.Disk.{Disk, Image, MayLeave, with_sector, written, 
 use Rattle.sector_disk.proofs.Moments.{sector_same, sector_other}
 use Rattle.std.specs.Prelude.{length}
 use Rattle.journal.specs.Layout.{label_of, gate_open, open_gate_bytes, listed, slot_at, home_at, InPair, InListedHomes}
-use Rattle.journal.specs.Images.{pair_at, slot_of, home_of, block_of, Means}
+use Rattle.journal.specs.Images.{pair_at, slot_of, home_of, block_of, HasHomes, Means}
 use Rattle.journal.specs.Maps.{block_in}
 use Rattle.journal.specs.Chain.{Redoes, Follows, IsChain}
 use Rattle.journal.specs.Steps.{IsAsSynced, HasBlocks, InSlots, IsSound, IsLogged, HasRedone, HasApplied, HasSaved, HasRecovered, merged}
@@ -84,14 +84,11 @@ module _ (n : ℕ) (map : ℕ → List ℕ) where
       when_unlisted : listed (i 2) b ≡ false → home_of n j b ≡ map b
       when_unlisted none = home_same b none ∙ unlisted_means i means b below none
 
+      when_copied : (listed (i 2) b ≡ true → home_of n j b ≡ slot_of j b) → home_of n j b ≡ map b
+      when_copied copied = ⊎_elim (λ is. copied is ∙ when_listed is) (λ none. when_unlisted none) (true_or_false (listed (i 2) b))
+
       when_shut : gate_open (j 1) ≡ false → home_of n j b ≡ map b
-      when_shut shut = ⊎_elim
-          (λ same. absurd (cc (ap gate_open same, shut, redo.gate)))
-          (λ copies. ⊎_elim
-          (λ is. copies b below is ∙ when_listed is)
-          (λ none. when_unlisted none)
-          (true_or_false (listed (i 2) b)))
-          redo.complete
+      when_shut shut = ⊎_elim (λ same. absurd (cc (ap gate_open same, shut, redo.gate))) (λ copies. when_copied (copies b below)) redo.complete
 
       block_same : block_of n j b ≡ map b
       block_same = chosen (gate_open (j 1)) (listed (j 2) b) (slot_of j b) (home_of n j b) (map b)
@@ -108,6 +105,11 @@ module _ (n : ℕ) (map : ℕ → List ℕ) where
   follows_means i j (inl same) means = same_means i j same means
   follows_means i j (inr redo) means = redone_means i j redo means
 
+  -- An image has the gate of the one before it, or its homes are what that one means.
+  pub follows_gate : (i j : Image) → Follows n i j → HasBlocks n map i → (j 1 ≡ i 1) ⊎ HasHomes n map j
+  follows_gate i j (inl same) means = inl (same 1)
+  follows_gate i j (inr redo) means = ⊎_elim (λ same. inl same) (λ copies. inr (λ b below. when_copied i j redo means b below (copies b below))) redo.complete
+
 -- An image with so many blocks means these.
 pub means_of : (bytes : ℕ → List ℕ) (blocks : List (List ℕ)) (c : Image) → 32 ≤ length blocks → length blocks ≤ 2048
     → ((b : ℕ) → b < length blocks → block_in blocks b ≡ bytes b) → HasBlocks (length blocks) bytes c → Means blocks c
@@ -121,6 +123,10 @@ pub means_sized : (n : ℕ) (bytes : ℕ → List ℕ) (blocks : List (List ℕ)
 means_sized n bytes blocks c many few size same has =
     means_of bytes blocks c (omega (arith, many, size)) (omega (arith, few, size)) (λ b below. same b (omega (arith, below, size)))
     (subst (λ m. HasBlocks m bytes c) (sym size) has)
+
+pub homes_sized : (n : ℕ) (bytes : ℕ → List ℕ) (blocks : List (List ℕ)) (c : Image) → length blocks ≡ n
+    → ((b : ℕ) → b < n → block_in blocks b ≡ bytes b) → HasHomes n bytes c → HasHomes (length blocks) (block_in blocks) c
+homes_sized n bytes blocks c size same has = subst (λ m. HasHomes m (block_in blocks) c) (sym size) (λ b below. has b below ∙ sym (same b below))
 
 -- An image that means blocks has their bytes.
 pub means_each : (blocks : List (List ℕ)) (c : Image) → Means blocks c → HasBlocks (length blocks) (block_in blocks) c
@@ -142,16 +148,19 @@ module _ (n : ℕ) (disk : Disk) (present : MayLeave disk disk.content) (sound :
   kept : (P : ℕ → Type 0) (c : Image) → IsAsSynced P disk c → (k : ℕ) → ¬ P k → ¬ InSlots n k → c k ≡ disk.content k
   kept P c is k out apart = is k out (sound.synced k apart) ∙ sym (present k (sound.synced k apart))
 
-  pub sound_means : (P : ℕ → Type 0) → ((k : ℕ) → P k → (k ≡ 2) ⊎ InSlots n k) → (c : Image) → IsAsSynced P disk c → HasBlocks n (home_of n disk.content) c
-  sound_means P within c is = record {
-    label = same 0 (omega arith) (omega arith) ∙ sound.label;
-    blocks = λ b below.
-        pick_shut (gate_open (c 1)) (listed (c 2) b) (slot_of c b) (home_of n c b) (ap gate_open (same 1 (omega arith) (omega arith)) ∙ sound.gate)
-        ∙ pair_same disk.content c (home_at n b) (same (home_at n b) (omega arith) (omega arith)) (same (home_at n b + 1) (omega arith) (omega arith));
-  }
-    where
-      same : (k : ℕ) → k ≢ 2 → (3 ≤ k → 3 + 2 * n ≤ k) → c k ≡ disk.content k
-      same k other high = kept P c is k (λ p. ⊎_elim (λ two. other two) (λ slots. absurd (omega (arith, high slots.0, slots.1))) (within k p)) (λ slots. absurd (omega (arith, high slots.0, slots.1)))
+  module _ (P : ℕ → Type 0) (within : (k : ℕ) → P k → (k ≡ 2) ⊎ InSlots n k) (c : Image) (is : IsAsSynced P disk c) where
+    unmoved : (k : ℕ) → k ≢ 2 → (3 ≤ k → 3 + 2 * n ≤ k) → c k ≡ disk.content k
+    unmoved k other high = kept P c is k (λ p. ⊎_elim (λ two. other two) (λ slots. absurd (omega (arith, high slots.0, slots.1))) (within k p)) (λ slots. absurd (omega (arith, high slots.0, slots.1)))
+
+    pub sound_homes : HasHomes n (home_of n disk.content) c
+    sound_homes b below = pair_same disk.content c (home_at n b) (unmoved (home_at n b) (omega arith) (omega arith)) (unmoved (home_at n b + 1) (omega arith) (omega arith))
+
+    pub sound_means : HasBlocks n (home_of n disk.content) c
+    sound_means = record {
+      label = unmoved 0 (omega arith) (omega arith) ∙ sound.label;
+      blocks = λ b below.
+          pick_shut (gate_open (c 1)) (listed (c 2) b) (slot_of c b) (home_of n c b) (ap gate_open (unmoved 1 (omega arith) (omega arith)) ∙ sound.gate) ∙ sound_homes b below;
+    }
 
 -- An image over the slots and homes of a base.
 module _ (n : ℕ) (bytes : List ℕ) (base c : Image) (label : c 0 ≡ label_of n) (same : (k : ℕ) → 3 ≤ k → c k ≡ base k) where
@@ -178,17 +187,21 @@ module _ (n : ℕ) (bytes : List ℕ) (base c : Image) (label : c 0 ≡ label_of
 
 -- The gate is written over the record.
 module _ (n : ℕ) (bytes : List ℕ) (disk : Disk) (label : disk.content 0 ≡ label_of n) where
-  pub gate_means : (c : Image) → IsAsSynced (λ j. j ≡ 1) (settled (written disk 2 bytes)) c → HasBlocks n (home_of n disk.content) c ⊎ HasBlocks n (merged n bytes disk.content) c
-  gate_means c is = ⊎_elim
-      (λ is_open. inr (open_means n bytes disk.content c first rest is_open (is 2 (omega arith) refl ∙ sector_same disk.content 2 bytes)))
-      (λ shut. inl (shut_means n bytes disk.content c first rest shut))
-      (true_or_false (gate_open (c 1)))
-    where
-      first : c 0 ≡ label_of n
-      first = is 0 (omega arith) refl ∙ sector_other disk.content 2 0 bytes (omega arith) ∙ label
+  module _ (c : Image) (is : IsAsSynced (λ j. j ≡ 1) (settled (written disk 2 bytes)) c) where
+    labelled : c 0 ≡ label_of n
+    labelled = is 0 (omega arith) refl ∙ sector_other disk.content 2 0 bytes (omega arith) ∙ label
 
-      rest : (k : ℕ) → 3 ≤ k → c k ≡ disk.content k
-      rest k high = is k (omega arith) refl ∙ sector_other disk.content 2 k bytes (omega arith)
+    rest_kept : (k : ℕ) → 3 ≤ k → c k ≡ disk.content k
+    rest_kept k high = is k (omega arith) refl ∙ sector_other disk.content 2 k bytes (omega arith)
+
+    pub gate_means : HasBlocks n (home_of n disk.content) c ⊎ HasBlocks n (merged n bytes disk.content) c
+    gate_means = ⊎_elim
+        (λ is_open. inr (open_means n bytes disk.content c labelled rest_kept is_open (is 2 (omega arith) refl ∙ sector_same disk.content 2 bytes)))
+        (λ shut. inl (shut_means n bytes disk.content c labelled rest_kept shut))
+        (true_or_false (gate_open (c 1)))
+
+    pub gate_homes : HasHomes n (home_of n disk.content) c
+    gate_homes b below = home_base n bytes disk.content c labelled rest_kept b
 
   pub logged : IsLogged n bytes (settled (written (settled (written disk 2 bytes)) 1 open_gate_bytes))
   logged = record { label = label; gate = refl; listed = refl; synced = λ k. refl }

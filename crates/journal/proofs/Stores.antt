@@ -7,15 +7,15 @@ use Rattle.sector_disk.proofs.Moments.{sector_same, sector_other}
 use Rattle.sector_disk.specs.declared.device.SectorDevice.{Ghosts}
 use Rattle.journal.specs.declared.store.Store.{Store}
 use Rattle.journal.specs.Clean.{IsClean}
-use Rattle.journal.specs.Images.{block_of, meaning, slot_of, home_of, Means}
-use Rattle.journal.specs.Layout.{listed, count_listed, gate_open, slot_at, home_at, InPair}
+use Rattle.journal.specs.Images.{block_of, meaning, slot_of, home_of, HasHomes, Means}
+use Rattle.journal.specs.Layout.{listed, count_listed, gate_open, open_gate_bytes, slot_at, home_at, InPair}
 use Rattle.journal.specs.Maps.{Maps, block_in, contents, latest, fresh}
 use Rattle.journal.specs.Steps.{IsAsSynced, InSlots, WritesOnly, HasBlocks, merged}
-use Rattle.journal.specs.Store.{StandsFor}
+use Rattle.journal.specs.Store.{StandsFor, HomesHold}
 use Rattle.journal.proofs.Copies.{count_zero}
 use Rattle.journal.proofs.Blocks.{at_overridden, at_none, length-below, at_below, length-overridden, same_list}
 use Rattle.std.proofs.lemmas.List.{get_or-set_same, get_or-set_other, length-map}
-use Rattle.journal.proofs.Meaning.{sound_means, means_sized, pair_same, pick_shut}
+use Rattle.journal.proofs.Meaning.{sound_means, means_sized, homes_sized, pair_same, pick_shut}
 
 module _ {D : Type 0} {G : Ghosts D} where
   -- what each block was spilled or saved as
@@ -51,6 +51,12 @@ module _ {D : Type 0} {G : Ghosts D} (store : Store D G) (s : Maps) (stands : St
   means_either c = ⊎_elim
       (λ has. inl (means_sized store.blocks _ s.saved c store.many store.few stands.size (stands.saved now) has))
       (λ has. inr (means_sized store.blocks _ (latest s) c store.many store.few (length-overridden s.saved s.pending ∙ stands.size) (latest_in store s stands now) has))
+
+  pub homes_either : (c : Image) → (c 1 ≡ open_gate_bytes) ⊎ HasHomes store.blocks (home_of store.blocks (G.disk store.device).content) c
+      ⊎ HasHomes store.blocks (merged store.blocks store.pending (G.disk store.device).content) c → (c 1 ≡ open_gate_bytes) ⊎ HomesHold s.saved c ⊎ HomesHold (latest s) c
+  homes_either c = ⊎_elim (λ is. inl is) (⊎_elim
+      (λ has. inr (inl (homes_sized store.blocks _ s.saved c stands.size (stands.saved now) has)))
+      (λ has. inr (inr (homes_sized store.blocks _ (latest s) c (length-overridden s.saved s.pending ∙ stands.size) (latest_in store s stands now) has))))
 
 module _ {D : Type 0} {G : Ghosts D} (present : (d : D) → IsTrue (G.keeps_model d) → MayLeave (G.disk d) (G.disk d).content) where
   -- An image that differs in slots alone means the saved blocks.

@@ -1,5 +1,5 @@
 -- What an image means: the bytes of its blocks.
-use Rattle.std.specs.Prelude.{◌≡◌, ℕ, zero, suc, ◌+◌, ◌&&◌, if◌then◌else◌, List, [], ◌∷◌, ◌++◌, length}
+use Rattle.std.specs.Prelude.{◌≡◌, ℕ, zero, suc, ◌+◌, ◌<◌, ◌&&◌, if◌then◌else◌, List, [], ◌∷◌, ◌++◌, length}
 use Rattle.sector_disk.specs.Disk.{Image}
 use Rattle.journal.specs.Layout.{HasGoodLabel, gate_open, listed, slot_at, home_at}
 
@@ -12,6 +12,10 @@ slot_of image b = pair_at image (slot_at b)
 
 abbrev pub home_of : ℕ → Image → ℕ → List ℕ
 home_of n image b = pair_at image (home_at n b)
+
+-- The homes of the first n blocks hold these bytes.
+abbrev pub HasHomes : ℕ → (ℕ → List ℕ) → Image → Type 0
+HasHomes n bytes image = (b : ℕ) → b < n → home_of n image b ≡ bytes b
 
 -- The bytes of block b: its slot where the gate is open and the record lists it, else its home.
 abbrev pub block_of : ℕ → Image → ℕ → List ℕ

@@ -6,9 +6,13 @@ use Rattle.sector_disk.specs.Moments.{Elapses}
 use Rattle.sector_disk.specs.declared.device.SectorDevice.{Ghosts}
 use Rattle.journal.specs.declared.store.Store.{Store}
 use Rattle.journal.specs.Calls.{StopsLeave, BeginsAtMost}
-use Rattle.journal.specs.Images.{slot_of, home_of, Means}
-use Rattle.journal.specs.Layout.{listed, count_below}
+use Rattle.journal.specs.Images.{slot_of, home_of, HasHomes, Means}
+use Rattle.journal.specs.Layout.{open_gate_bytes, listed, count_below}
 use Rattle.journal.specs.Maps.{Maps, block_in, pending_in, latest}
+
+-- The homes hold these blocks.
+abbrev pub HomesHold : List (List ℕ) → Image → Type 0
+HomesHold blocks image = HasHomes (length blocks) (block_in blocks) image
 
 module _ {D : Type 0} {G : Ghosts D} where
   abbrev pub device_of : Store D G → D
@@ -73,6 +77,11 @@ module _ {D : Type 0} {G : Ghosts D} where
   abbrev pub SavesAllOrNone : Store D G → Store D G → Type 0
   SavesAllOrNone old new = (m : Maps) → StandsFor old m → m.closed ≡ false
       → StopsLeave G old.device new.device (λ image. Means m.saved image ⊎ Means (latest m) image)
+
+  -- Where a stop leaves homes that are neither the saved blocks nor all the new ones, the gate is open and spelled as it is to be.
+  abbrev pub OpensGateWhole : Store D G → Store D G → Type 0
+  OpensGateWhole old new = (m : Maps) → StandsFor old m → m.closed ≡ false → StopsLeave G old.device new.device
+      (λ image. (image 1 ≡ open_gate_bytes) ⊎ HomesHold m.saved image ⊎ HomesHold (latest m) image)
 
   -- What a stop of a closed store might have left since the old state could be left before.
   abbrev pub AddsNothing : Store D G → Store D G → Type 0

@@ -2,7 +2,7 @@
 ghost use Rattle.std.specs.Prelude.{◌≡◌, ◌⊎◌, ◌<◌, ◌≤◌, ◌+◌, ◌*◌, ◌^◌, ℕ, false, IsTrue, OnOk};
 ghost use Rattle.sector_disk.specs.Disk.{written, settled};
 ghost use Rattle.journal.specs.Calls.{StopsLeave, BeginsAtMost, Passes};
-ghost use Rattle.journal.specs.Images.{home_of};
+ghost use Rattle.journal.specs.Images.{home_of, HasHomes};
 ghost use Rattle.journal.specs.Layout.{count_listed, sectors_for, open_gate_bytes, InListedHomes};
 ghost use Rattle.journal.specs.Chain.{Follows};
 ghost use Rattle.journal.specs.Steps.{IsAsSynced, IsSound, IsLogged, HasRedone, HasApplied, HasSaved, HasRecovered, HasBlocks, merged};
@@ -100,6 +100,9 @@ pub(crate) fn save<D: SectorDevice>(
         → OnOk result (HasSaved blocks bytes.now (D.disk device.old) (D.disk device.new)) }
     ensures stops { IsTrue (D.keeps_model device.old) → StopsLeave D.SectorDevice device.old device.new
         (λ c. HasBlocks blocks (home_of blocks (D.disk device.old).content) c ⊎ HasBlocks blocks (merged blocks bytes.now (D.disk device.old).content) c) }
+    // Homes are half done only under a gate that is open and whole.
+    ensures gate { IsTrue (D.keeps_model device.old) → StopsLeave D.SectorDevice device.old device.new
+        (λ c. (c 1 ≡ open_gate_bytes) ⊎ HasHomes blocks (home_of blocks (D.disk device.old).content) c ⊎ HasHomes blocks (merged blocks bytes.now (D.disk device.old).content) c) }
     ensures passes { Passes D.SectorDevice device.old device.new result }
     ensures begins { BeginsAtMost D.SectorDevice device.old device.new (2 * count_listed bytes.now blocks + 3) 4 }
 {

@@ -39,7 +39,7 @@ pub struct Store<D: SectorDevice> {
 }
 
 impl<D: SectorDevice> Store<D> {
-    ghost use Rattle.journal.specs.Store.{device_of, disk_of, blocks_of, closed_of, is_pending, pending_count, SamePending, IsRecordOf, StandsFor, Continues, DeviceFailed, DeviceBegins, KeepsSaved, SavesAllOrNone, AddsNothing};
+    ghost use Rattle.journal.specs.Store.{device_of, disk_of, blocks_of, closed_of, is_pending, pending_count, SamePending, IsRecordOf, StandsFor, Continues, DeviceFailed, DeviceBegins, KeepsSaved, SavesAllOrNone, OpensGateWhole, AddsNothing};
 
     /// A store of `blocks` blocks, 32 to 2,048, over an image with a good label and a closed gate, of which nothing is
     /// unsynced. Makes no device call.
@@ -181,6 +181,7 @@ impl<D: SectorDevice> Store<D> {
             → pending_count self.old ≡ 0 → IsOk result × (device_of self.new ≡ device_of self.old) }
 
         ensures stops { SavesAllOrNone self.old self.new }
+        ensures gate { OpensGateWhole self.old self.new }
         // Once it has returned, a stop leaves the new blocks alone.
         ensures after { (m : Maps) → StandsFor self.old m
             → OnOk result ((image : Image) → MayLeave (disk_of self.new) image → Means (latest m) image) }

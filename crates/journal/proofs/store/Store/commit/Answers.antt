@@ -6,7 +6,7 @@ use Rattle.journal.specs.Maps.{block_in, latest}
 use Rattle.journal.proofs.Copies.{none_listed}
 use Rattle.journal.proofs.Blocks.{length-overridden, at_none}
 use Rattle.journal.proofs.Meaning.{means_sized, sound_means}
-use Rattle.journal.proofs.Stores.{latest_in, none_pending, nothing_new, means_either}
+use Rattle.journal.proofs.Stores.{latest_in, none_pending, nothing_new, means_either, homes_either}
 use Rattle.journal.proofs.store.Store.commit.Goals as goal
 
 pub returns-then-count_blocks-eq0-clause-pending : goal.returns-then-count_blocks-eq0-clause-pending
@@ -76,3 +76,9 @@ returns-in-Ok-clause-stops g c = λ s stands is_open x since. means_either c.arg
 
 pub returns-in-Err-clause-stops : goal.returns-in-Err-clause-stops
 returns-in-Err-clause-stops g c = λ s stands is_open x since. means_either c.args.self.now s stands c.if-self.false x (c.save.ensures.stops stands.model x since)
+
+pub returns-in-Ok-clause-gate : goal.returns-in-Ok-clause-gate
+returns-in-Ok-clause-gate g c = λ s stands is_open x since. homes_either c.args.self.now s stands c.if-self.false x (c.save.ensures.gate stands.model x since)
+
+pub returns-in-Err-clause-gate : goal.returns-in-Err-clause-gate
+returns-in-Err-clause-gate g c = λ s stands is_open x since. homes_either c.args.self.now s stands c.if-self.false x (c.save.ensures.gate stands.model x since)
