@@ -5,7 +5,7 @@ use Rattle.std.specs.List.{AllByRecursion}
 use Rattle.sector_disk.specs.Disk.{Disk, Image, MayLeave, with_sector, written, settled}
 use Rattle.sector_disk.proofs.Moments.{sector_same, sector_other}
 use Rattle.std.specs.Prelude.{length}
-use Rattle.journal.specs.Layout.{label_of, gate_open, open_gate_bytes, listed, slot_at, home_at, InPair, InListedHomes}
+use Rattle.journal.specs.Layout.{fewest_blocks, most_blocks, label_of, gate_open, open_gate_bytes, listed, slot_at, home_at, InPair, InListedHomes}
 use Rattle.journal.specs.Images.{pair_at, slot_of, home_of, block_of, HasHomes, Means}
 use Rattle.journal.specs.Maps.{block_in}
 use Rattle.journal.specs.Chain.{Redoes, Follows, IsChain}
@@ -111,14 +111,14 @@ module _ (n : ℕ) (map : ℕ → List ℕ) where
   follows_gate i j (inr redo) means = ⊎_elim (λ same. inl same) (λ copies. inr (λ b below. when_copied i j redo means b below (copies b below))) redo.complete
 
 -- An image with so many blocks means these.
-pub means_of : (bytes : ℕ → List ℕ) (blocks : List (List ℕ)) (c : Image) → 32 ≤ length blocks → length blocks ≤ 2048
+pub means_of : (bytes : ℕ → List ℕ) (blocks : List (List ℕ)) (c : Image) → fewest_blocks ≤ length blocks → length blocks ≤ most_blocks
     → ((b : ℕ) → b < length blocks → block_in blocks b ≡ bytes b) → HasBlocks (length blocks) bytes c → Means blocks c
 means_of bytes blocks c many few same has = record {
   label = record { many = many; few = few; label = has.label };
   meant = same_below (block_of (length blocks) c) (block_in blocks) (length blocks) (λ b below. has.blocks b below ∙ sym (same b below)) ∙ all_below blocks;
 }
 
-pub means_sized : (n : ℕ) (bytes : ℕ → List ℕ) (blocks : List (List ℕ)) (c : Image) → 32 ≤ n → n ≤ 2048 → length blocks ≡ n
+pub means_sized : (n : ℕ) (bytes : ℕ → List ℕ) (blocks : List (List ℕ)) (c : Image) → fewest_blocks ≤ n → n ≤ most_blocks → length blocks ≡ n
     → ((b : ℕ) → b < n → block_in blocks b ≡ bytes b) → HasBlocks n bytes c → Means blocks c
 means_sized n bytes blocks c many few size same has =
     means_of bytes blocks c (omega (arith, many, size)) (omega (arith, few, size)) (λ b below. same b (omega (arith, below, size)))
@@ -212,7 +212,7 @@ module _ (n : ℕ) (bytes : List ℕ) (disk : Disk) (label : disk.content 0 ≡ 
       refl refl
 
 -- The homes are written, and then the gate is closed.
-module _ (n : ℕ) (bytes : List ℕ) (disk : Disk) (many : 32 ≤ n) (few : n ≤ 2048) (present : MayLeave disk disk.content) (log : IsLogged n bytes disk) where
+module _ (n : ℕ) (bytes : List ℕ) (disk : Disk) (many : fewest_blocks ≤ n) (few : n ≤ most_blocks) (present : MayLeave disk disk.content) (log : IsLogged n bytes disk) where
   redoes : (c : Image) → ((k : ℕ) → k ≢ 1 → ¬ InListedHomes n bytes k → c k ≡ disk.content k)
       → (c 1 ≡ disk.content 1) ⊎ ((b : ℕ) → b < n → listed bytes b ≡ true → home_of n c b ≡ slot_of c b) → Follows n disk.content c
   redoes c others complete = inr (record {
@@ -289,7 +289,7 @@ saved n bytes old mid new label is_mid applied = record {
     base k high = ap (λ (d : Disk). d.content k) is_mid ∙ sector_other (with_sector old.content 2 bytes) 1 k open_gate_bytes (omega arith) ∙ sector_other old.content 2 k bytes (omega arith)
 
 -- A recovery is complete.
-pub recovered : (n : ℕ) (bytes : List ℕ) (old new : Disk) → 32 ≤ n → n ≤ 2048 → IsLogged n bytes old → HasApplied n bytes old new → HasRecovered n old new
+pub recovered : (n : ℕ) (bytes : List ℕ) (old new : Disk) → fewest_blocks ≤ n → n ≤ most_blocks → IsLogged n bytes old → HasApplied n bytes old new → HasRecovered n old new
 recovered n bytes old new many few log applied = record {
   clean = record {
     label = record { many = many; few = few; label = applied.others 0 (omega arith) (head_apart n bytes 0 (omega arith)) ∙ log.label };

@@ -6,6 +6,13 @@ use Rattle.std.specs.Int.{bit_at}
 use Rattle.byteorder.specs.Endian.{little_bytes}
 use Rattle.sector_disk.specs.Disk.{Image}
 
+-- how many blocks an image may have
+abbrev pub fewest_blocks : ℕ
+fewest_blocks = 32
+
+abbrev pub most_blocks : ℕ
+most_blocks = 2048
+
 -- how many sectors an image of n blocks has
 abbrev pub sectors_for : ℕ → ℕ
 sectors_for n = 3 + 4 * n
@@ -16,8 +23,8 @@ label_of n = codes "F83BLOCK" ++ little_bytes 2 1 ++ little_bytes 2 n ++ replica
 
 -- An image of n blocks has the good label, and so many blocks are allowed. (How many sectors there are is said of the device.)
 pub record HasGoodLabel (n : ℕ) (image : Image) : Type 0 where
-  pub many : 32 ≤ n
-  pub few : n ≤ 2048
+  pub many : fewest_blocks ≤ n
+  pub few : n ≤ most_blocks
   pub label : image 0 ≡ label_of n
 
 -- The gate is open where its sector begins so.

@@ -3,7 +3,7 @@ ghost use Rattle.std.specs.Prelude.{◌≡◌, ◌⊎◌, ◌<◌, ◌≤◌, �
 ghost use Rattle.sector_disk.specs.Disk.{written, settled};
 ghost use Rattle.journal.specs.Calls.{StopsLeave, BeginsAtMost, Passes};
 ghost use Rattle.journal.specs.Images.{home_of, HasHomes};
-ghost use Rattle.journal.specs.Layout.{count_listed, sectors_for, open_gate_bytes, InListedHomes};
+ghost use Rattle.journal.specs.Layout.{fewest_blocks, most_blocks, count_listed, sectors_for, open_gate_bytes, InListedHomes};
 ghost use Rattle.journal.specs.Chain.{Follows};
 ghost use Rattle.journal.specs.Steps.{IsAsSynced, IsSound, IsLogged, HasRedone, HasApplied, HasSaved, HasRecovered, HasBlocks, merged};
 
@@ -48,8 +48,8 @@ fn copy_and_sync<D: SectorDevice>(
     blocks: u16,
     bytes: &[u8; 512],
 ) -> Result<(), DeviceFault>
-    requires many { 32 ≤ blocks }
-    requires few { blocks ≤ 2048 }
+    requires many { fewest_blocks ≤ blocks }
+    requires few { blocks ≤ most_blocks }
     requires size { D.sector_count device.old ≡ sectors_for blocks }
     requires logged { IsTrue (D.keeps_model device.old) → IsLogged blocks bytes.now (D.disk device.old) }
     ensures ok { IsTrue (D.keeps_model device.old)
@@ -69,8 +69,8 @@ pub fn apply<D: SectorDevice>(
     blocks: u16,
     bytes: &[u8; 512],
 ) -> Result<(), DeviceFault>
-    requires many { 32 ≤ blocks }
-    requires few { blocks ≤ 2048 }
+    requires many { fewest_blocks ≤ blocks }
+    requires few { blocks ≤ most_blocks }
     requires size { D.sector_count device.old ≡ sectors_for blocks }
     requires logged { IsTrue (D.keeps_model device.old) → IsLogged blocks bytes.now (D.disk device.old) }
     ensures ok { IsTrue (D.keeps_model device.old)
@@ -92,8 +92,8 @@ pub(crate) fn save<D: SectorDevice>(
     blocks: u16,
     bytes: &[u8; 512],
 ) -> Result<(), DeviceFault>
-    requires many { 32 ≤ blocks }
-    requires few { blocks ≤ 2048 }
+    requires many { fewest_blocks ≤ blocks }
+    requires few { blocks ≤ most_blocks }
     requires size { D.sector_count device.old ≡ sectors_for blocks }
     requires sound { IsTrue (D.keeps_model device.old) → IsSound blocks (D.disk device.old) }
     ensures ok { IsTrue (D.keeps_model device.old)

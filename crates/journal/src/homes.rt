@@ -2,7 +2,7 @@
 ghost use Rattle.std.specs.Prelude.{◌≡◌, ◌<◌, ◌≤◌, ◌+◌, ◌*◌, ◌^◌, ℕ, true, if◌then◌else◌, IsTrue, OnOk};
 ghost use Rattle.sector_disk.specs.Disk.{written};
 ghost use Rattle.journal.specs.Calls.{StopsLeave, BeginsAtMost, Passes};
-ghost use Rattle.journal.specs.Layout.{listed, count_listed, sectors_for, home_at, InPair, InHomeIfListed, InListedHomes};
+ghost use Rattle.journal.specs.Layout.{fewest_blocks, most_blocks, listed, count_listed, sectors_for, home_at, InPair, InHomeIfListed, InListedHomes};
 ghost use Rattle.journal.specs.Steps.{WritesOnly, IsAsSynced, HasCopied};
 
 use crate::layout::{home_sector, is_listed, slot_sector};
@@ -26,8 +26,8 @@ fn copy_sector<D: SectorDevice>(device: &mut D, from: u32, to: u32) -> Result<()
 }
 
 fn copy_home<D: SectorDevice>(device: &mut D, blocks: u16, b: u16) -> Result<(), DeviceFault>
-    requires many { 32 ≤ blocks }
-    requires few { blocks ≤ 2048 }
+    requires many { fewest_blocks ≤ blocks }
+    requires few { blocks ≤ most_blocks }
     requires below { b < blocks }
     requires size { D.sector_count device.old ≡ sectors_for blocks }
     ensures ok { IsTrue (D.keeps_model device.old)
@@ -51,8 +51,8 @@ fn copy_if_listed<D: SectorDevice>(
     bytes: &[u8; 512],
     b: u16,
 ) -> Result<(), DeviceFault>
-    requires many { 32 ≤ blocks }
-    requires few { blocks ≤ 2048 }
+    requires many { fewest_blocks ≤ blocks }
+    requires few { blocks ≤ most_blocks }
     requires below { b < blocks }
     requires size { D.sector_count device.old ≡ sectors_for blocks }
     ensures ok { IsTrue (D.keeps_model device.old)
@@ -77,8 +77,8 @@ pub(crate) fn copy_homes<D: SectorDevice>(
     blocks: u16,
     bytes: &[u8; 512],
 ) -> Result<(), DeviceFault>
-    requires many { 32 ≤ blocks }
-    requires few { blocks ≤ 2048 }
+    requires many { fewest_blocks ≤ blocks }
+    requires few { blocks ≤ most_blocks }
     requires size { D.sector_count device.old ≡ sectors_for blocks }
     ensures ok { IsTrue (D.keeps_model device.old)
         → OnOk result ((b : ℕ) → b < blocks → listed bytes.now b ≡ true → HasCopied blocks b (D.disk device.old).content (D.disk device.new).content) }

@@ -1,6 +1,6 @@
 //! Where things stand in an image, and how they are spelled.
 ghost use Rattle.std.specs.Prelude.{◌≡◌, ◌<◌, ◌≤◌, ◌+◌, ◌*◌, ◌++◌, ◌/◌, ◌%◌, length, replicate, codes, slice_set};
-ghost use Rattle.journal.specs.Layout.{label_of, gate_open, open_gate_bytes, listed, slot_at, home_at};
+ghost use Rattle.journal.specs.Layout.{fewest_blocks, most_blocks, label_of, gate_open, open_gate_bytes, listed, slot_at, home_at};
 
 use byteorder::{ByteOrder, LittleEndian};
 
@@ -18,8 +18,8 @@ const HEAD: u32 = 3;
 
 /// The label of an image with so many blocks.
 pub fn label(blocks: u16) -> [u8; 512]
-    requires many { 32 ≤ blocks }
-    requires few { blocks ≤ 2048 }
+    requires many { fewest_blocks ≤ blocks }
+    requires few { blocks ≤ most_blocks }
     ensures { result ≡ label_of blocks }
 {
     let mut bytes = named(b"F83BLOCK");
@@ -64,7 +64,7 @@ pub(crate) fn open_gate() -> [u8; 512]
 
 /// Whether a commit record lists block `b`.
 pub fn is_listed(bytes: &[u8; 512], b: u16) -> bool
-    requires { b < 2048 }
+    requires { b < most_blocks }
     ensures { result ≡ listed bytes.now b }
 {
     (bytes[b as usize / 8] >> (b % 8)) & 1 == 1
@@ -72,7 +72,7 @@ pub fn is_listed(bytes: &[u8; 512], b: u16) -> bool
 
 /// The first of the two slot sectors of block `b`.
 pub fn slot_sector(b: u16) -> u32
-    requires { b < 2048 }
+    requires { b < most_blocks }
     ensures { result ≡ slot_at b }
 {
     HEAD + 2 * b as u32
@@ -80,8 +80,8 @@ pub fn slot_sector(b: u16) -> u32
 
 /// The first of the two home sectors of block `b`.
 pub fn home_sector(blocks: u16, b: u16) -> u32
-    requires many { 32 ≤ blocks }
-    requires few { blocks ≤ 2048 }
+    requires many { fewest_blocks ≤ blocks }
+    requires few { blocks ≤ most_blocks }
     requires below { b < blocks }
     ensures { result ≡ home_at blocks b }
 {

@@ -3,7 +3,7 @@ ghost use Rattle.std.specs.Prelude.{◌≡◌, ◌≢◌, ◌==◌, ◌||◌, �
 ghost use Rattle.sector_disk.specs.Disk.{Image, MayLeave};
 ghost use Rattle.journal.specs.Clean.{IsClean};
 ghost use Rattle.journal.specs.Images.{meaning, Means};
-ghost use Rattle.journal.specs.Layout.{listed, count_listed, sectors_for};
+ghost use Rattle.journal.specs.Layout.{fewest_blocks, most_blocks, listed, count_listed, sectors_for};
 ghost use Rattle.journal.specs.Maps.{Maps, contents, latest, fresh, spilled, committed, shut};
 ghost use Rattle.journal.specs.Steps.{IsSound};
 
@@ -31,8 +31,8 @@ pub struct Store<D: SectorDevice> {
     // the commit record of the blocks spilled since the last save
     pending: [u8; 512],
     closed: bool,
-    ghost many: { 32 ≤ blocks },
-    ghost few: { blocks ≤ 2048 },
+    ghost many: { fewest_blocks ≤ blocks },
+    ghost few: { blocks ≤ most_blocks },
     ghost size: { D.sector_count device ≡ sectors_for blocks },
     ghost clear: { (b : ℕ) → blocks ≤ b → listed pending b ≡ false },
     ghost sound: { IsTrue (D.keeps_model device) → closed ≡ false → IsSound blocks (D.disk device) },
@@ -44,8 +44,8 @@ impl<D: SectorDevice> Store<D> {
     /// A store of `blocks` blocks, 32 to 2,048, over an image with a good label and a closed gate, of which nothing is
     /// unsynced. Makes no device call.
     pub fn adopt(device: D, blocks: u16) -> Self
-        requires many { 32 ≤ blocks }
-        requires few { blocks ≤ 2048 }
+        requires many { fewest_blocks ≤ blocks }
+        requires few { blocks ≤ most_blocks }
         requires size { D.sector_count device ≡ sectors_for blocks }
         requires clean { IsTrue (D.keeps_model device) → IsClean blocks (D.disk device) }
         ensures device { device_of result ≡ device }
@@ -67,8 +67,8 @@ impl<D: SectorDevice> Store<D> {
     #[inline]
     pub fn blocks(&self) -> u16
         ensures value { result ≡ blocks_of self.now }
-        ensures many { 32 ≤ result }
-        ensures few { result ≤ 2048 }
+        ensures many { fewest_blocks ≤ result }
+        ensures few { result ≤ most_blocks }
         // No other block is ever pending.
         ensures pending { (b : ℕ) → result ≤ b → is_pending self.now b ≡ false }
     {
@@ -225,7 +225,7 @@ fn empty_record() -> [u8; 512]
 
 // Adds a block to a commit record.
 fn list_block(bytes: &mut [u8; 512], b: u16)
-    requires { b < 2048 }
+    requires { b < most_blocks }
     ensures listed { listed bytes.new b ≡ true }
     ensures others { (a : ℕ) → a ≢ b → listed bytes.new a ≡ listed bytes.old a }
 {
@@ -234,7 +234,7 @@ fn list_block(bytes: &mut [u8; 512], b: u16)
 
 // How many of the first blocks a commit record lists.
 fn count_blocks(bytes: &[u8; 512], blocks: u16) -> u16
-    requires { blocks ≤ 2048 }
+    requires { blocks ≤ most_blocks }
     ensures { result ≡ count_listed bytes.now blocks }
 {
     let mut count = 0;
