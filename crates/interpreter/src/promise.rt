@@ -1,16 +1,23 @@
-//! What a line promises, over any device and any terminal.
-ghost use Rattle.std.specs.Prelude.{◌≡◌, ◌≤◌, List, Option};
+//! What a Forth system promises, over any device and any terminal.
+ghost use Rattle.std.specs.Prelude.{◌≡◌, ◌<◌, ◌≤◌, List, [], IfOk};
 ghost use Rattle.sector_disk.specs.Moments.{Elapses};
+ghost use Rattle.journal.specs.Maps.{Maps};
+ghost use Rattle.journal.specs.Store.{StandsFor, device_of};
 ghost use Rattle.block_words.specs.Words.{Save};
 ghost use Rattle.interpreter.specs.State.{Forth as Abstract};
-ghost use Rattle.interpreter.specs.Lines.{LineEnd};
+ghost use Rattle.interpreter.specs.Lines.{LineEnd, new_forth};
 ghost use Rattle.interpreter.specs.Promise.{Answers, OnIo, Keeps};
 ghost use Rattle.interpreter.specs.Terminal.{Rises};
 
 use super::terminal::Terminal;
+use journal::Store;
 use sector_disk::SectorDevice;
+use std::alloc::{AllocError, Global};
 
-/// A Forth system over a device.
+/// A Forth system over a store of blocks.
+///
+/// A new system stands for a new abstract Forth, and each line takes it from what it stands for to what it stands for
+/// next. So over a device that keeps the disk model it always stands for a state, and its replies are that state's.
 pub trait Lines<D: SectorDevice> {
     /// How a line ends.
     type End;
@@ -21,6 +28,24 @@ pub trait Lines<D: SectorDevice> {
     ghost device: { Self → D };
 
     ghost ending: { Self.End → LineEnd };
+
+    /// A new system over a store, whose lines take at most `steps` steps. All memory is taken here but that of a block's
+    /// buffer. Makes no device call.
+    fn new(alloc: Global, store: Store<D>, steps: u32) -> Result<Self, AllocError>
+    where
+        Self: Sized,
+        D: Drop,
+        requires { 0 < steps }
+        // All words are there. What was spilled is still pending, and a closed store is still closed.
+        ensures opens { (m : Maps) → StandsFor store m → IfOk result (λ forth. stands forth (new_forth steps [] m)) }
+        ensures device { IfOk result (λ forth. device forth ≡ device_of store) };
+
+    /// The store, as it is. Makes no device call, and saves nothing: what is updated and not spilled is given up.
+    fn into_store(self) -> Store<D>
+    where
+        Self: Sized,
+        ensures maps { (state : Abstract) → stands self state → StandsFor result state.world.maps }
+        ensures device { device_of result ≡ device self };
 
     /// Interprets a line of text, and writes the whole reply to the terminal.
     fn line<T: Terminal>(&mut self, text: &[u8], terminal: &mut T) -> Self::End
