@@ -1,6 +1,7 @@
 -- What a call of line promises, over any device and any terminal.
-use Rattle.std.specs.Prelude.{◌≡◌, ◌⊎◌, ℕ, zero, suc, ◌+◌, ◌-◌, ◌^◌, ◌≤◌, true, false, List, [], ◌++◌, Option, ⊤}
+use Rattle.std.specs.Prelude.{◌≡◌, ℕ, zero, suc, ◌+◌, true, false, List, [], ◌++◌, Option, ⊤}
 use Rattle.std.specs.Io.KnownBytes.{Appends, Consumes, IsAtEnd}
+use Rattle.sector_disk.specs.Counting.{HasRisen}
 use Rattle.sector_disk.specs.Moments.{Elapses}
 use Rattle.sector_disk.specs.declared.device.SectorDevice.{Ghosts}
 use Rattle.block_words.specs.Words.{Save}
@@ -8,22 +9,12 @@ use Rattle.block_words.specs.Kept.{last_map}
 use Rattle.block_words.specs.Calls.{CallKeeps}
 use Rattle.interpreter.specs.State.{Forth}
 use Rattle.interpreter.specs.Lines.{LineEnd, Io, Turn, Line, Broken}
+use Rattle.interpreter.specs.Terminal.{Begins, AppendsSome}
 
--- a count of 64 bits, which stays at its last value, rose by k
-abbrev pub Rose : (k old new : ℕ) → Type 0
-Rose zero old new = ⊤
-Rose (suc k) old new = (old + suc k ≤ new) ⊎ (2 ^ 64 - 1 ≤ new)
-
--- a list is a beginning of another
-pub record Begins {A : Type 0} (front whole : List A) : Type 0 where
-  pub rest : List A
-  pub same : whole ≡ front ++ rest
-
--- known bytes grew by a beginning of these
-pub record AppendsSome (old new : Option (List ℕ)) (bytes : List ℕ) : Type 0 where
-  pub written : List ℕ
-  pub begins : Begins written bytes
-  pub appends : Appends old new written
+-- a count rose so many times, or stays at its last value
+abbrev pub HasRisenBy : (times before now : ℕ) → Type 0
+HasRisenBy zero before now = ⊤
+HasRisenBy (suc times) before now = HasRisen (before + times) now
 
 -- A whole line: the terminal gave what the line took, and was given its whole reply. The device had failed before times
 -- before the line, and after times after it.
@@ -36,7 +27,7 @@ pub record Replied (ending : LineEnd) (opening : Forth) (bytes : List ℕ) (clos
   pub reply : Appends output printed turn.reply
   pub saves : made ≡ turn.saves
   -- the device was said to have failed only where it did
-  pub cause : Rose turn.failures before after
+  pub cause : HasRisenBy turn.failures before after
 
 -- A line that the terminal stopped: it gave what the line would take if the input ended there, and was given a
 -- beginning of the reply. The saves begun are a beginning of that line's.
@@ -47,7 +38,7 @@ pub record Stopped (opening : Forth) (bytes : List ℕ) (closing : Forth) (input
   pub given : Consumes input left turn.given
   pub reply : AppendsSome output printed turn.reply
   pub saves : Begins made turn.saves
-  pub cause : Rose turn.failures before after
+  pub cause : HasRisenBy turn.failures before after
   -- the system that it leaves: the device answers as it does in the line above, so it closes the store only where it fails there
   pub broken : Broken opening bytes turn.given line.answers made closing
 

@@ -1,5 +1,6 @@
 //! What a Forth system promises, over any device and any terminal.
 ghost use Rattle.std.specs.Prelude.{◌≡◌, ◌<◌, ◌≤◌, List, [], IfOk};
+ghost use Rattle.sector_disk.specs.Counting.{HasRisen};
 ghost use Rattle.sector_disk.specs.Moments.{Elapses};
 ghost use Rattle.journal.specs.Maps.{Maps};
 ghost use Rattle.journal.specs.Store.{StandsFor, device_of};
@@ -7,7 +8,6 @@ ghost use Rattle.block_words.specs.Words.{Save};
 ghost use Rattle.interpreter.specs.State.{Forth as Abstract};
 ghost use Rattle.interpreter.specs.Lines.{LineEnd, new_forth};
 ghost use Rattle.interpreter.specs.Promise.{Answers, OnIo, Keeps};
-ghost use Rattle.interpreter.specs.Terminal.{Rises};
 
 use super::terminal::Terminal;
 use journal::Store;
@@ -58,7 +58,7 @@ pub trait Lines<D: SectorDevice> {
         ensures time { Elapses D.time D.left_since (device self.old) (device self.new) }
         ensures model { D.keeps_model (device self.new) ≡ D.keeps_model (device self.old) }
         ensures device_failures { D.failures (device self.old) ≤ D.failures (device self.new) }
-        ensures terminal_failures { OnIo (ending result) (Rises (T.failures terminal.old) (T.failures terminal.new))
+        ensures terminal_failures { OnIo (ending result) (HasRisen (T.failures terminal.old) (T.failures terminal.new))
             (T.failures terminal.new ≡ T.failures terminal.old) }
         ensures no_more { T.may_give terminal.new ≤ T.may_give terminal.old }
         ensures same { T.identity terminal.new ≡ T.identity terminal.old };

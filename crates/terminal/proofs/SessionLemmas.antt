@@ -5,7 +5,7 @@ use Rattle.std.specs.Io.KnownBytes.{Consumes, IsAtEnd}
 use Rattle.interpreter.specs.Turn.{Turn}
 use Rattle.interpreter.specs.TwelveLine.{System, Line}
 use Rattle.interpreter.specs.TwelveLaws.{EachLineHasATurn}
-use Rattle.interpreter.specs.Terminal.{IsPrefix}
+use Rattle.interpreter.specs.Terminal.{Begins}
 use Rattle.terminal.specs.Cut.{line_text}
 use Rattle.terminal.specs.Session.{FirstTurn, Session, Completes, BreaksOff, output_of}
 use Rattle.terminal.specs.Calls.{ReadsPart, TurnDone}
@@ -78,7 +78,7 @@ session-one opening closing turn taken first =
 
 -- a line whose terminal failed, or which was not flushed
 pub breaks_off-turn : (opening closing : System) (turn : Turn) (input held printed : List ℕ) (left written : Option (List ℕ))
-    → CutTurn opening turn closing input left → written ≡ Some (held ++ printed) → IsPrefix printed turn.reply → BreaksOff opening input held left written
+    → CutTurn opening turn closing input left → written ≡ Some (held ++ printed) → Begins printed turn.reply → BreaksOff opening input held left written
 breaks_off-turn opening closing turn input held printed left written cut output begins = record {
   taken = cut.taken;
   unread = cut.unread;
@@ -219,8 +219,8 @@ but_last-append (t ∷ ts) u us =
     let e : length ((t ∷ ts) ++ u ∷ us) - 1 ≡ suc (length (ts ++ u ∷ us) - 1) = omega (arith, length-append ts (u ∷ us)) in
     ap (λ n. take n ((t ∷ ts) ++ u ∷ us)) e ∙ ap (λ l. t ∷ l) (but_last-append ts u us)
 
-whole-append : (ts us : List Turn) (printed : List ℕ) → IsPrefix (output_of (take (length us - 1) us)) printed
-    → IsPrefix (output_of (take (length (ts ++ us) - 1) (ts ++ us))) (output_of ts ++ printed)
+whole-append : (ts us : List Turn) (printed : List ℕ) → Begins (output_of (take (length us - 1) us)) printed
+    → Begins (output_of (take (length (ts ++ us) - 1) (ts ++ us))) (output_of ts ++ printed)
 whole-append ts [] printed whole =
     let xs = ts ++ [] in
     let n = length xs - 1 in (

@@ -3,7 +3,7 @@ use Rattle.std.specs.Prelude.{◌≡◌, ℕ, ◌-◌, List, [], ◌∷◌, ◌+
 use Rattle.std.specs.List.{flat_map}
 use Rattle.interpreter.specs.Turn.{Turn}
 use Rattle.interpreter.specs.TwelveLine.{System, Line}
-use Rattle.interpreter.specs.Terminal.{IsPrefix}
+use Rattle.interpreter.specs.Terminal.{Begins}
 use Rattle.terminal.specs.Cut.{IsFirstLine, line_text}
 
 -- what the turns printed
@@ -50,5 +50,5 @@ pub record BreaksOff (opening : System) (input held : List ℕ) (left written : 
   -- what was written
   pub printed : List ℕ
   pub output : written ≡ Some (held ++ printed)
-  pub begins : IsPrefix printed (output_of turns)
-  pub whole : IsPrefix (output_of (take (length turns - 1) turns)) printed
+  pub begins : Begins printed (output_of turns)
+  pub whole : Begins (output_of (take (length turns - 1) turns)) printed

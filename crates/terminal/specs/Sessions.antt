@@ -4,7 +4,8 @@ use Rattle.std.specs.List.{AllByRecursion, flat_map}
 use Rattle.block_words.specs.Words.{Save}
 use Rattle.interpreter.specs.State.{Forth}
 use Rattle.interpreter.specs.Lines.{Turn, Line}
-use Rattle.interpreter.specs.Promise.{Rose, Begins}
+use Rattle.interpreter.specs.Promise.{HasRisenBy}
+use Rattle.interpreter.specs.Terminal.{Begins}
 use Rattle.interpreter.specs.Law.{IsCalm}
 use Rattle.terminal.specs.Cut.{IsFirstLine, line_text}
 
@@ -42,7 +43,7 @@ pub record Completes (opening closing : Forth) (input held : List ℕ) (left wri
   pub end : left ≡ Some []
   pub output : written ≡ Some (held ++ output_of turns)
   pub saves : made ≡ saves_of turns
-  pub cause : Rose (failures_of turns) before after
+  pub cause : HasRisenBy (failures_of turns) before after
 
 -- A session of the bytes read so far: what was written begins its output, and holds whole the replies of all lines but
 -- the last. What was saved begins its saves.
@@ -59,7 +60,7 @@ pub record BreaksOff (opening : Forth) (input held : List ℕ) (left written : O
   pub begins : Begins printed (output_of turns)
   pub whole : Begins (output_of (take (length turns - 1) turns)) printed
   pub saves : Begins made (saves_of turns)
-  pub cause : Rose (failures_of turns) before after
+  pub cause : HasRisenBy (failures_of turns) before after
 
 -- each turn ended without DEVICE and MEMORY
 abbrev pub AreCalm : List Turn → Type 0

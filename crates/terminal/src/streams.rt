@@ -1,7 +1,8 @@
 //! A reader and a writer as a terminal.
 ghost use Rattle.std.specs.Prelude.{if◌then◌else◌, ◌≡◌, ◌<◌, ◌≤◌, [], ◌∷◌, IfOk, OnOk, OnErr, Some, None, OnSome};
 ghost use Rattle.std.specs.Io.KnownBytes.{Keeps, Appends, Consumes, IsAtEnd};
-ghost use Rattle.interpreter.specs.Terminal.{AppendsPrefix, given_bytes, Rises};
+ghost use Rattle.sector_disk.specs.Counting.{HasRisen};
+ghost use Rattle.interpreter.specs.Terminal.{AppendsSome, given_bytes};
 
 use super::run_fault::RunFault;
 use interpreter::{IoFault, Terminal};
@@ -31,7 +32,7 @@ pub fn read_byte<R: Read>(reader: &mut R) -> Result<Option<u8>, IoFault>
 pub fn write_bytes<W: Write>(writer: &mut W, bytes: &[u8]) -> Result<(), IoFault>
     ensures ok { OnOk result (Appends (W.contents writer.old) (W.contents writer.new) bytes.now) }
     ensures err { OnErr result
-        (AppendsPrefix (W.contents writer.old) (W.contents writer.new) bytes.now) }
+        (AppendsSome (W.contents writer.old) (W.contents writer.new) bytes.now) }
 {
     let mut rest = bytes;
     'tries: for _ in 0..u64::MAX {
@@ -149,7 +150,7 @@ impl<'a, R: Read, W: Write> Streams<'a, R, W> {
 
     /// Counts a failure of the reader.
     fn read_fault(&mut self) -> IoFault
-        ensures counted { Rises self.old.failures self.new.failures }
+        ensures counted { HasRisen self.old.failures self.new.failures }
         ensures reader { self.new.reader ≡ self.old.reader }
         ensures writer { self.new.writer ≡ self.old.writer }
         ensures may_give { self.new.may_give ≡ self.old.may_give }
