@@ -1,7 +1,7 @@
 //! Sessions over bytes in memory, and streams that fail.
 ghost use Rattle.std.specs.Prelude.{◌<◌};
 
-use super::{RunFault, run};
+use super::{RunFault, laws, run};
 use interpreter::Forth;
 use std::cell::Cell;
 use std::process::Abort;
@@ -233,4 +233,10 @@ fn replies_come_before_the_next_line(rt: HostRuntime) -> Result<(), Fail> {
     assert_eq!(rt; run(&mut forth, &mut reader, &mut writer), Ok(()));
     assert_eq!(rt; flushed.get(), OUTPUT.len());
     Ok(())
+}
+
+#[test]
+fn laws_are_calls(_rt: HostRuntime) {
+    laws::played();
+    laws::one_session();
 }
