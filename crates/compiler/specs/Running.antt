@@ -7,11 +7,10 @@ use Rattle.cell_machine.specs.declared.event.Op.{Op}
 use Rattle.cell_machine.specs.declared.event.Op.TheVariants as op
 use Rattle.cell_machine.specs.declared.event.Work.{Work}
 use Rattle.cell_machine.specs.declared.event.Work.TheVariants as work
-use Rattle.cell_machine.specs.declared.machine.Machine.{Machine}
 use Rattle.cell_machine.specs.Tree.{Trees}
 use Rattle.cell_machine.specs.Layout.{TextAt}
 use Rattle.cell_machine.specs.Levels.{Left}
-use Rattle.cell_machine.specs.Events.{BodyAt}
+use Rattle.cell_machine.specs.Events.{BodyAt, Doing}
 use Rattle.cell_machine.specs.Frames.{Level}
 
 -- all cells belong to one word
@@ -23,13 +22,13 @@ abbrev pub IsBody : (code : List ℕ) (place : ℕ) → Type 0
 IsBody code place = (owner : ℕ) × (part : Trees) × (parts : List Trees) × BodyAt code owner_of owner place (part ∷ parts)
 
 -- what is left for the machine to do lies in such bodies
-abbrev pub IsGoing : (code : List ℕ) → Machine → List Entry → Type 0
-IsGoing code machine entries = (levels : List Level) × Left code owner_of machine.pending machine.place entries levels
+abbrev pub IsGoing : (code : List ℕ) → Doing → List Entry → Type 0
+IsGoing code doing entries = (levels : List Level) × Left code owner_of doing.pending doing.place entries levels
 
 -- where nothing is left above a load, what stands around the load is left
-abbrev pub IsOver : (code : List ℕ) → Event → Machine → List Entry → Type 0
-IsOver code event.Done machine entries = IsGoing code machine entries
-IsOver code _ machine entries = Unit {0}
+abbrev pub IsOver : (code : List ℕ) → Event → Doing → List Entry → Type 0
+IsOver code event.Done doing entries = IsGoing code doing entries
+IsOver code _ doing entries = Unit {0}
 
 -- what a service finds in the cells
 abbrev pub IsAsked : (code : List ℕ) → Op → Type 0
