@@ -12,7 +12,7 @@ use std::io::{Read, Write};
 
 /// A Forth system over a device, which runs the lines of an input. Its device and the state that it stands for are those
 /// of its lines.
-pub trait Runs<D: SectorDevice>: Lines<D> {
+pub trait Runs<D: SectorDevice + Drop>: Lines<D> {
     /// The reader or the writer failed.
     type Fault;
 
