@@ -5,6 +5,7 @@ mod comparison;
 mod division;
 mod doubles;
 mod entering;
+mod laws;
 mod memory;
 mod refusals;
 mod stack;
