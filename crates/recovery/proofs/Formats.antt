@@ -10,8 +10,8 @@ use Rattle.journal.specs.Layout.{HasGoodLabel, label_of, gate_open, home_at}
 use Rattle.journal.specs.Maps.{block_in}
 use Rattle.journal.specs.Steps.{IsAsSynced}
 use Rattle.journal.proofs.Meaning.{shut_means, means_sized}
-use Rattle.recovery.specs.Formatted.{blank_blocks, FormatLeaves}
-use Rattle.recovery.specs.Steps.{IsPrepared, IsMade, IsBlank}
+use Rattle.recovery.specs.Formatted.{blank_blocks, FormatLeaves, IsBlank}
+use Rattle.recovery.specs.Steps.{IsPrepared, IsMade}
 
 same_or_not : (xs ys : List ℕ) → (xs ≡ ys) ⊎ (xs ≢ ys)
 same_or_not xs ys = decide _ (slice_eq-Decides Decides-eqb xs ys _ refl)

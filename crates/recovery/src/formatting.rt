@@ -10,10 +10,10 @@ ghost use Rattle.journal.specs.Layout.{sectors_for, label_of};
 ghost use Rattle.journal.specs.Maps.{fresh};
 ghost use Rattle.journal.specs.Steps.{WritesOnly, IsAsSynced};
 ghost use Rattle.journal.specs.Store.{device_of, disk_of, blocks_of, closed_of, is_pending, StandsFor};
-ghost use Rattle.recovery.specs.Formatted.{FormatLeaves, blank_blocks};
+ghost use Rattle.recovery.specs.Formatted.{FormatLeaves, IsBlank, KeepsSlots, blank_blocks};
 ghost use Rattle.recovery.specs.Label.{is_size_for};
 ghost use Rattle.recovery.specs.Opened.{end_of};
-ghost use Rattle.recovery.specs.Steps.{IsBlank, IsUnlabelled, IsPrepared, IsMade};
+ghost use Rattle.recovery.specs.Steps.{IsUnlabelled, IsPrepared, IsMade};
 ghost use Rattle.recovery.specs.declared.fault.OpenFault.TheVariants.{BadSize, Device};
 
 use crate::OpenFault;
@@ -31,9 +31,9 @@ fn fill_homes<D: SectorDevice>(device: &mut D, blocks: u16) -> Result<(), Device
     ensures ok { IsTrue (D.keeps_model device.old)
         → OnOk result ((k : ℕ) → 3 + 2 * blocks ≤ k → k < 3 + 4 * blocks → (D.disk device.new).content k ≡ replicate 512 32) }
     ensures only { IsTrue (D.keeps_model device.old)
-        → WritesOnly (λ k. 3 ≤ k) (D.disk device.old) (D.disk device.new) }
+        → WritesOnly (λ k. 3 + 2 * blocks ≤ k) (D.disk device.old) (D.disk device.new) }
     ensures stops { IsTrue (D.keeps_model device.old)
-        → StopsLeave D.SectorDevice device.old device.new (IsAsSynced (λ k. 3 ≤ k) (D.disk device.old)) }
+        → StopsLeave D.SectorDevice device.old device.new (IsAsSynced (λ k. 3 + 2 * blocks ≤ k) (D.disk device.old)) }
     ensures passes { Passes D.SectorDevice device.old device.new result }
     ensures begins { BeginsAtMost D.SectorDevice device.old device.new (2 * blocks) 0 }
 {
@@ -51,6 +51,8 @@ fn unlabel<D: SectorDevice>(device: &mut D, blocks: u16) -> Result<(), DeviceFau
     requires few { blocks ≤ 2048 }
     requires size { D.sector_count device.old ≡ sectors_for blocks }
     ensures ok { IsTrue (D.keeps_model device.old) → OnOk result (IsUnlabelled blocks (D.disk device.new)) }
+    ensures slots { IsTrue (D.keeps_model device.old)
+        → OnOk result (KeepsSlots blocks (D.disk device.old).content (D.disk device.new).content) }
     ensures stops { IsTrue (D.keeps_model device.old)
         → StopsLeave D.SectorDevice device.old device.new (FormatLeaves blocks (D.disk device.old)) }
     ensures passes { Passes D.SectorDevice device.old device.new result }
@@ -85,6 +87,8 @@ fn fill<D: SectorDevice>(device: &mut D, blocks: u16) -> Result<(), DeviceFault>
     requires few { blocks ≤ 2048 }
     requires size { D.sector_count device.old ≡ sectors_for blocks }
     ensures ok { IsTrue (D.keeps_model device.old) → OnOk result (IsBlank blocks (D.disk device.new).content) }
+    ensures slots { IsTrue (D.keeps_model device.old)
+        → OnOk result (KeepsSlots blocks (D.disk device.old).content (D.disk device.new).content) }
     ensures only { IsTrue (D.keeps_model device.old)
         → WritesOnly (λ k. k ≢ 0) (D.disk device.old) (D.disk device.new) }
     ensures stops { IsTrue (D.keeps_model device.old)
@@ -103,6 +107,8 @@ fn prepare<D: SectorDevice>(device: &mut D, blocks: u16) -> Result<(), DeviceFau
     requires size { D.sector_count device.old ≡ sectors_for blocks }
     requires unlabelled { IsTrue (D.keeps_model device.old) → IsUnlabelled blocks (D.disk device.old) }
     ensures ok { IsTrue (D.keeps_model device.old) → OnOk result (IsPrepared blocks (D.disk device.new)) }
+    ensures slots { IsTrue (D.keeps_model device.old)
+        → OnOk result (KeepsSlots blocks (D.disk device.old).content (D.disk device.new).content) }
     ensures stops { IsTrue (D.keeps_model device.old)
         → StopsLeave D.SectorDevice device.old device.new (λ c. c 0 ≢ label_of blocks) }
     ensures passes { Passes D.SectorDevice device.old device.new result }
@@ -119,6 +125,8 @@ fn seal<D: SectorDevice>(device: &mut D, blocks: u16) -> Result<(), DeviceFault>
     requires size { D.sector_count device.old ≡ sectors_for blocks }
     requires prepared { IsTrue (D.keeps_model device.old) → IsPrepared blocks (D.disk device.old) }
     ensures ok { IsTrue (D.keeps_model device.old) → OnOk result (IsMade blocks (D.disk device.new)) }
+    ensures slots { IsTrue (D.keeps_model device.old)
+        → OnOk result (KeepsSlots blocks (D.disk device.old).content (D.disk device.new).content) }
     ensures stops { IsTrue (D.keeps_model device.old)
         → StopsLeave D.SectorDevice device.old device.new (λ c. (c 0 ≢ label_of blocks) ⊎ Means (blank_blocks blocks) c) }
     ensures passes { Passes D.SectorDevice device.old device.new result }
@@ -133,6 +141,8 @@ fn make<D: SectorDevice>(device: &mut D, blocks: u16) -> Result<(), DeviceFault>
     requires few { blocks ≤ 2048 }
     requires size { D.sector_count device.old ≡ sectors_for blocks }
     ensures ok { IsTrue (D.keeps_model device.old) → OnOk result (IsMade blocks (D.disk device.new)) }
+    ensures slots { IsTrue (D.keeps_model device.old)
+        → OnOk result (KeepsSlots blocks (D.disk device.old).content (D.disk device.new).content) }
     ensures stops { IsTrue (D.keeps_model device.old)
         → StopsLeave D.SectorDevice device.old device.new (FormatLeaves blocks (D.disk device.old)) }
     ensures passes { Passes D.SectorDevice device.old device.new result }
@@ -152,6 +162,8 @@ pub fn format<D: SectorDevice>(mut device: D, blocks: u16) -> Result<Store<D>, (
     ensures ok { IsTrue (D.keeps_model device)
         → IfOk result (λ store. StandsFor store (fresh (blank_blocks blocks))) }
     ensures clean { IsTrue (D.keeps_model device) → IfOk result (λ store. IsClean blocks (disk_of store)) }
+    ensures written { IsTrue (D.keeps_model device) → IfOk result (λ store. IsBlank blocks (disk_of store).content
+        × KeepsSlots blocks (D.disk device).content (disk_of store).content) }
     ensures fresh { IfOk result (λ store. (blocks_of store ≡ blocks) × (closed_of store ≡ false) × ((b : ℕ)
         → is_pending store b ≡ false)) }
 
