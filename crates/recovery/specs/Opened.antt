@@ -1,5 +1,5 @@
 -- What a recovery makes of a disk.
-use Rattle.std.specs.Prelude.{ℕ, ◌+◌, ◌*◌, if◌then◌else◌, Result, Ok, Err}
+use Rattle.std.specs.Prelude.{ℕ, ◌+◌, ◌*◌, if◌then◌else◌, List, replicate, Result, Ok, Err}
 use Rattle.sector_disk.specs.Disk.{Disk, Image, MayLeave}
 use Rattle.sector_disk.specs.declared.device.SectorDevice.{Ghosts}
 use Rattle.journal.specs.declared.store.Store.{Store}
@@ -18,6 +18,10 @@ pub record RecoveryLeaves (n : ℕ) (disk : Disk) (image : Image) : Type 0 where
   pub from : Image
   pub may : MayLeave disk from
   pub follows : Follows n from image
+
+-- the gate after a recovery: an open one is zeros then, and a closed one is left as it is
+abbrev pub gate_after : List ℕ → List ℕ
+gate_after gate = if gate_open gate then replicate 512 0 else gate
 
 -- how many writes and syncs a recovery of this image begins at most
 abbrev pub writes_for : ℕ → Image → ℕ

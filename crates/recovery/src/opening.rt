@@ -12,7 +12,7 @@ ghost use Rattle.journal.specs.Maps.{fresh};
 ghost use Rattle.journal.specs.Steps.{HasRecovered};
 ghost use Rattle.journal.specs.Store.{device_of, disk_of, blocks_of, closed_of, is_pending, StandsFor};
 ghost use Rattle.recovery.specs.Label.{is_size, label_refusal, refusal};
-ghost use Rattle.recovery.specs.Opened.{RecoveryLeaves, end_of, writes_for, syncs_for};
+ghost use Rattle.recovery.specs.Opened.{RecoveryLeaves, end_of, gate_after, writes_for, syncs_for};
 ghost use Rattle.recovery.specs.declared.fault.OpenFault.{OpenFault};
 ghost use Rattle.recovery.specs.declared.fault.OpenFault.TheVariants.{BadSize, Device};
 
@@ -33,6 +33,8 @@ fn redo<D: SectorDevice>(device: &mut D, blocks: u16) -> Result<(), DeviceFault>
     requires synced { IsTrue (D.keeps_model device.old) → (k : ℕ) → (D.disk device.old).unsynced k ≡ false }
     ensures ok { IsTrue (D.keeps_model device.old)
         → OnOk result (HasRecovered blocks (D.disk device.old) (D.disk device.new)) }
+    ensures gate { IsTrue (D.keeps_model device.old)
+        → OnOk result ((D.disk device.new).content 1 ≡ gate_after ((D.disk device.old).content 1)) }
     ensures stops { IsTrue (D.keeps_model device.old)
         → StopsLeave D.SectorDevice device.old device.new (Follows blocks (D.disk device.old).content) }
     ensures passes { Passes D.SectorDevice device.old device.new result }
@@ -53,6 +55,8 @@ fn finish<D: SectorDevice>(device: &mut D, blocks: u16) -> Result<(), DeviceFaul
     requires synced { IsTrue (D.keeps_model device.old) → (k : ℕ) → (D.disk device.old).unsynced k ≡ false }
     ensures ok { IsTrue (D.keeps_model device.old)
         → OnOk result (HasRecovered blocks (D.disk device.old) (D.disk device.new)) }
+    ensures gate { IsTrue (D.keeps_model device.old)
+        → OnOk result ((D.disk device.new).content 1 ≡ gate_after ((D.disk device.old).content 1)) }
     ensures stops { IsTrue (D.keeps_model device.old)
         → StopsLeave D.SectorDevice device.old device.new (Follows blocks (D.disk device.old).content) }
     ensures passes { Passes D.SectorDevice device.old device.new result }
@@ -100,6 +104,8 @@ fn recover<D: SectorDevice>(device: &mut D) -> Result<u16, OpenFault>
         → IfOk result (λ n. HasGoodLabel n (D.disk device.old).content) }
     ensures ok { IsTrue (D.keeps_model device.old)
         → IfOk result (λ n. HasRecovered n (D.disk device.old) (D.disk device.new)) }
+    ensures gate { IsTrue (D.keeps_model device.old)
+        → IfOk result (λ _. (D.disk device.new).content 1 ≡ gate_after ((D.disk device.old).content 1)) }
     ensures exact { IsTrue (D.keeps_model device.old) → MatchResult result
         (λ _. refusal (D.sector_count device.old) ((D.disk device.old).content 0) ≡ None) (λ e. (e ≡ Device) ⊎ (refusal (D.sector_count device.old) ((D.disk device.old).content 0) ≡ Some e)) }
     ensures device { IfErr result (λ e. e ≡ Device → HasRisen (D.failures device.old) (D.failures device.new)) }
@@ -132,6 +138,8 @@ pub fn open<D: SectorDevice>(mut device: D) -> Result<Store<D>, (OpenFault, D)>
         → IfOk result (λ store. StandsFor store (fresh (meaning (blocks_of store) (D.disk device).content))) }
     ensures clean { IsTrue (D.keeps_model device)
         → IfOk result (λ store. IsClean (blocks_of store) (disk_of store)) }
+    ensures gate { IsTrue (D.keeps_model device)
+        → IfOk result (λ store. (disk_of store).content 1 ≡ gate_after ((D.disk device).content 1)) }
     ensures fresh { IfOk result (λ store. (closed_of store ≡ false) × ((b : ℕ) → is_pending store b ≡ false)) }
     ensures size { IfOk result (λ store. D.sector_count device ≡ sectors_for (blocks_of store)) }
 
