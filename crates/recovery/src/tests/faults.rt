@@ -1,5 +1,5 @@
 // Each call of the device fails, alone or with all after it.
-use super::support::{block, check, failing_from, failing_once, first_two, formatted, opened};
+use super::support::{block, check, failing, first_two, formatted, opened};
 use journal::{Store, StoreFault};
 use sector_disk::{Fused, MemoryDisk};
 use std::test::Fail;
@@ -62,7 +62,7 @@ fn session(store: &mut Store<Fused<MemoryDisk>>) -> Result<(usize, bool), Fail> 
 #[test]
 fn a_call_that_fails_closes_the_store_or_changes_nothing(rt: HostRuntime) -> Result<(), Fail> {
     for k in 1..30 {
-        let mut store = failing_once(formatted(&rt)?, k)?;
+        let mut store = failing(formatted(&rt)?, k, false)?;
         let (faults, saved) = session(&mut store)?;
         assert_eq!(rt; faults, if k <= 25 { 1 } else { 0 }, "call {k}");
         let is_closed = store.is_closed();
@@ -82,7 +82,7 @@ fn a_call_that_fails_closes_the_store_or_changes_nothing(rt: HostRuntime) -> Res
 #[test]
 fn a_device_that_fails_for_good_keeps_the_store_closed(rt: HostRuntime) -> Result<(), Fail> {
     for k in 1..30 {
-        let mut store = failing_from(formatted(&rt)?, k)?;
+        let mut store = failing(formatted(&rt)?, k, true)?;
         let (faults, saved) = session(&mut store)?;
         assert_eq!(rt; faults > 0, k <= 25, "call {k}");
         let found = first_two(store.into_device().into_device())?;
@@ -97,7 +97,7 @@ fn a_device_that_fails_for_good_keeps_the_store_closed(rt: HostRuntime) -> Resul
 
 #[test]
 fn a_failed_read_changes_nothing(rt: HostRuntime) -> Result<(), Fail> {
-    let mut store = failing_once(formatted(&rt)?, 2)?;
+    let mut store = failing(formatted(&rt)?, 2, false)?;
     let mut bytes = [7; 1024];
     assert!(rt; 1 < store.blocks());
     assert!(rt; matches!(store.read_block(1, &mut bytes), Err(StoreFault::Device)));
@@ -109,7 +109,7 @@ fn a_failed_read_changes_nothing(rt: HostRuntime) -> Result<(), Fail> {
 
 #[test]
 fn a_store_that_was_closed_is_opened_again(rt: HostRuntime) -> Result<(), Fail> {
-    let mut store = failing_from(formatted(&rt)?, 3)?;
+    let mut store = failing(formatted(&rt)?, 3, true)?;
     assert!(rt; 1 < store.blocks());
     assert!(rt; store.spill(1, &[65; 1024]).is_ok());
     assert!(rt; matches!(store.commit(), Err(StoreFault::Device)));

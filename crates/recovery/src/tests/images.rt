@@ -1,5 +1,5 @@
 // The bytes of an image, and which images are refused.
-use super::support::{BLOCKS, SECTORS, block, failing_from, formatted, opened, put, sector, spill};
+use super::support::{BLOCKS, SECTORS, block, failing, formatted, opened, put, sector, spill};
 use crate::{OpenFault, format};
 use journal::layout;
 use sector_disk::MemoryDisk;
@@ -83,7 +83,7 @@ fn a_commit_writes_record_and_homes(rt: HostRuntime) -> Result<(), Fail> {
 // Two spills make four calls; then come the record, a sync, the gate and a sync.
 #[test]
 fn a_gate_is_opened_with_zeros_after_its_name(rt: HostRuntime) -> Result<(), Fail> {
-    let mut store = failing_from(formatted(&rt)?, 9)?;
+    let mut store = failing(formatted(&rt)?, 9, true)?;
     spill(&mut store, 1, 65)?;
     spill(&mut store, 2, 66)?;
     assert!(rt; store.commit().is_err());

@@ -1,49 +1,18 @@
 // A save of two blocks, stopped at each of its calls, with each unsynced sector lost, kept or torn in every combination.
-ghost use Rattle.std.specs.Prelude.{◌≤◌};
-
-use super::support::{Unsynced, failing_from, first_two, formatted, spill, torn, unsynced_sectors};
-use sector_disk::{Fate, MemoryDisk};
+use super::support::{
+    combination, combinations, failing, first_two, formatted, spill, unsynced_sectors,
+};
+use sector_disk::MemoryDisk;
 use std::test::Fail;
 
 // Blocks 1 and 2 are spilled and committed over a device that fails from call `k` on: whether the commit returned, and
 // the disk.
 pub fn save_until(rt: &HostRuntime, k: u64) -> Result<(bool, MemoryDisk), Fail> {
-    let mut store = failing_from(formatted(rt)?, k.max(1))?;
+    let mut store = failing(formatted(rt)?, k, true)?;
     let saved = spill(&mut store, 1, 65).is_ok()
         && spill(&mut store, 2, 66).is_ok()
         && store.commit().is_ok();
     Ok((saved, store.into_device().into_device()))
-}
-
-// How many ways there are to leave a sector: lost, kept, torn in the middle, and for the gate also torn in its name.
-fn ways(sector: &Unsynced) -> usize
-    ensures { 3 ≤ result }
-{
-    if sector.k == 1 { 4 } else { 3 }
-}
-
-fn combinations(sectors: &[Unsynced]) -> usize {
-    let mut all = 1_usize;
-    for sector in sectors {
-        all = all.saturating_mul(ways(sector));
-    }
-    all
-}
-
-// The n-th combination of fates.
-fn combination(rt: &HostRuntime, sectors: &[Unsynced], n: usize) -> Result<Vec<Fate>, Fail> {
-    let mut fates = Vec::new(rt.alloc());
-    let mut rest = n;
-    for sector in sectors {
-        fates.push(match rest % ways(sector) {
-            0 => Fate::Lost,
-            1 => Fate::Kept,
-            2 => torn(sector, 256),
-            _ => torn(sector, 4),
-        })?;
-        rest /= ways(sector);
-    }
-    Ok(fates)
 }
 
 // What all stops before one call leave: how many there are, how many leave the new blocks, and whether the save returned.

@@ -64,27 +64,23 @@ pub fn opened(disk: MemoryDisk) -> Result<Store<MemoryDisk>, OpenFault> {
     open(disk).map_err(|refused| refused.0)
 }
 
-/// A store over an opened image whose device fails from call `k` on, counted from 1.
-pub fn failing_from(disk: MemoryDisk, k: u64) -> Result<Store<Fused<MemoryDisk>>, OpenFault>
-    requires { 1 ≤ k }
-{
+/// A store over an opened image whose device fails at call `k`, counted from 1, and at all later calls or at none.
+pub fn failing(
+    disk: MemoryDisk,
+    k: u64,
+    for_good: bool,
+) -> Result<Store<Fused<MemoryDisk>>, OpenFault> {
+    let k = k.max(1);
     match open(disk) {
         Ok(store) => {
             let blocks = store.blocks();
-            Ok(Store::adopt(Fused::from(store.into_device(), k), blocks))
-        }
-        Err((fault, _)) => Err(fault),
-    }
-}
-
-/// A store over an opened image whose device fails at call `k` alone, counted from 1.
-pub fn failing_once(disk: MemoryDisk, k: u64) -> Result<Store<Fused<MemoryDisk>>, OpenFault>
-    requires { 1 ≤ k }
-{
-    match open(disk) {
-        Ok(store) => {
-            let blocks = store.blocks();
-            Ok(Store::adopt(Fused::once(store.into_device(), k), blocks))
+            let disk = store.into_device();
+            let device = if for_good {
+                Fused::from(disk, k)
+            } else {
+                Fused::once(disk, k)
+            };
+            Ok(Store::adopt(device, blocks))
         }
         Err((fault, _)) => Err(fault),
     }
@@ -163,6 +159,38 @@ pub fn torn(sector: &Unsynced, n: usize) -> Fate {
         *byte = *new;
     }
     Fate::Torn(bytes)
+}
+
+// How many ways there are to leave a sector: lost, kept, torn in the middle, and for the gate also torn in its name.
+fn ways(sector: &Unsynced) -> usize
+    ensures { 3 ≤ result }
+{
+    if sector.k == 1 { 4 } else { 3 }
+}
+
+/// How many ways there are to leave all unsynced sectors.
+pub fn combinations(sectors: &[Unsynced]) -> usize {
+    let mut all = 1_usize;
+    for sector in sectors {
+        all = all.saturating_mul(ways(sector));
+    }
+    all
+}
+
+/// The n-th of them.
+pub fn combination(rt: &HostRuntime, sectors: &[Unsynced], n: usize) -> Result<Vec<Fate>, Fail> {
+    let mut fates = Vec::new(rt.alloc());
+    let mut rest = n;
+    for sector in sectors {
+        fates.push(match rest % ways(sector) {
+            0 => Fate::Lost,
+            1 => Fate::Kept,
+            2 => torn(sector, 256),
+            _ => torn(sector, 4),
+        })?;
+        rest /= ways(sector);
+    }
+    Ok(fates)
 }
 
 /// Five ways in which a stop may leave all unsynced sectors.
