@@ -1,6 +1,7 @@
 pub mod Alike
 pub mod Filled
 pub mod Lists
+pub mod Valid
 pub mod Asked
 pub mod Runs
 pub mod KeptOn

@@ -1,6 +1,6 @@
 -- Saving, case by case.
 use Rattle.std.proofs.Common.{◌≡◌, ◌⊎◌, ℕ, zero, suc, ◌+◌, ◌*◌, ◌<◌, ◌≤◌, Bool, true, false, cond, List, [], ◌∷◌, ◌++◌, length, take, drop, Option, Some, None, Result, Ok, Err, inl, refl, sym, ◌∙◌, ap, subst, arith}
-use Rattle.std.specs.Prelude.{◌||◌, slice_get, slice_index_or, OnOk}
+use Rattle.std.specs.Prelude.{◌||◌, slice_get, slice_index_or}
 use Rattle.journal.specs.declared.store.StoreFault.{StoreFault}
 use Rattle.journal.specs.declared.store.StoreFault.TheVariants.{Device as Broken, Closed as Shut}
 use Rattle.sector_disk.specs.Disk.{Image}

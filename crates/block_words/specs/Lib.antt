@@ -2,6 +2,7 @@ pub mod Words
 pub mod Kept
 pub mod Calls
 pub mod Following
+pub mod Validity
 pub mod Parts
 pub mod Uses
 pub mod Promises

@@ -1,5 +1,5 @@
 -- The parts of the blocks, and what a stop of a save leaves.
-use Rattle.std.specs.Prelude.{◌≡◌, ◌⊎◌, ◌<◌, ℕ, false, List, None}
+use Rattle.std.specs.Prelude.{◌≡◌, ◌⊎◌, ◌<◌, ◌≤◌, ℕ, false, List, length, None}
 use Rattle.sector_disk.specs.Disk.{Image, MayLeave}
 use Rattle.sector_disk.specs.declared.device.SectorDevice.{Ghosts}
 use Rattle.journal.specs.declared.store.Store.{Store}
@@ -7,7 +7,7 @@ use Rattle.journal.specs.Calls.{StopsLeave}
 use Rattle.journal.specs.Images.{Means}
 use Rattle.journal.specs.Maps.{Maps}
 use Rattle.journal.specs.Store.{StandsFor}
-use Rattle.block_buffers.specs.Buffers.{Buffers, slot_of}
+use Rattle.block_buffers.specs.Buffers.{Buffers, slot_of, updated_ones, IsValid}
 use Rattle.block_words.specs.declared.Blocks.{Blocks}
 use Rattle.block_words.specs.Words.{next_map}
 
@@ -31,3 +31,12 @@ module _ {D : Type 0} {G : Ghosts D} where
   abbrev pub LeavesChanged : Store D G → Store D G → Buffers → List ℕ → Type 0
   LeavesChanged old new buffers space = (m : Maps) → StandsFor old m
       → (image : Image) → MayLeave (G.disk new.device) image → Means (next_map buffers space m) image
+
+module _ {D : Type 0} (G : Ghosts D) where
+  -- The list of buffers is valid at any time: at most four, no two with the same block or the same slot.
+  abbrev pub BuffersAreValid : Type 0
+  BuffersAreValid = (blocks : Blocks D G) → IsValid (buffers_of blocks)
+
+  -- A save finds at most four updated buffers.
+  abbrev pub FewAreUpdated : Type 0
+  FewAreUpdated = (blocks : Blocks D G) → length (updated_ones (buffers_of blocks)) ≤ 4

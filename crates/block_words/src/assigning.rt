@@ -3,7 +3,7 @@ ghost use Rattle.std.specs.Prelude.{◌≡◌, ◌⊎◌, ◌<◌, ◌↔◌, []
 ghost use Rattle.journal.specs.Maps.{Maps, shut};
 ghost use Rattle.journal.specs.Store.{blocks_of, closed_of, StandsFor, Continues, DeviceFailed, DeviceBegins, KeepsSaved};
 ghost use Rattle.data_space.specs.Space.{buffer_at, with_bytes};
-ghost use Rattle.block_buffers.specs.Buffers.{oldest, assigned, slot_for, placed};
+ghost use Rattle.block_buffers.specs.Buffers.{oldest, assigned, slot_for, placed, IsValid};
 ghost use Rattle.block_words.specs.Words.{assign, block, buffer};
 ghost use Rattle.block_words.specs.Rooms.{within, room_made, is_updated, address_of, filled_in};
 ghost use Rattle.block_words.specs.Calls.{CallRuns};
@@ -73,6 +73,7 @@ fn assign_slot<D: SectorDevice>(
     ensures list { MatchResult result (λ _. buffers.new ≡ placed buffers.old u) (λ _. buffers.new ≡ buffers.old) }
     ensures only { IfErr result (λ fault. (fault ≡ BlockFault.Device) ⊎ (fault ≡ BlockFault.Memory)) }
     ensures within { within (blocks_of store.new) buffers.new.list ≡ true }
+    ensures valid { OnOk result (IsValid buffers.new) }
     ensures device { IsErrOf result BlockFault.Device → DeviceFailed store.old store.new }
     ensures continues { Continues store.old store.new }
     ensures begins { DeviceBegins store.old store.new 2 0 }
@@ -127,6 +128,7 @@ pub(crate) fn fetch<D: SectorDevice>(
     ensures closed_same { closed_of store.old ≡ true → store.new ≡ store.old }
     ensures device { IsErrOf result BlockFault.Device → DeviceFailed store.old store.new }
     ensures within { within (blocks_of store.new) buffers.new.list ≡ true }
+    ensures valid { OnOk result (IsValid buffers.new) }
     ensures continues { Continues store.old store.new }
     ensures begins { DeviceBegins store.old store.new 2 0 }
 {
@@ -164,6 +166,7 @@ pub(crate) fn blank<D: SectorDevice>(
     ensures closed_same { closed_of store.old ≡ true → store.new ≡ store.old }
     ensures device { IsErrOf result BlockFault.Device → DeviceFailed store.old store.new }
     ensures within { within (blocks_of store.new) buffers.new.list ≡ true }
+    ensures valid { OnOk result (IsValid buffers.new) }
     ensures continues { Continues store.old store.new }
     ensures begins { DeviceBegins store.old store.new 2 0 }
 {

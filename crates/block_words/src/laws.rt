@@ -1,5 +1,6 @@
-//! Laws of calls that follow one another.
+//! Laws of calls that follow one another, and of the buffers at any time.
 ghost use Rattle.block_words.specs.Following.{KeepsOn};
+ghost use Rattle.block_words.specs.Parts.{BuffersAreValid, FewAreUpdated};
 
 use sector_disk::SectorDevice;
 
@@ -7,4 +8,11 @@ use sector_disk::SectorDevice;
 /// So the saves of a whole line, or of a session, are kept from its start.
 pub fn calls_follow<D: SectorDevice>()
     ensures { KeepsOn D.SectorDevice }
+{}
+
+/// Does nothing. Its contract is a law over any device: at any time the list of buffers that `Blocks` holds is valid, and
+/// so at most four of them are updated.
+pub fn buffers_are_valid<D: SectorDevice>()
+    ensures valid { BuffersAreValid D.SectorDevice }
+    ensures few { FewAreUpdated D.SectorDevice }
 {}

@@ -3,13 +3,15 @@
 #![tactic(auto)]
 
 ghost use Rattle.std.specs.Prelude.{◌≡◌, ◌↔◌, List, [], ℕ, true, None, is_ok, IfOk, IfErr, OnErr, IsErrOf, IsSome, IfSome, MatchResult};
+ghost use Rattle.std.proofs.Props.{props};
 ghost use Rattle.journal.specs.Maps.{Maps};
 ghost use Rattle.journal.specs.Store.{blocks_of, closed_of, StandsFor, DeviceBegins, KeepsSaved, SamePending};
 ghost use Rattle.data_space.specs.Space.{buffer_at, buffer_bytes};
-ghost use Rattle.block_buffers.specs.Buffers.{slot_of, none_assigned, unmarked, after_mark};
+ghost use Rattle.block_buffers.specs.Buffers.{slot_of, none_assigned, unmarked, after_mark, IsValid};
 ghost use Rattle.block_words.specs.Words.{block, buffer, update, save_buffers, flush, source, next_map};
 ghost use Rattle.block_words.specs.Uses.{used, slot_used, blanked, with_bytes_left};
 ghost use Rattle.block_words.specs.Rooms.{within};
+ghost use Rattle.block_words.specs.Validity.{AreApart-prop, SlotsBelow-prop};
 ghost use Rattle.block_words.specs.Calls.{CallRuns, save_begun};
 
 mod assigning;
@@ -46,13 +48,15 @@ pub enum BlockFault {
 /// copy of them is kept. A block's present contents are its buffer's bytes, or else what the store has. Memory is
 /// taken by `new`, and by the first `block` or `buffer` of a block that has none, and by no other call.
 ///
-/// Contracts speak of the store and of the list of buffers. Where the device keeps the disk model, `CallRuns` says that a
-/// call is a run of its word, and what a stop at any moment of it leaves; all other clauses hold over any device.
+/// Contracts speak of the store and of the list of buffers, which is valid at any time (`laws::buffers_are_valid`).
+/// Where the device keeps the disk model, `CallRuns` says that a call is a run of its word, and what a stop at any moment
+/// of it leaves; all other clauses hold over any device.
 #[derive(Drop)]
 pub struct Blocks<D: SectorDevice> {
     store: Store<D>,
     buffers: Buffers,
     ghost within: { within (blocks_of store) buffers.list ≡ true },
+    ghost valid: { IsValid buffers } by { Prim.hlevel (props, AreApart-prop, SlotsBelow-prop) },
 }
 
 impl<D: SectorDevice> Blocks<D> {

@@ -10,6 +10,7 @@ invariant_of-self g c = record {
   within =
       ap (λ (b : Buffers). within c.args.self.now.store.blocks b.list) c.touch.ensures.buffers
       ∙ within_after_touch c.args.self.now.store.blocks c.args.u c.args.self.now.buffers c.args.self.now.within;
+  valid = c.touch.ensures.valid;
 }
 
 pub returns-then-u-blocks-clause-asks : goal.returns-then-u-blocks-clause-asks

@@ -1,7 +1,9 @@
-use Rattle.std.proofs.Common.{true, sym, subst, Ok}
-use Rattle.block_buffers.specs.Buffers.{Buffers, none_assigned}
+use Rattle.std.proofs.Common.{true, sym, ap, subst, Ok}
+use Rattle.block_buffers.specs.Buffers.{Buffers, none_assigned, IsValid}
 use Rattle.block_words.specs.Words.{flush, next_map}
 use Rattle.block_words.specs.Calls.{CallRuns, save_begun}
+use Rattle.block_words.specs.Rooms.{within}
+use Rattle.block_words.proofs.Valid.{valid_none}
 use Rattle.block_words.proofs.Blocks.flush.Goals as goal
 
 pub returns-in-Ok-clause-runs : goal.returns-in-Ok-clause-runs
@@ -13,3 +15,9 @@ returns-in-Ok-clause-runs g c = λ m stands.
 
 pub returns-in-Err-clause-runs : goal.returns-in-Err-clause-runs
 returns-in-Err-clause-runs g c = λ m stands. c.in-Err.ensures.runs m (λ bs. none_assigned) stands
+
+pub invariant_of-self : goal.invariant_of-self
+invariant_of-self g c = record {
+  within = ap (λ (b : Buffers). within c.save.new.store.blocks b.list) c.unassign_all.ensures;
+  valid = subst IsValid (sym c.unassign_all.ensures) valid_none;
+}

@@ -22,4 +22,5 @@ invariant_of-self g c = record {
       ap (λ (b : Buffers). within c.save.new.store.blocks b.list) c.unmark_all.ensures.buffers
       ∙ ap (λ n. within n (unmarked c.args.self.now.buffers).list) c.in-Ok.ensures.saves.continues.blocks
       ∙ within_unmarked c.args.self.now.store.blocks c.args.self.now.buffers c.args.self.now.within;
+  valid = c.unmark_all.ensures.valid;
 }

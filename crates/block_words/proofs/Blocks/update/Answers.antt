@@ -9,4 +9,5 @@ invariant_of-self g c = record {
   within =
       ap (λ (b : Buffers). within c.args.self.now.store.blocks b.list) c.mark.ensures.buffers
       ∙ within_after_mark c.args.self.now.store.blocks c.args.self.now.buffers c.args.self.now.within;
+  valid = c.mark.ensures.valid;
 }

@@ -1,0 +1,8 @@
+use Rattle.block_words.proofs.Valid.{few_updated}
+use Rattle.block_words.proofs.laws.buffers_are_valid.Goals as goal
+
+pub returns-clause-valid : goal.returns-clause-valid
+returns-clause-valid g c = λ blocks. blocks.valid
+
+pub returns-clause-few : goal.returns-clause-few
+returns-clause-few g c = λ blocks. few_updated blocks.buffers blocks.valid
