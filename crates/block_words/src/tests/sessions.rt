@@ -96,6 +96,34 @@ fn an_edit_outlives_its_buffer(rt: HostRuntime) -> Result<(), Fail> {
 }
 
 #[test]
+fn an_unmarked_change_goes_with_its_buffer(rt: HostRuntime) -> Result<(), Fail> {
+    let mut session = begun(&rt)?;
+    assert_eq!(rt; session.fill(1, 65), Ok(()));
+    assert_eq!(rt; session.save(), Ok(()));
+    session.space.set_byte(61440, 66);
+    assert_eq!(rt; session.first_byte(1), Ok(66));
+    for u in 2..6 {
+        assert!(rt; session.block(u).is_ok());
+    }
+    assert_eq!(rt; session.filling(1), 65);
+    Ok(())
+}
+
+#[test]
+fn a_block_put_aside_is_read_back(rt: HostRuntime) -> Result<(), Fail> {
+    let mut session = begun(&rt)?;
+    assert_eq!(rt; session.fill(1, 65), Ok(()));
+    // The second time it loses its buffer without a mark.
+    for _ in 0..2 {
+        for u in 2..6 {
+            assert!(rt; session.block(u).is_ok());
+        }
+        assert_eq!(rt; session.filling(1), 65);
+    }
+    Ok(())
+}
+
+#[test]
 fn giving_the_store_back_saves_nothing(rt: HostRuntime) -> Result<(), Fail> {
     let disk = evict(&rt)?.into_device();
     let counts = disk.counts();
@@ -117,10 +145,10 @@ fn a_save_of_nothing_calls_no_device(rt: HostRuntime) -> Result<(), Fail> {
     Ok(())
 }
 
-// Each block is changed and updated in turn, and then there are so many saves.
-fn change_all(rt: &HostRuntime, saves: usize) -> Result<Counts, Fail> {
+// The first `n` blocks are changed and updated in turn, and then there are so many saves.
+fn change(rt: &HostRuntime, n: u16, saves: usize) -> Result<Counts, Fail> {
     let mut session = begun(rt)?;
-    for u in 0..BLOCKS {
+    for u in 0..n {
         check(session.edit(u, 65) == Ok(()), "an edit")?;
     }
     for _ in 0..saves {
@@ -131,14 +159,24 @@ fn change_all(rt: &HostRuntime, saves: usize) -> Result<Counts, Fail> {
 
 #[test]
 fn all_blocks_are_saved_at_once(rt: HostRuntime) -> Result<(), Fail> {
-    let before = change_all(&rt, 0)?;
-    let saved = change_all(&rt, 1)?;
+    let before = change(&rt, BLOCKS, 0)?;
+    let saved = change(&rt, BLOCKS, 1)?;
     let (writes, syncs) = since(before, saved);
     assert!(rt;
         writes <= 75 && syncs <= 4,
         "{writes} writes and {syncs} syncs"
     );
-    assert_eq!(rt; change_all(&rt, 2)?, saved);
+    assert_eq!(rt; change(&rt, BLOCKS, 2)?, saved);
+    Ok(())
+}
+
+#[test]
+fn two_blocks_are_saved_by_eleven_writes(rt: HostRuntime) -> Result<(), Fail> {
+    let (writes, syncs) = since(change(&rt, 2, 0)?, change(&rt, 2, 1)?);
+    assert!(rt;
+        writes <= 11 && syncs <= 4,
+        "{writes} writes and {syncs} syncs"
+    );
     Ok(())
 }
 

@@ -1,6 +1,5 @@
 // Sessions stopped at each device call, with each unsynced sector lost, kept or torn in every combination.
 use super::support::{SECTORS, failing, opened};
-use crate::BlockFault;
 use sector_disk::{Fate, MemoryDisk, SectorDevice};
 use std::test::Fail;
 
@@ -84,10 +83,10 @@ fn is_combination(sectors: &[Unsynced], n: usize) -> bool {
     rest == 0
 }
 
-// 65 in block 1, which then loses its buffer, and then a save or none: whether it all went well, and the disk.
+// Block 1 filled with 65, which then loses its buffer, and then a save or none: whether it all went well, and the disk.
 fn run_until(rt: &HostRuntime, k: u64, saves: bool) -> Result<(bool, MemoryDisk), Fail> {
     let mut session = failing(rt, k, true)?;
-    let mut outcome = session.edit(1, 65);
+    let mut outcome = session.fill(1, 65);
     for u in 2..6 {
         outcome = match (outcome, session.block(u)) {
             (Ok(()), Ok(_)) => Ok(()),
@@ -100,30 +99,35 @@ fn run_until(rt: &HostRuntime, k: u64, saves: bool) -> Result<(bool, MemoryDisk)
     Ok((outcome.is_ok(), session.into_device().into_device()))
 }
 
-// What all stops before call k leave: the first bytes of block 1, once the image is opened again.
-fn stops_at(rt: &HostRuntime, k: u64, saves: bool) -> Result<(Vec<u8>, bool), Fail> {
-    let (done, disk) = run_until(rt, k, saves)?;
-    let sectors = unsynced_sectors(rt, &disk)?;
+// What all stops of this disk leave: the bytes that fill blocks 1 and 2, once the image is opened again.
+fn stops_of(rt: &HostRuntime, disk: &MemoryDisk) -> Result<Vec<[u8; 2]>, Fail> {
+    let sectors = unsynced_sectors(rt, disk)?;
     let mut found = Vec::new(rt.alloc());
     for n in 0..4096 {
         if is_combination(&sectors, n) {
             let stopped = disk
                 .try_clone(rt.alloc())?
                 .stop(&combination(rt, &sectors, n)?);
-            let byte: Result<u8, BlockFault> = opened(rt, stopped)?.first_byte(1);
-            found.push(byte.unwrap_or(0))?;
+            let mut session = opened(rt, stopped)?;
+            found.push([session.filling(1), session.filling(2)])?;
         }
     }
-    Ok((found, done))
+    Ok(found)
+}
+
+// How many of these are so.
+fn count(found: &[[u8; 2]], wanted: [u8; 2]) -> usize {
+    found.iter().filter(|bytes| **bytes == wanted).count()
 }
 
 #[test]
 fn an_edit_without_a_save_is_lost(rt: HostRuntime) -> Result<(), Fail> {
     let mut most = 0;
     for k in 1..14 {
-        let (found, done) = stops_at(&rt, k, false)?;
+        let (done, disk) = run_until(&rt, k, false)?;
+        let found = stops_of(&rt, &disk)?;
         most = most.max(found.len());
-        assert!(rt; found.iter().all(|byte| *byte == b' '), "before call {k}");
+        assert_eq!(rt; count(&found, [b' '; 2]), found.len(), "before call {k}");
         // Five blocks are read and one is spilled, with two calls each.
         assert_eq!(rt; done, k == 13);
     }
@@ -136,9 +140,10 @@ fn an_edit_without_a_save_is_lost(rt: HostRuntime) -> Result<(), Fail> {
 fn a_save_is_whole_or_absent(rt: HostRuntime) -> Result<(), Fail> {
     let mut saved = false;
     for k in 13..26 {
-        let (found, done) = stops_at(&rt, k, true)?;
-        let new = found.iter().filter(|byte| **byte == 65).count();
-        let old = found.iter().filter(|byte| **byte == b' ').count();
+        let (done, disk) = run_until(&rt, k, true)?;
+        let found = stops_of(&rt, &disk)?;
+        let new = count(&found, [65, b' ']);
+        let old = count(&found, [b' '; 2]);
         assert_eq!(rt; new.saturating_add(old), found.len(), "before call {k}");
         // A stop leaves both only while the gate is written and not synced.
         assert!(rt; new == 0 || old == 0 || k == 16, "before call {k}");
@@ -147,5 +152,44 @@ fn a_save_is_whole_or_absent(rt: HostRuntime) -> Result<(), Fail> {
         saved = saved || done;
     }
     assert!(rt; saved);
+    Ok(())
+}
+
+// Block 1 is filled and saved, and then both are filled and saved: whether it all went well, and the disk.
+fn save_two_until(rt: &HostRuntime, k: u64) -> Result<(bool, MemoryDisk), Fail> {
+    let mut session = failing(rt, k, true)?;
+    let mut outcome = session.fill(1, 65);
+    if outcome == Ok(()) {
+        outcome = session.save();
+    }
+    for (u, byte) in [(1, 97), (2, 98)] {
+        if outcome == Ok(()) {
+            outcome = session.fill(u, byte);
+        }
+    }
+    if outcome == Ok(()) {
+        outcome = session.save();
+    }
+    Ok((outcome.is_ok(), session.into_device().into_device()))
+}
+
+#[test]
+fn two_blocks_are_saved_together(rt: HostRuntime) -> Result<(), Fail> {
+    let mut most = 0;
+    // Fifteen calls read block 1 and save it, and 21 more read block 2 and save both.
+    for k in 16..38 {
+        let (done, disk) = save_two_until(&rt, k)?;
+        let found = stops_of(&rt, &disk)?;
+        most = most.max(found.len());
+        let new = count(&found, [97, 98]);
+        let old = count(&found, [65, b' ']);
+        assert_eq!(rt; new.saturating_add(old), found.len(), "before call {k}");
+        // A stop leaves both only while the gate is written and not synced.
+        assert!(rt; new == 0 || old == 0 || k == 25, "before call {k}");
+        assert_eq!(rt; done, k == 37);
+        assert!(rt; !done || old == 0, "before call {k}");
+    }
+    // Two slots and the record are unsynced together.
+    assert_eq!(rt; most, 243);
     Ok(())
 }

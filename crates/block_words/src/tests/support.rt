@@ -51,6 +51,32 @@ impl<D: SectorDevice + Drop> Session<D> {
         }
     }
 
+    /// `u BLOCK 1024 byte FILL UPDATE`
+    pub fn fill(&mut self, u: u16, byte: u8) -> Result<(), BlockFault> {
+        match self.blocks.block(&mut self.space, u) {
+            Ok(at) => {
+                self.space.fill(at, 1024, byte);
+                self.blocks.update()
+            }
+            Err(fault) => Err(fault),
+        }
+    }
+
+    /// The byte that fills a block, or 0 where its bytes differ or it can't be read.
+    pub fn filling(&mut self, u: u16) -> u8 {
+        match self.blocks.block(&mut self.space, u) {
+            Ok(at) => {
+                let byte = self.space.byte(at);
+                if self.space.slice(at, 1024) == Some([byte; 1024].as_slice()) {
+                    byte
+                } else {
+                    0
+                }
+            }
+            Err(_) => 0,
+        }
+    }
+
     /// `u BLOCK`
     pub fn block(&mut self, u: u16) -> Result<u16, BlockFault> {
         self.blocks.block(&mut self.space, u)
