@@ -22,6 +22,7 @@ asks_past G u self only_now past = record {
       absurd (let no : false ≡ true = subst IsSome none some in cc);
   found_store = λ _. refl;
   closed_same = λ _. refl;
+  opened = tt;
   stops = λ m stands is_open c since. stands.left (sym stands.closed ∙ is_open) c (only_now self.store.device c since);
   continues = record { blocks = refl; model = refl; time = elapses_refl G.time G.left_since self.store.device; failures = omega arith };
 }

@@ -25,6 +25,8 @@ module _ {D : Type 0} {G : Ghosts D} where
     pub found_store : IsSome (slot_of old.buffers u) → new.store ≡ old.store
     -- a closed store isn't called
     pub closed_same : old.store.closed ≡ true → new.store ≡ old.store
+    -- a call that goes well leaves the store open, or closed, as it was
+    pub opened : OnOk result (new.store.closed ≡ old.store.closed)
     -- a stop at any moment of the call leaves the saved blocks
     pub stops : KeepsSaved old.store new.store
     pub continues : Continues old.store new.store

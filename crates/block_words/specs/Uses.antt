@@ -1,12 +1,12 @@
 -- What a use of a block does to the buffers, and how many blocks a save has to write. All this is known over any device.
-use Rattle.std.specs.Prelude.{ℕ, ◌==◌, ◌||◌, Bool, false, List, [], ◌∷◌, Option, Some, None, unwrap_or, replicate, Result, Ok, Err}
+use Rattle.std.specs.Prelude.{◌≡◌, ℕ, ◌==◌, ◌&&◌, ◌||◌, Bool, false, List, [], ◌∷◌, Option, Some, None, unwrap_or, replicate, Result, Ok, Err}
 use Rattle.sector_disk.specs.declared.device.SectorDevice.{Ghosts}
 use Rattle.journal.specs.declared.store.Store.{Store}
 use Rattle.journal.specs.Layout.{count_below}
 use Rattle.journal.specs.Store.{is_pending}
 use Rattle.data_space.specs.Space.{buffer_at, with_bytes}
 use Rattle.block_buffers.specs.declared.Assigned.{Assigned}
-use Rattle.block_buffers.specs.Buffers.{Buffers, assigned, slot_of, touched, slot_for, placed, updated_ones}
+use Rattle.block_buffers.specs.Buffers.{Buffers, assigned, slot_of, touched, oldest, slot_for, placed, updated_ones}
 
 abbrev pub used_if : Option Assigned → Buffers → ℕ → Buffers
 used_if (Some x) buffers u = touched buffers x
@@ -19,6 +19,19 @@ used buffers u = used_if (assigned buffers.list u) buffers u
 -- the slot that it then has
 abbrev pub slot_used : Buffers → ℕ → ℕ
 slot_used buffers u = unwrap_or (slot_of buffers u) (slot_for buffers)
+
+abbrev pub replaced_if : Option ℕ → Buffers → Option Assigned
+replaced_if (Some slot) buffers = None
+replaced_if None buffers = oldest buffers
+
+-- the buffer whose place that of block u takes
+abbrev pub replaced : Buffers → ℕ → Option Assigned
+replaced buffers u = replaced_if (slot_of buffers u) buffers
+
+-- where this buffer gives up its place, block b is put aside: the buffer holds it, and is updated
+abbrev pub is_put_aside : Option Assigned → ℕ → Bool
+is_put_aside None b = false
+is_put_aside (Some x) b = x.updated && (b == x.block)
 
 abbrev pub blanked_if : Option ℕ → Buffers → List ℕ → List ℕ
 blanked_if (Some slot) buffers space = space
@@ -46,3 +59,7 @@ module _ {D : Type 0} {G : Ghosts D} where
   -- how many blocks a save has to commit
   abbrev pub changed_count : Store D G → Buffers → ℕ
   changed_count store buffers = count_below (is_changed store buffers) store.blocks
+
+  -- what is pending once a buffer gave up its place: what was before, and its block if it was updated
+  abbrev pub PendingOnceReplaced : Store D G → Store D G → Option Assigned → Type 0
+  PendingOnceReplaced old new replaced = (b : ℕ) → is_pending new b ≡ (is_put_aside replaced b || is_pending old b)

@@ -5,6 +5,7 @@ ghost use Rattle.journal.specs.Store.{blocks_of, closed_of, StandsFor, Continues
 ghost use Rattle.data_space.specs.Space.{buffer_at, with_bytes};
 ghost use Rattle.block_buffers.specs.Buffers.{oldest, assigned, slot_for, placed, IsValid};
 ghost use Rattle.block_words.specs.Words.{assign, block, buffer};
+ghost use Rattle.block_words.specs.Uses.{PendingOnceReplaced};
 ghost use Rattle.block_words.specs.Rooms.{within, room_made, is_updated, address_of, filled_in};
 ghost use Rattle.block_words.specs.Calls.{CallRuns};
 
@@ -37,6 +38,7 @@ fn make_room<D: SectorDevice>(
     ensures cause { OnErr result (is_updated (oldest buffers.now) ≡ true) }
     ensures only { OnErr result (IsErrOf result BlockFault.Device) }
     ensures opened { OnOk result (closed_of store.new ≡ false) }
+    ensures pending { OnOk result (PendingOnceReplaced store.old store.new (oldest buffers.now)) }
     ensures device { OnErr result (DeviceFailed store.old store.new) }
     ensures stops { KeepsSaved store.old store.new }
     ensures continues { Continues store.old store.new }
@@ -74,6 +76,8 @@ fn assign_slot<D: SectorDevice>(
     ensures only { IfErr result (λ fault. (fault ≡ BlockFault.Device) ⊎ (fault ≡ BlockFault.Memory)) }
     ensures within { within (blocks_of store.new) buffers.new.list ≡ true }
     ensures valid { OnOk result (IsValid buffers.new) }
+    ensures opened { OnOk result (closed_of store.new ≡ false) }
+    ensures pending { OnOk result (PendingOnceReplaced store.old store.new (oldest buffers.old)) }
     ensures device { IsErrOf result BlockFault.Device → DeviceFailed store.old store.new }
     ensures continues { Continues store.old store.new }
     ensures begins { DeviceBegins store.old store.new 2 0 }
@@ -129,6 +133,8 @@ pub(crate) fn fetch<D: SectorDevice>(
     ensures device { IsErrOf result BlockFault.Device → DeviceFailed store.old store.new }
     ensures within { within (blocks_of store.new) buffers.new.list ≡ true }
     ensures valid { OnOk result (IsValid buffers.new) }
+    ensures opened { OnOk result (closed_of store.new ≡ closed_of store.old) }
+    ensures pending { OnOk result (PendingOnceReplaced store.old store.new (oldest buffers.old)) }
     ensures continues { Continues store.old store.new }
     ensures begins { DeviceBegins store.old store.new 2 0 }
 {
@@ -167,6 +173,8 @@ pub(crate) fn blank<D: SectorDevice>(
     ensures device { IsErrOf result BlockFault.Device → DeviceFailed store.old store.new }
     ensures within { within (blocks_of store.new) buffers.new.list ≡ true }
     ensures valid { OnOk result (IsValid buffers.new) }
+    ensures opened { OnOk result (closed_of store.new ≡ closed_of store.old) }
+    ensures pending { OnOk result (PendingOnceReplaced store.old store.new (oldest buffers.old)) }
     ensures continues { Continues store.old store.new }
     ensures begins { DeviceBegins store.old store.new 2 0 }
 {

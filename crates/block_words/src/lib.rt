@@ -2,14 +2,14 @@
 //! of data space, and all edits are saved at once.
 #![tactic(auto)]
 
-ghost use Rattle.std.specs.Prelude.{◌≡◌, ◌↔◌, List, [], ℕ, true, None, is_ok, IfOk, IfErr, OnErr, IsErrOf, IsSome, IfSome, MatchResult};
+ghost use Rattle.std.specs.Prelude.{◌≡◌, ◌↔◌, List, [], ℕ, true, None, is_ok, IfOk, IfErr, OnOk, OnErr, IsErrOf, IsSome, IfSome, MatchResult};
 ghost use Rattle.std.proofs.Props.{props};
 ghost use Rattle.journal.specs.Maps.{Maps};
 ghost use Rattle.journal.specs.Store.{blocks_of, closed_of, StandsFor, DeviceBegins, KeepsSaved, SamePending};
 ghost use Rattle.data_space.specs.Space.{buffer_at, buffer_bytes};
 ghost use Rattle.block_buffers.specs.Buffers.{slot_of, none_assigned, unmarked, after_mark, IsValid};
 ghost use Rattle.block_words.specs.Words.{block, buffer, update, save_buffers, flush, source, next_map};
-ghost use Rattle.block_words.specs.Uses.{used, slot_used, blanked, with_bytes_left};
+ghost use Rattle.block_words.specs.Uses.{used, slot_used, replaced, blanked, with_bytes_left, PendingOnceReplaced};
 ghost use Rattle.block_words.specs.Rooms.{within};
 ghost use Rattle.block_words.specs.Validity.{AreApart-prop, SlotsBelow-prop};
 ghost use Rattle.block_words.specs.Calls.{CallRuns, save_begun};
@@ -123,6 +123,7 @@ impl<D: SectorDevice> Blocks<D> {
         // A block that has a buffer keeps its bytes.
         ensures found_bytes { IsSome (slot_of (buffers_of self.old) u) → space.new ≡ space.old }
 
+        ensures pending { OnOk result (PendingOnceReplaced (store_of self.old) (store_of self.new) (replaced (buffers_of self.old) u)) }
         ensures begins { DeviceBegins (store_of self.old) (store_of self.new) 2 0 }
     {
         // That there is no such block is said also of a closed store.
@@ -147,6 +148,7 @@ impl<D: SectorDevice> Blocks<D> {
         ensures list { MatchResult result (λ _. buffers_of self.new ≡ used (buffers_of self.old) u) (λ _. buffers_of self.new ≡ buffers_of self.old) }
         ensures space { MatchResult result (λ _. space.new ≡ blanked (buffers_of self.old) u space.old) (λ _. space.new ≡ space.old) }
 
+        ensures pending { OnOk result (PendingOnceReplaced (store_of self.old) (store_of self.new) (replaced (buffers_of self.old) u)) }
         ensures begins { DeviceBegins (store_of self.old) (store_of self.new) 2 0 }
     {
         if u >= self.store.blocks() {
