@@ -18,6 +18,12 @@ right_of false b h = cc
 both_of : (a b : Bool) → a ≡ true → b ≡ true → (a && b) ≡ true
 both_of a b p q = ap (λ t. t && b) p ∙ q
 
+pub within_first : (n : ℕ) (x : Assigned) (xs : List Assigned) → within n (x ∷ xs) ≡ true → x.block < n
+within_first n x xs h = ltb-true x.block n (left_of (nat_lt x.block n) (within n xs) h)
+
+pub within_rest : (n : ℕ) (x : Assigned) (xs : List Assigned) → within n (x ∷ xs) ≡ true → within n xs ≡ true
+within_rest n x xs h = right_of (nat_lt x.block n) (within n xs) h
+
 kept_if : (n : ℕ) (t : Bool) (x : Assigned) (ys : List Assigned) → nat_lt x.block n ≡ true → within n ys ≡ true → within n (cond t (x ∷ ys) ys) ≡ true
 kept_if n true x ys h rest = both_of (nat_lt x.block n) (within n ys) h rest
 kept_if n false x ys h rest = rest

@@ -10,6 +10,7 @@ use Rattle.journal.specs.Store.{StandsFor}
 use Rattle.block_buffers.specs.Buffers.{Buffers, slot_of, updated_ones, IsValid}
 use Rattle.block_words.specs.declared.Blocks.{Blocks}
 use Rattle.block_words.specs.Words.{next_map}
+use Rattle.block_words.specs.Uses.{changed_count}
 
 module _ {D : Type 0} {G : Ghosts D} where
   abbrev pub store_of : Blocks D G → Store D G
@@ -40,3 +41,7 @@ module _ {D : Type 0} (G : Ghosts D) where
   -- A save finds at most four updated buffers.
   abbrev pub FewAreUpdated : Type 0
   FewAreUpdated = (blocks : Blocks D G) → length (updated_ones (buffers_of blocks)) ≤ 4
+
+  -- Each updated buffer is that of another changed block. So a save of n changed blocks begins 4n + 3 writes or fewer.
+  abbrev pub UpdatedAreChanged : Type 0
+  UpdatedAreChanged = (blocks : Blocks D G) → length (updated_ones (buffers_of blocks)) ≤ changed_count (store_of blocks) (buffers_of blocks)
