@@ -62,7 +62,7 @@ open_gate = codes "COMMIT83" ++ replicate 8 0
 abbrev pub closed_gate : List ℕ
 closed_gate = replicate 16 0
 
--- blank home_writes, other bytes in the slots, and the record of an earlier save, which lists block 3
+-- blank homes, other bytes in the slots, and the record of an earlier save, which lists block 3
 abbrev pub first_image : Image
 first_image k =
     if k == 0 then label_of 32 else (if k == 1 then closed_gate else (if k == 2 then 8 ∷ 0 ∷ [] else (if nat_lt k 67 then 83 ∷ 83 ∷ [] else 32 ∷ 32 ∷ [])))
@@ -89,8 +89,11 @@ home_writes = Write 69 (65 ∷ 65 ∷ []) ∷ Write 70 (65 ∷ 65 ∷ []) ∷ Wr
 abbrev pub a_save : List DiskCall
 a_save = slot_writes ++ the_record ∷ Sync ∷ Write 1 open_gate ∷ Sync ∷ home_writes ++ Sync ∷ Write 1 closed_gate ∷ Sync ∷ []
 
+abbrev pub keeps_either : Disk → List DiskCall → Bool
+keeps_either disk calls = at_each_stop every_way (λ image. means_these old_blocks image || means_these new_blocks image) disk calls
+
 abbrev pub all_or_nothing : List DiskCall → Bool
-all_or_nothing calls = at_each_stop every_way (λ image. means_these old_blocks image || means_these new_blocks image) disk_at_rest calls
+all_or_nothing calls = keeps_either disk_at_rest calls
 
 old_or_new : all_or_nothing a_save ≡ true
 old_or_new = refl
@@ -99,7 +102,7 @@ old_or_new = refl
 new_alone : at_each_stop every_way (means_these new_blocks) (after_calls disk_at_rest a_save) [] ≡ true
 new_alone = refl
 
--- a stop of the slot_writes, and of the record, leaves the old ones
+-- a stop of the spills, and of the record, leaves the old ones
 old_alone : at_each_stop every_way (means_these old_blocks) disk_at_rest (slot_writes ++ the_record ∷ []) ≡ true
 old_alone = refl
 
@@ -119,15 +122,36 @@ gate_closed_before_the_homes_are_synced = refl
 
 -- ---- a recovery of the image with an open gate
 
+abbrev pub keeps_new : Disk → List DiskCall → Bool
+keeps_new disk calls = at_each_stop every_way (means_these new_blocks) disk calls
+
 abbrev pub disk_with_an_open_gate : Disk
 disk_with_an_open_gate = after_calls disk_at_rest (slot_writes ++ the_record ∷ Sync ∷ Write 1 open_gate ∷ Sync ∷ [])
 
 abbrev pub a_recovery : List DiskCall
 a_recovery = Sync ∷ home_writes ++ Sync ∷ Write 1 closed_gate ∷ Sync ∷ []
 
-always_new : at_each_stop every_way (means_these new_blocks) disk_with_an_open_gate a_recovery ≡ true
+always_new : keeps_new disk_with_an_open_gate a_recovery ≡ true
 always_new = refl
 
 -- stopped and begun again, it still leaves the new blocks
-begun_again : list_all (λ image. at_each_stop every_way (means_these new_blocks) (synced_disk image) a_recovery) (stops every_way (after_calls disk_with_an_open_gate (Sync ∷ home_writes))) ≡ true
+begun_again : list_all (λ image. keeps_new (synced_disk image) a_recovery) (stops every_way (after_calls disk_with_an_open_gate (Sync ∷ home_writes))) ≡ true
 begun_again = refl
+
+-- the gate is open, but no sync has followed its write
+abbrev pub disk_with_an_unsynced_gate : Disk
+disk_with_an_unsynced_gate = after_calls disk_at_rest (slot_writes ++ the_record ∷ Sync ∷ Write 1 open_gate ∷ [])
+
+old_or_new_again : keeps_either disk_with_an_unsynced_gate a_recovery ≡ true
+old_or_new_again = refl
+
+-- ---- other orders of a recovery lose blocks
+
+gate_closed_before_the_homes : keeps_new disk_with_an_open_gate (Sync ∷ Write 1 closed_gate ∷ Sync ∷ home_writes) ≡ false
+gate_closed_before_the_homes = refl
+
+one_sync_for_homes_and_gate : keeps_new disk_with_an_open_gate (Sync ∷ home_writes ++ Write 1 closed_gate ∷ []) ≡ false
+one_sync_for_homes_and_gate = refl
+
+first_sync_left_out : keeps_either disk_with_an_unsynced_gate (home_writes ++ Sync ∷ Write 1 closed_gate ∷ Sync ∷ []) ≡ false
+first_sync_left_out = refl
