@@ -156,8 +156,8 @@ fn make<D: SectorDevice>(device: &mut D, blocks: u16) -> Result<(), DeviceFault>
 /// Makes an image of `blocks` blank blocks, 32 to 2,048, on a device of exactly `3 + 4 * blocks` sectors, and answers a
 /// store of them. An error hands the device back. Takes no memory.
 ///
-/// The label is written last, and a good label that stood there is taken away first. So a stop leaves no good label, or
-/// the blank image, or the old image as it was.
+/// Gate and record become zeros, and the slots are left. The label is written last, and a good label that stood there is
+/// taken away first. So a stop leaves no good label, or the blank image, or the old image as it was.
 pub fn format<D: SectorDevice>(mut device: D, blocks: u16) -> Result<Store<D>, (OpenFault, D)>
     ensures ok { IsTrue (D.keeps_model device)
         → IfOk result (λ store. StandsFor store (fresh (blank_blocks blocks))) }

@@ -127,7 +127,8 @@ fn recover<D: SectorDevice>(device: &mut D) -> Result<u16, OpenFault>
 }
 
 /// Opens an image after a stop, and answers a store of its blocks. What an open gate asks for is done first, so a stop
-/// within this call, however often, loses nothing. An error hands the device back. Takes no memory.
+/// within this call, however often, loses nothing. An open gate becomes zeros, and a closed one is left as it is. An error
+/// hands the device back. Takes no memory.
 ///
 /// It refuses, in this order, a device of a size that no image has (BadSize, with no device call), one without the name
 /// and zeros of a label (NoLabel), a label of another version (OtherVersion) or of another number of blocks (WrongCount).
