@@ -1,7 +1,7 @@
--- How calls follow one another: laws of time, of what a stop might have left, and of what a call did.
-use Rattle.std.proofs.Common.{◌≡◌, ◌≢◌, ◌⊎◌, ℕ, ◌≤◌, List, Result, Ok, Err, OnOk, OnErr, inl, inr, ⊎_elim, arith, ap, sym, ◌∙◌}
+-- How calls follow one another: laws of time, and of what a stop might have left.
+use Rattle.std.proofs.Common.{◌≡◌, ◌≢◌, ◌⊎◌, ℕ, ◌≤◌, List, inl, inr, ⊎_elim, arith}
 use Rattle.std.proofs.lemmas.Bool.Decides.{nat_tests}
-use Rattle.sector_disk.specs.Disk.{Disk, Image, MayLeave, MayWrite, SettlesNothing, with_sector, written, settled}
+use Rattle.sector_disk.specs.Disk.{Image, with_sector}
 use Rattle.sector_disk.specs.Moments.{Elapses, LeavesOnly}
 
 module _ {D : Type 0} (time : D → ℕ) (left_since : D → ℕ → Image → Type 0) where

@@ -1,15 +1,11 @@
 -- An entry takes at least one unit.
-use Rattle.std.proofs.Common.{◌≤◌, List, [], ◌∷◌, length, reverse, arith}
-use Rattle.std.proofs.lemmas.List.{length-reverse}
-use Rattle.stacks.specs.Stacks.{units, entry_units}
+use Rattle.std.proofs.Common.{ℕ, ◌≤◌, arith}
+use Rattle.stacks.specs.Stacks.{entry_units}
 use Rattle.stacks.specs.declared.return_stack.Entry.{Entry}
-use Rattle.stacks.specs.declared.return_stack.Entry.TheVariants.{Call as CallOf, Value as ValueOf, Loop as LoopOf, Load as LoadOf}
-
-one_unit : (entry : Entry) → 1 ≤ entry_units entry
-one_unit (CallOf place) = omega arith
-one_unit (ValueOf cell) = omega arith
-one_unit (LoopOf limit index) = omega arith
-one_unit (LoadOf block to_in) = omega arith
+use Rattle.stacks.specs.declared.return_stack.Entry.TheVariants.{Call, Value, Loop, Load}
 
 pub at_least_one : (entry : Entry) → 1 ≤ entry_units entry
-at_least_one entry = one_unit entry
+at_least_one (Call place) = omega arith
+at_least_one (Value cell) = omega arith
+at_least_one (Loop limit index) = omega arith
+at_least_one (Load block to_in) = omega arith
