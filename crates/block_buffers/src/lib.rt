@@ -187,6 +187,3 @@ impl Buffers {
         self.slots.clear();
     }
 }
-
-#[cfg(test)]
-mod tests;

@@ -15,7 +15,7 @@ pub asks_past : {D : Type 0} (G : Ghosts D) {A : Type 0} (u : ℕ) (self : Block
 asks_past G u self only_now past = record {
   no_block = (λ _. past, λ _. refl);
   closed = (λ is. absurd (cc), λ is. absurd (omega (arith, past, is.0.0)));
-  device = λ is. absurd (cc);
+  failures = refl;
   no_buffer = λ is. absurd (cc);
   found = λ some.
       let none : slot_of self.buffers u ≡ None = none_past self.store.blocks u self.buffers.list self.within past in

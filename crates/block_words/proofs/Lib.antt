@@ -7,3 +7,4 @@ pub mod Runs
 pub mod KeptOn
 pub mod Then
 pub mod Saves
+pub mod Counted

@@ -1,5 +1,6 @@
 -- What a call of a block word does, by the words and by what a stop may leave.
 use Rattle.std.specs.Prelude.{◌≡◌, ℕ, ◌+◌, ◌++◌, Bool, true, false, List, [], ◌∷◌, Result, Ok, Err}
+use Rattle.sector_disk.specs.Counting.{count_up}
 use Rattle.sector_disk.specs.Disk.{MayLeave}
 use Rattle.sector_disk.specs.Moments.{LeavesOnly}
 use Rattle.sector_disk.specs.declared.device.SectorDevice.{Ghosts}
@@ -25,6 +26,11 @@ ended (Err fault) s = Fails fault s
 abbrev pub failures_after : {A : Type 0} → Result A BlockFault → ℕ → ℕ
 failures_after (Err Device) failures = failures + 1
 failures_after _ failures = failures
+
+-- what the device's own count is after a call: one more where the call tells a failure
+abbrev pub counted_after : {A : Type 0} → Result A BlockFault → ℕ → ℕ
+counted_after (Err Device) count = count_up count
+counted_after _ count = count
 
 -- the save that a call began: none where it found the store closed
 abbrev pub save_begun : Bool → List (List ℕ) → Bool → List Save

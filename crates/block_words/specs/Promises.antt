@@ -2,23 +2,28 @@
 use Rattle.std.specs.Prelude.{◌≡◌, ◌⊎◌, ◌↔◌, ◌≤◌, ◌+◌, ◌*◌, ℕ, true, false, List, [], length, Result, IsOk, IsErr, IfErr, OnOk, IsErrOf, IsSome}
 use Rattle.sector_disk.specs.declared.device.SectorDevice.{Ghosts}
 use Rattle.journal.specs.declared.store.Store.{Store}
-use Rattle.journal.specs.Store.{Continues, DeviceFailed, DeviceBegins, KeepsSaved, is_pending, pending_count}
+use Rattle.journal.specs.Store.{Continues, DeviceBegins, KeepsSaved, is_pending, pending_count}
 use Rattle.block_buffers.specs.Buffers.{Buffers, slot_of, updated_ones}
 use Rattle.block_words.specs.declared.BlockFault.{BlockFault}
 use Rattle.block_words.specs.declared.BlockFault.TheVariants.{NoBlock, NoBuffer, Device, Closed}
 use Rattle.block_words.specs.declared.Blocks.{Blocks}
+use Rattle.block_words.specs.Calls.{counted_after}
 use Rattle.block_words.specs.Parts.{HasNoBuffer, ChangesAllOrNone, LeavesChanged}
 use Rattle.block_words.specs.Uses.{changed_count}
 
 module _ {D : Type 0} {G : Ghosts D} where
+  -- The device counts the failure that the call tells, and no other.
+  abbrev pub TellsFailures : {A : Type 0} → Result A BlockFault → Store D G → Store D G → Type 0
+  TellsFailures result old new = G.failures new.device ≡ counted_after result (G.failures old.device)
+
   -- A call asks for block u: where it has no buffer, the store has to read it, or to spill another one.
   pub record AsksFor {A : Type 0} (u : ℕ) (result : Result A BlockFault) (old new : Blocks D G) : Type 0 where
     -- there is no such block: this is said before all else
     pub no_block : IsErrOf result NoBlock ↔ (old.store.blocks ≤ u)
     -- the block has no buffer, and the store is closed
     pub closed : IsErrOf result Closed ↔ (HasNoBuffer old u × (old.store.closed ≡ true))
-    -- a call of the device failed
-    pub device : IsErrOf result Device → DeviceFailed old.store new.store
+    -- the device failed once where the call says so, and else not
+    pub failures : TellsFailures result old.store new.store
     pub no_buffer : ¬ IsErrOf result NoBuffer
     -- a block that has a buffer is given, and the store isn't called
     pub found : IsSome (slot_of old.buffers u) → IsOk result
@@ -37,8 +42,8 @@ module _ {D : Type 0} {G : Ghosts D} where
     -- the store was closed before, and isn't called
     pub closed : IsErrOf result Closed ↔ (old.closed ≡ true)
     pub closed_same : old.closed ≡ true → new ≡ old
-    -- a call of the device failed
-    pub device : IsErrOf result Device → DeviceFailed old new
+    -- the device failed once where the call says so, and else not
+    pub failures : TellsFailures result old new
     -- a fault closes the store
     pub shuts : IsErr result ↔ (new.closed ≡ true)
     -- a stop at any moment of the call leaves the old blocks or all the new ones, and once it has returned the new ones alone

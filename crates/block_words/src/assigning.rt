@@ -1,13 +1,14 @@
 // A buffer for a block that has none.
 ghost use Rattle.std.specs.Prelude.{◌≡◌, ◌⊎◌, ◌<◌, ◌↔◌, [], None, true, false, replicate, List, ℕ, OnOk, OnErr, IfOk, IfErr, IsErrOf, MatchResult};
 ghost use Rattle.journal.specs.Maps.{Maps, shut};
-ghost use Rattle.journal.specs.Store.{blocks_of, closed_of, StandsFor, Continues, DeviceFailed, DeviceBegins, KeepsSaved};
+ghost use Rattle.journal.specs.Store.{blocks_of, closed_of, StandsFor, Continues, DeviceFailed, DeviceWentWell, DeviceBegins, KeepsSaved};
 ghost use Rattle.data_space.specs.Space.{buffer_at, with_bytes};
 ghost use Rattle.block_buffers.specs.Buffers.{oldest, assigned, slot_for, placed, IsValid};
 ghost use Rattle.block_words.specs.Words.{assign, block, buffer};
 ghost use Rattle.block_words.specs.Uses.{PendingOnceReplaced};
 ghost use Rattle.block_words.specs.Rooms.{within, room_made, is_updated, address_of, filled_in};
 ghost use Rattle.block_words.specs.Calls.{CallRuns};
+ghost use Rattle.block_words.specs.Promises.{TellsFailures};
 
 use crate::BlockFault;
 use block_buffers::{Buffers, Slot};
@@ -40,6 +41,7 @@ fn make_room<D: SectorDevice>(
     ensures opened { OnOk result (closed_of store.new ≡ false) }
     ensures pending { OnOk result (PendingOnceReplaced store.old store.new (oldest buffers.now)) }
     ensures device { OnErr result (DeviceFailed store.old store.new) }
+    ensures well { OnOk result (DeviceWentWell store.old store.new) }
     ensures stops { KeepsSaved store.old store.new }
     ensures continues { Continues store.old store.new }
     ensures begins { DeviceBegins store.old store.new 2 0 }
@@ -78,7 +80,7 @@ fn assign_slot<D: SectorDevice>(
     ensures valid { OnOk result (IsValid buffers.new) }
     ensures opened { OnOk result (closed_of store.new ≡ false) }
     ensures pending { OnOk result (PendingOnceReplaced store.old store.new (oldest buffers.old)) }
-    ensures device { IsErrOf result BlockFault.Device → DeviceFailed store.old store.new }
+    ensures failures { TellsFailures result store.old store.new }
     ensures continues { Continues store.old store.new }
     ensures begins { DeviceBegins store.old store.new 2 0 }
 {
@@ -130,7 +132,7 @@ pub(crate) fn fetch<D: SectorDevice>(
     ensures no_buffer { ¬ IsErrOf result BlockFault.NoBuffer }
     ensures closed { IsErrOf result BlockFault.Closed ↔ (closed_of store.old ≡ true) }
     ensures closed_same { closed_of store.old ≡ true → store.new ≡ store.old }
-    ensures device { IsErrOf result BlockFault.Device → DeviceFailed store.old store.new }
+    ensures failures { TellsFailures result store.old store.new }
     ensures within { within (blocks_of store.new) buffers.new.list ≡ true }
     ensures valid { OnOk result (IsValid buffers.new) }
     ensures opened { OnOk result (closed_of store.new ≡ closed_of store.old) }
@@ -170,7 +172,7 @@ pub(crate) fn blank<D: SectorDevice>(
     ensures no_buffer { ¬ IsErrOf result BlockFault.NoBuffer }
     ensures closed { IsErrOf result BlockFault.Closed ↔ (closed_of store.old ≡ true) }
     ensures closed_same { closed_of store.old ≡ true → store.new ≡ store.old }
-    ensures device { IsErrOf result BlockFault.Device → DeviceFailed store.old store.new }
+    ensures failures { TellsFailures result store.old store.new }
     ensures within { within (blocks_of store.new) buffers.new.list ≡ true }
     ensures valid { OnOk result (IsValid buffers.new) }
     ensures opened { OnOk result (closed_of store.new ≡ closed_of store.old) }

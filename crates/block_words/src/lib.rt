@@ -251,6 +251,3 @@ impl<D: SectorDevice> Blocks<D> {
         }
     }
 }
-
-#[cfg(test)]
-mod tests;

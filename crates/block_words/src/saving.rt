@@ -1,7 +1,7 @@
 // Saving all that was updated or spilled.
 ghost use Rattle.std.specs.Prelude.{◌≡◌, ◌*◌, ◌||◌, ℕ, [], true, false, length, is_ok, if◌then◌else◌, OnOk, OnErr, IsOk, IsErrOf};
 ghost use Rattle.journal.specs.Maps.{Maps, shut};
-ghost use Rattle.journal.specs.Store.{blocks_of, closed_of, StandsFor, Continues, DeviceFailed, DeviceBegins, KeepsSaved, is_pending, device_of};
+ghost use Rattle.journal.specs.Store.{blocks_of, closed_of, StandsFor, Continues, DeviceFailed, DeviceWentWell, DeviceBegins, KeepsSaved, is_pending, device_of};
 ghost use Rattle.block_buffers.specs.Buffers.{Buffers as Held, updated_ones};
 ghost use Rattle.block_words.specs.Words.{all_spilled, next_map, save_and};
 ghost use Rattle.block_words.specs.Promises.{Saves};
@@ -30,6 +30,7 @@ fn spill_updated<D: SectorDevice>(
     ensures only { OnErr result (IsErrOf result BlockFault.Device) }
     ensures opened { OnOk result (closed_of store.new ≡ false) }
     ensures device { OnErr result (DeviceFailed store.old store.new) }
+    ensures well { OnOk result (DeviceWentWell store.old store.new) }
     ensures stops { KeepsSaved store.old store.new }
     ensures continues { Continues store.old store.new }
     ensures shuts { OnErr result (closed_of store.new ≡ true) }

@@ -1,31 +1,34 @@
 -- Runs of device calls, one after another.
-use Rattle.std.proofs.Common.{◌≡◌, inl, inr, ⊎_elim, ℕ, ◌≤◌, Result, Ok, ◌∙◌, arith}
-use Rattle.sector_disk.specs.Counting.{CountsFailure}
+use Rattle.std.proofs.Common.{◌≡◌, ℕ, ◌≤◌, Result, ◌∙◌, ap, arith}
+use Rattle.std.specs.Prelude.{IsOk}
+use Rattle.sector_disk.specs.Counting.{CountsFailure, count_up}
 use Rattle.sector_disk.specs.Disk.{Image}
 use Rattle.sector_disk.specs.Moments.{Elapses}
 use Rattle.sector_disk.proofs.Moments.{elapses_then}
 use Rattle.sector_disk.specs.declared.device.SectorDevice.{Ghosts}
-use Rattle.journal.specs.Calls.{Passes}
+use Rattle.journal.specs.Calls.{Passes, Proceeds}
 
 module _ {D : Type 0} (device : Ghosts D) where
   abbrev pub Widens : Type 0
   Widens = (d : D) (s t : ℕ) (c : Image) → s ≤ t → device.left_since d t c → device.left_since d s c
 
-  failures_then : {T U E F : Type 0} {first : Result T E} {second : Result U F} (a b d : D)
+  -- the first went well
+  failures_then : {T U E F : Type 0} {first : Result T E} {second : Result U F} (a b d : D) → IsOk first
       → CountsFailure (device.failures a) (device.failures b) first → CountsFailure (device.failures b) (device.failures d) second
       → CountsFailure (device.failures a) (device.failures d) second
-  failures_then a b d one two = record {
+  failures_then a b d well one two = record {
     never_falls = omega (arith, one.never_falls, two.never_falls);
-    rises = λ is. ⊎_elim (λ less. inl (omega (arith, one.never_falls, less))) (λ last. inr last) (two.rises is);
+    stays = λ is. two.stays is ∙ one.stays well;
+    rises = λ is. two.rises is ∙ ap count_up (one.stays well);
   }
 
   pub passes_then : {T U E F : Type 0} {first : Result T E} {second : Result U F} (a b d : D) → Widens
-      → Passes device a b first → Passes device b d second → Passes device a d second
-  passes_then a b d widens one two = record {
+      → Passes device a b first → Passes device b d second → IsOk first → Passes device a d second
+  passes_then a b d widens one two well = record {
     sectors = two.sectors ∙ one.sectors;
     model = two.model ∙ one.model;
     time = elapses_then device.time device.left_since a b d (widens d) one.time two.time;
-    failures = failures_then a b d one.failures two.failures;
+    failures = failures_then a b d well one.failures two.failures;
   }
 
   pub passes_by : {T E : Type 0} {result : Result T E} (a b : D) → device.sector_count b ≡ device.sector_count a → device.keeps_model b ≡ device.keeps_model a
@@ -33,10 +36,18 @@ module _ {D : Type 0} (device : Ghosts D) where
   passes_by a b sectors model time failures = record { sectors = sectors; model = model; time = time; failures = failures }
 
   -- whatever the calls answered
-  pub passes_quietly : {T U E F : Type 0} {result : Result T E} (v : U) (a b : D) → Passes device a b result → Passes device {T = U} {E = F} a b (Ok v)
-  passes_quietly v a b passes = record {
+  pub proceeds : {T E : Type 0} {result : Result T E} (a b : D) → Passes device a b result → Proceeds device a b
+  proceeds a b passes = record {
     sectors = passes.sectors;
     model = passes.model;
     time = passes.time;
-    failures = record { never_falls = passes.failures.never_falls; rises = λ none. absurd (cc (none)) };
+    failures = passes.failures.never_falls;
+  }
+
+  pub proceeds_then : (a b d : D) → Widens → Proceeds device a b → Proceeds device b d → Proceeds device a d
+  proceeds_then a b d widens one two = record {
+    sectors = two.sectors ∙ one.sectors;
+    model = two.model ∙ one.model;
+    time = elapses_then device.time device.left_since a b d (widens d) one.time two.time;
+    failures = omega (arith, one.failures, two.failures);
   }

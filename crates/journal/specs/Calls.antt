@@ -15,7 +15,14 @@ module _ {D : Type 0} (G : Ghosts D) where
     pub few_writes : (G.counts new).writes ≤ (G.counts old).writes + writes
     pub few_syncs : (G.counts new).syncs ≤ (G.counts old).syncs + syncs
 
-  -- What any run of calls keeps: sectors and model stay, time goes on, and the failures rise at an error.
+  -- What any run of calls keeps, whatever they answered: sectors and model stay, time goes on, and the failures never fall.
+  pub record Proceeds (old new : D) : Type 0 where
+    pub sectors : G.sector_count new ≡ G.sector_count old
+    pub model : G.keeps_model new ≡ G.keeps_model old
+    pub time : Elapses G.time G.left_since old new
+    pub failures : G.failures old ≤ G.failures new
+
+  -- A run of calls that ends at the first failure: it keeps the same, and the failures stay, or are one more at an error.
   pub record Passes {T E : Type 0} (old new : D) (result : Result T E) : Type 0 where
     pub sectors : G.sector_count new ≡ G.sector_count old
     pub model : G.keeps_model new ≡ G.keeps_model old

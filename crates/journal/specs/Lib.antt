@@ -3,6 +3,7 @@ pub mod Chain
 pub mod Clean
 pub mod Images
 pub mod Layout
+pub mod Layout1
 pub mod Maps
 pub mod Steps
 pub mod Store

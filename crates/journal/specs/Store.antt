@@ -1,13 +1,13 @@
 -- A store, the maps that it stands for, and what its calls keep.
 use Rattle.std.specs.Prelude.{◌≡◌, ◌⊎◌, ℕ, ◌<◌, ◌≤◌, if◌then◌else◌, Bool, true, false, List, length, IsTrue, Some, None}
-use Rattle.sector_disk.specs.Counting.{HasRisen}
+use Rattle.sector_disk.specs.Counting.{count_up}
 use Rattle.sector_disk.specs.Disk.{Disk, Image, MayLeave}
 use Rattle.sector_disk.specs.Moments.{Elapses}
 use Rattle.sector_disk.specs.declared.device.SectorDevice.{Ghosts}
 use Rattle.journal.specs.declared.store.Store.{Store}
 use Rattle.journal.specs.Calls.{StopsLeave, BeginsAtMost}
-use Rattle.journal.specs.Images.{slot_of, home_of, HasHomes, Means}
-use Rattle.journal.specs.Layout.{open_gate_bytes, listed, count_below}
+use Rattle.journal.specs.Images.{slot_of, home_of, is_true_record, HasHomes, Means}
+use Rattle.journal.specs.Layout.{most_blocks, open_gate_bytes, listed, count_below}
 use Rattle.journal.specs.Maps.{Maps, block_in, pending_in, latest}
 
 -- The homes hold these blocks.
@@ -60,9 +60,13 @@ module _ {D : Type 0} {G : Ghosts D} where
     pub time : Elapses G.time G.left_since old.device new.device
     pub failures : G.failures old.device ≤ G.failures new.device
 
-  -- A call of the device failed.
+  -- One call of the device failed.
   abbrev pub DeviceFailed : Store D G → Store D G → Type 0
-  DeviceFailed old new = HasRisen (G.failures old.device) (G.failures new.device)
+  DeviceFailed old new = G.failures new.device ≡ count_up (G.failures old.device)
+
+  -- No call of the device failed.
+  abbrev pub DeviceWentWell : Store D G → Store D G → Type 0
+  DeviceWentWell old new = G.failures new.device ≡ G.failures old.device
 
   -- So many writes and syncs of the device were begun at most.
   abbrev pub DeviceBegins : Store D G → Store D G → ℕ → ℕ → Type 0
@@ -87,7 +91,8 @@ module _ {D : Type 0} {G : Ghosts D} where
   abbrev pub AddsNothing : Store D G → Store D G → Type 0
   AddsNothing old new = old.closed ≡ true → StopsLeave G old.device new.device (MayLeave (disk_of old))
 
--- A commit record of n blocks lists these and no other.
-pub record IsRecordOf (n : ℕ) (pending : ℕ → Bool) (bytes : List ℕ) : Type 0 where
-  pub each : (b : ℕ) → b < n → listed bytes b ≡ pending b
-  pub rest : (b : ℕ) → n ≤ b → listed bytes b ≡ false
+-- The commit record of an image of n blocks lists these and no other, and has the digest that belongs to it.
+pub record HasRecordOf (n : ℕ) (pending : ℕ → Bool) (image : Image) : Type 0 where
+  pub each : (b : ℕ) → b < n → listed (image 2) b ≡ pending b
+  pub rest : (b : ℕ) → n ≤ b → b < most_blocks → listed (image 2) b ≡ false
+  pub digest : is_true_record n (image 2) image ≡ true

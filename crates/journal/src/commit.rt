@@ -1,12 +1,13 @@
 // The steps of a save, and those that a recovery does again.
-ghost use Rattle.std.specs.Prelude.{◌≡◌, ◌⊎◌, ◌<◌, ◌≤◌, ◌+◌, ◌*◌, ◌^◌, ℕ, false, IsTrue, OnOk};
+ghost use Rattle.std.specs.Prelude.{◌≡◌, ◌⊎◌, ◌<◌, ◌≤◌, ◌+◌, ◌*◌, ◌^◌, ℕ, false, true, IsTrue, OnOk};
 ghost use Rattle.sector_disk.specs.Disk.{written, settled};
 ghost use Rattle.journal.specs.Calls.{StopsLeave, BeginsAtMost, Passes};
-ghost use Rattle.journal.specs.Images.{home_of, HasHomes};
+ghost use Rattle.journal.specs.Images.{home_of, HasHomes, is_true_record};
 ghost use Rattle.journal.specs.Layout.{fewest_blocks, most_blocks, count_listed, sectors_for, open_gate_bytes, InListedHomes};
-ghost use Rattle.journal.specs.Chain.{Follows};
+ghost use Rattle.journal.specs.Chain.{MayRedo};
 ghost use Rattle.journal.specs.Steps.{IsAsSynced, IsSound, IsLogged, HasRedone, HasApplied, HasSaved, HasRecovered, HasBlocks, merged};
 
+use crate::digest::sign;
 use crate::homes::copy_homes;
 use crate::layout::{GATE, RECORD, open_gate};
 use sector_disk::{DeviceFault, SectorDevice};
@@ -51,7 +52,7 @@ fn copy_and_sync<D: SectorDevice>(
     requires many { fewest_blocks ≤ blocks }
     requires few { blocks ≤ most_blocks }
     requires size { D.sector_count device.old ≡ sectors_for blocks }
-    requires logged { IsTrue (D.keeps_model device.old) → IsLogged blocks bytes.now (D.disk device.old) }
+    requires logged { IsTrue (D.keeps_model device.old) → IsLogged bytes.now (D.disk device.old) }
     ensures ok { IsTrue (D.keeps_model device.old)
         → OnOk result (HasRedone blocks bytes.now (D.disk device.old) (D.disk device.new)) }
     ensures stops { IsTrue (D.keeps_model device.old)
@@ -72,13 +73,13 @@ pub fn apply<D: SectorDevice>(
     requires many { fewest_blocks ≤ blocks }
     requires few { blocks ≤ most_blocks }
     requires size { D.sector_count device.old ≡ sectors_for blocks }
-    requires logged { IsTrue (D.keeps_model device.old) → IsLogged blocks bytes.now (D.disk device.old) }
+    requires logged { IsTrue (D.keeps_model device.old) → IsLogged bytes.now (D.disk device.old) }
     ensures ok { IsTrue (D.keeps_model device.old)
         → OnOk result (HasApplied blocks bytes.now (D.disk device.old) (D.disk device.new)) }
     ensures recovered { IsTrue (D.keeps_model device.old)
         → OnOk result (HasRecovered blocks (D.disk device.old) (D.disk device.new)) }
     ensures stops { IsTrue (D.keeps_model device.old)
-        → StopsLeave D.SectorDevice device.old device.new (Follows blocks (D.disk device.old).content) }
+        → StopsLeave D.SectorDevice device.old device.new (MayRedo blocks (D.disk device.old).content) }
     ensures passes { Passes D.SectorDevice device.old device.new result }
     ensures begins { BeginsAtMost D.SectorDevice device.old device.new (2 * count_listed bytes.now blocks + 1) 2 }
 {
@@ -86,8 +87,8 @@ pub fn apply<D: SectorDevice>(
     write_through(device, GATE, &[0; 512])
 }
 
-/// Makes the listed slots the homes of their blocks, all at once.
-pub(crate) fn save<D: SectorDevice>(
+// Makes the slots that a record lists the homes of their blocks, all at once.
+fn save_listed<D: SectorDevice>(
     device: &mut D,
     blocks: u16,
     bytes: &[u8; 512],
@@ -96,6 +97,7 @@ pub(crate) fn save<D: SectorDevice>(
     requires few { blocks ≤ most_blocks }
     requires size { D.sector_count device.old ≡ sectors_for blocks }
     requires sound { IsTrue (D.keeps_model device.old) → IsSound blocks (D.disk device.old) }
+    requires digest { IsTrue (D.keeps_model device.old) → is_true_record blocks bytes.now (D.disk device.old).content ≡ true }
     ensures ok { IsTrue (D.keeps_model device.old)
         → OnOk result (HasSaved blocks bytes.now (D.disk device.old) (D.disk device.new)) }
     ensures stops { IsTrue (D.keeps_model device.old) → StopsLeave D.SectorDevice device.old device.new
@@ -108,4 +110,27 @@ pub(crate) fn save<D: SectorDevice>(
 {
     log(device, bytes)?;
     apply(device, blocks, bytes)
+}
+
+/// Makes the slots of the blocks with these bits the homes of their blocks, all at once.
+pub(crate) fn save<D: SectorDevice>(
+    device: &mut D,
+    blocks: u16,
+    bits: &[u8; 512],
+) -> Result<(), DeviceFault>
+    requires many { fewest_blocks ≤ blocks }
+    requires few { blocks ≤ most_blocks }
+    requires size { D.sector_count device.old ≡ sectors_for blocks }
+    requires sound { IsTrue (D.keeps_model device.old) → IsSound blocks (D.disk device.old) }
+    ensures ok { IsTrue (D.keeps_model device.old)
+        → OnOk result (HasSaved blocks bits.now (D.disk device.old) (D.disk device.new)) }
+    ensures stops { IsTrue (D.keeps_model device.old) → StopsLeave D.SectorDevice device.old device.new
+        (λ c. HasBlocks blocks (home_of blocks (D.disk device.old).content) c ⊎ HasBlocks blocks (merged blocks bits.now (D.disk device.old).content) c) }
+    ensures gate { IsTrue (D.keeps_model device.old) → StopsLeave D.SectorDevice device.old device.new
+        (λ c. (c 1 ≡ open_gate_bytes) ⊎ HasHomes blocks (home_of blocks (D.disk device.old).content) c ⊎ HasHomes blocks (merged blocks bits.now (D.disk device.old).content) c) }
+    ensures passes { Passes D.SectorDevice device.old device.new result }
+    ensures begins { BeginsAtMost D.SectorDevice device.old device.new (2 * count_listed bits.now blocks + 3) 4 }
+{
+    let bytes = sign(device, blocks, bits)?;
+    save_listed(device, blocks, &bytes)
 }

@@ -1,8 +1,23 @@
 //! Where things stand in an image, and how they are spelled.
 ghost use Rattle.std.specs.Prelude.{◌≡◌, ◌<◌, ◌≤◌, ◌+◌, ◌*◌, ◌++◌, ◌/◌, ◌%◌, length, replicate, codes, slice_set};
-ghost use Rattle.journal.specs.Layout.{fewest_blocks, most_blocks, label_of, gate_open, open_gate_bytes, listed, slot_at, home_at};
+ghost use Rattle.journal.specs.Layout.{fewest_blocks, most_blocks, most_blocks_1, label_by, label_of, label_1_of, gate_open, open_gate_bytes, listed, slot_at, home_at};
 
 use byteorder::{ByteOrder, LittleEndian};
+
+/// How many blocks an image has at least.
+pub const FEWEST_BLOCKS: u16 = 32;
+
+/// How many blocks an image has at most.
+pub const MOST_BLOCKS: u16 = 3840;
+
+/// How many blocks an image of layout 1 has at most.
+pub const MOST_BLOCKS_1: u16 = 2048;
+
+/// The version of the layout, as a label tells it.
+pub const VERSION: u16 = 2;
+
+/// The version that a label of layout 1 tells.
+pub const VERSION_1: u16 = 1;
 
 /// The sector of the label.
 pub const LABEL: u32 = 0;
@@ -22,8 +37,23 @@ pub fn label(blocks: u16) -> [u8; 512]
     requires few { blocks ≤ most_blocks }
     ensures { result ≡ label_of blocks }
 {
+    label_by(VERSION, blocks)
+}
+
+/// The label that an image of layout 1 has.
+pub fn label_1(blocks: u16) -> [u8; 512]
+    requires many { fewest_blocks ≤ blocks }
+    requires few { blocks ≤ most_blocks_1 }
+    ensures { result ≡ label_1_of blocks }
+{
+    label_by(VERSION_1, blocks)
+}
+
+fn label_by(version: u16, blocks: u16) -> [u8; 512]
+    ensures { result ≡ label_by version blocks }
+{
     let mut bytes = named(b"F83BLOCK");
-    put_number(&mut bytes, 8, 1);
+    put_number(&mut bytes, 8, version);
     put_number(&mut bytes, 10, blocks);
     bytes
 }

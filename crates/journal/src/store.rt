@@ -28,7 +28,7 @@ pub enum StoreFault {
 pub struct Store<D: SectorDevice> {
     device: D,
     blocks: u16,
-    // the commit record of the blocks spilled since the last save
+    // the bits of the blocks spilled since the last save, with zeros where a commit record has its digest
     pending: [u8; 512],
     closed: bool,
     ghost many: { fewest_blocks ≤ blocks },
@@ -39,9 +39,9 @@ pub struct Store<D: SectorDevice> {
 }
 
 impl<D: SectorDevice> Store<D> {
-    ghost use Rattle.journal.specs.Store.{device_of, disk_of, blocks_of, closed_of, is_pending, pending_count, SamePending, IsRecordOf, StandsFor, Continues, DeviceFailed, DeviceBegins, KeepsSaved, SavesAllOrNone, OpensGateWhole, AddsNothing};
+    ghost use Rattle.journal.specs.Store.{device_of, disk_of, blocks_of, closed_of, is_pending, pending_count, SamePending, HasRecordOf, StandsFor, Continues, DeviceFailed, DeviceWentWell, DeviceBegins, KeepsSaved, SavesAllOrNone, OpensGateWhole, AddsNothing};
 
-    /// A store of `blocks` blocks, 32 to 2,048, over an image with a good label and a closed gate, of which nothing is
+    /// A store of `blocks` blocks, 32 to 3,840, over an image with a good label and a closed gate, of which nothing is
     /// unsynced. Makes no device call.
     pub fn adopt(device: D, blocks: u16) -> Self
         requires many { fewest_blocks ≤ blocks }
@@ -63,7 +63,7 @@ impl<D: SectorDevice> Store<D> {
         }
     }
 
-    /// How many blocks there are, from 32 to 2,048.
+    /// How many blocks there are, from 32 to 3,840.
     #[inline]
     pub fn blocks(&self) -> u16
         ensures value { result ≡ blocks_of self.now }
@@ -105,6 +105,7 @@ impl<D: SectorDevice> Store<D> {
         ensures closed_same { closed_of self.old ≡ true → self.new ≡ self.old }
         ensures shuts { closed_of self.new ≡ closed_of self.old }
         ensures device { IsErrOf result StoreFault.Device → DeviceFailed self.old self.new }
+        ensures well { OnOk result (DeviceWentWell self.old self.new) }
 
         ensures stops { KeepsSaved self.old self.new }
         ensures closed_stops { AddsNothing self.old self.new }
@@ -141,6 +142,7 @@ impl<D: SectorDevice> Store<D> {
         ensures closed_same { closed_of self.old ≡ true → self.new ≡ self.old }
         ensures shuts { IsErr result ↔ (closed_of self.new ≡ true) }
         ensures device { IsErrOf result StoreFault.Device → DeviceFailed self.old self.new }
+        ensures well { OnOk result (DeviceWentWell self.old self.new) }
 
         ensures stops { KeepsSaved self.old self.new }
         ensures closed_stops { AddsNothing self.old self.new }
@@ -177,6 +179,7 @@ impl<D: SectorDevice> Store<D> {
         ensures closed_same { closed_of self.old ≡ true → self.new ≡ self.old }
         ensures shuts { IsErr result ↔ (closed_of self.new ≡ true) }
         ensures device { IsErrOf result StoreFault.Device → DeviceFailed self.old self.new }
+        ensures well { OnOk result (DeviceWentWell self.old self.new) }
         ensures nothing { closed_of self.old ≡ false
             → pending_count self.old ≡ 0 → IsOk result × (device_of self.new ≡ device_of self.old) }
 
@@ -189,10 +192,10 @@ impl<D: SectorDevice> Store<D> {
         ensures continues { Continues self.old self.new }
         ensures pending { MatchResult result (λ _. (a : ℕ)
             → is_pending self.new a ≡ false) (λ _. SamePending self.old self.new) }
-        // The record on the device lists the blocks that were pending, and no bit past the last block. The gate is closed
-        // by zeros.
+        // The record on the device lists the blocks that were pending, and no bit past the last block, and its digest is that of
+        // these bits and their slots. The gate is closed by zeros.
         ensures recorded { IsTrue (D.keeps_model (device_of self.old)) → pending_count self.old ≢ 0
-            → OnOk result (IsRecordOf (blocks_of self.old) (is_pending self.old) ((disk_of self.new).content 2)
+            → OnOk result (HasRecordOf (blocks_of self.old) (is_pending self.old) (disk_of self.new).content
             × ((disk_of self.new).content 1 ≡ replicate 512 0)) }
         ensures begins { DeviceBegins self.old self.new (2 * pending_count self.old + 3) 4 }
     {

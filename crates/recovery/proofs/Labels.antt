@@ -6,8 +6,8 @@ use Rattle.std.proofs.lemmas.Bool.{eqb-true, eq-eqb}
 use Rattle.std.proofs.lemmas.Bool.Decides.{Decides-eqb, nat_tests}
 use Rattle.std.proofs.lemmas.Slice.Eq.{starts_is}
 use Rattle.std.proofs.lemmas.List.{drop_more}
-use Rattle.journal.specs.Layout.{label_of, sectors_for}
-use Rattle.recovery.specs.Label.{is_named, number_at, label_refusal, refusal, blocks_in, is_size}
+use Rattle.journal.specs.Layout.{label_of, label_by, sectors_for}
+use Rattle.recovery.specs.Label.{is_named, number_at, label_refusal, label_refusal_by, refusal, blocks_in, is_size}
 use Rattle.recovery.specs.declared.fault.OpenFault.TheVariants.{BadSize, NoLabel, OtherVersion, WrongCount}
 
 both : (a b : Bool) → (a && b) ≡ true → (a ≡ true) × (b ≡ true)
@@ -34,12 +34,12 @@ all_zero (x ∷ bytes) (suc n) long all =
 low_high : (low high n : ℕ) → low < 256 → high < 256 → low + 256 * high ≡ n → (low ≡ n % 256) × (high ≡ n / 256 % 256)
 low_high low high n a b is = (omega arith, omega arith)
 
-pub good_label : (n : ℕ) (label : List ℕ) → length label ≡ 512 → ((i : ℕ) → get_or label i 0 < 256) → label_refusal n label ≡ None → label ≡ label_of n
-good_label n label long small none =
-    let tests = passed (is_named label) (number_at label 8 == 1) (number_at label 10 == n) none in
+pub good_label : (version n : ℕ) (label : List ℕ) → length label ≡ 512 → ((i : ℕ) → get_or label i 0 < 256) → label_refusal_by version n label ≡ None → label ≡ label_by version n
+good_label number n label long small none =
+    let tests = passed (is_named label) (number_at label 8 == number) (number_at label 10 == n) none in
     let named = both (starts_with nat_eq label (codes "F83BLOCK")) (list_all (λ byte. byte == 0) (drop 12 label)) tests.0 in
     let name : label ≡ codes "F83BLOCK" ++ drop 8 label = (starts_is Decides-eqb label (codes "F83BLOCK") _ refl).0 named.0 in
-    let version = low_high (slice_index label 8) (slice_index label 9) 1 (small 8) (small 9) (eqb-true (number_at label 8) 1 tests.1) in
+    let version = low_high (slice_index label 8) (slice_index label 9) number (small 8) (small 9) (eqb-true (number_at label 8) number tests.1) in
     let count = low_high (slice_index label 10) (slice_index label 11) n (small 10) (small 11) (eqb-true (number_at label 10) n tests.2) in
     let zeros : drop 12 label ≡ replicate 500 0 = all_zero (drop 12 label) 500 (omega (arith, length-drop 12 label)) named.1 in
     name
@@ -51,7 +51,7 @@ good_label n label long small none =
     ∙ (λ l. count.1 l ∷ zeros l)) k)) j)) i))
 
 -- The good label passes.
-pub good_passes : (n sectors : ℕ) (label : List ℕ) → 32 ≤ n → n ≤ 2048 → sectors ≡ sectors_for n → label ≡ label_of n → refusal sectors label ≡ None
+pub good_passes : (n sectors : ℕ) (label : List ℕ) → 32 ≤ n → n ≤ 3840 → sectors ≡ sectors_for n → label ≡ label_of n → refusal sectors label ≡ None
 good_passes n sectors label many few size good =
     ap (λ x. cond (not x) (Some BadSize) (label_refusal (blocks_in sectors) label)) right_size
     ∙ ap (λ m. label_refusal m label) count_is ∙ ap (label_refusal n) good
@@ -61,8 +61,8 @@ good_passes n sectors label many few size good =
     count_is = omega (arith, size)
 
     right_size : is_size sectors ≡ true
-    right_size = ap (λ m. (nat_le 32 m && nat_le m 2048) && (sectors == sectors_for m)) count_is
-        ∙ (λ i. (le_test 32 n many i && le_test n 2048 few i) && eq-eqb sectors (sectors_for n) size i)
+    right_size = ap (λ m. (nat_le 32 m && nat_le m 3840) && (sectors == sectors_for m)) count_is
+        ∙ (λ i. (le_test 32 n many i && le_test n 3840 few i) && eq-eqb sectors (sectors_for n) size i)
       where
         le_test : (a b : ℕ) → a ≤ b → nat_le a b ≡ true
         le_test a b le = grind (arith, nat_tests)

@@ -1,11 +1,15 @@
 -- What a stop of a recovery leaves.
-use Rattle.std.proofs.Common.{inl, ℕ, ◌-◌, ◌≤◌, Bool, true, false, cond, refl, arith}
+use Rattle.std.proofs.Common.{◌≡◌, inl, ℕ, ◌-◌, ◌≤◌, Bool, true, false, cond, Some, None, refl, ◌∙◌, ap, arith}
 use Rattle.sector_disk.specs.Disk.{Disk, Image, MayLeave, settled}
 use Rattle.sector_disk.specs.declared.device.SectorDevice.{Ghosts}
 use Rattle.journal.specs.Calls.{BeginsAtMost}
-use Rattle.journal.specs.Chain.{Follows}
-use Rattle.journal.specs.Layout.{gate_open}
-use Rattle.recovery.specs.Opened.{RecoveryLeaves, writes_for, syncs_for}
+use Rattle.journal.specs.Chain.{HasMeaning, Follows}
+use Rattle.journal.specs.Images.{is_damaged}
+use Rattle.journal.specs.Layout.{gate_open, sectors_for}
+use Rattle.recovery.specs.Opened.{damage_refusal, first_refusal, image_refusal, RecoveryLeaves, writes_for, syncs_for}
+use Rattle.recovery.specs.Label.{blocks_in}
+use Rattle.recovery.specs.declared.fault.OpenFault.TheVariants.{Damaged}
+use Rattle.recovery.proofs.Labels.{good_passes}
 
 module _ (n : ℕ) (disk : Disk) where
   pub recovers_now : (x : Image) → MayLeave disk x → RecoveryLeaves n disk x
@@ -18,6 +22,23 @@ module _ (n : ℕ) (disk : Disk) where
     -- once synced
     pub recovers_later : (x : Image) → Follows n disk.content x → RecoveryLeaves n disk x
     recovers_later x follows = record { from = disk.content; may = present; follows = follows }
+
+-- An image that has a meaning passes each test.
+pub passes_all : (n sectors : ℕ) (image : Image) → sectors ≡ sectors_for n → HasMeaning n image → image_refusal sectors image ≡ None
+passes_all n sectors image size means =
+    ap (λ r. first_refusal r (damage_refusal (blocks_in sectors) image)) (good_passes n sectors (image 0) means.label.many means.label.few size means.label.label)
+    ∙ ap (λ m. damage_refusal m image) count_is ∙ ap (λ x. cond x (Some Damaged) None) means.whole
+  where
+    count_is : blocks_in sectors ≡ n
+    count_is = omega (arith, size)
+
+-- What isn't refused as damaged is whole.
+pub not_damaged : (n : ℕ) (image : Image) → damage_refusal n image ≡ None → is_damaged n image ≡ false
+not_damaged n image none = unless (is_damaged n image) none
+  where
+    unless : (b : Bool) → cond b (Some Damaged) None ≡ None → b ≡ false
+    unless true some = cc
+    unless false none = refl
 
 one_at_least : (is_open : Bool) → 1 ≤ cond is_open 3 1
 one_at_least true = omega arith

@@ -1,7 +1,7 @@
 -- Which refusal an image gives: the first condition that holds.
 use Rattle.std.specs.Prelude.{ℕ, ◌+◌, ◌-◌, ◌*◌, ◌/◌, ◌==◌, ◌&&◌, not, nat_le, nat_eq, if◌then◌else◌, Bool, List, drop, slice_index, codes, Option, Some, None}
 use Rattle.std.specs.List.{starts_with, list_all}
-use Rattle.journal.specs.Layout.{sectors_for}
+use Rattle.journal.specs.Layout.{fewest_blocks, most_blocks, sectors_for}
 use Rattle.recovery.specs.declared.fault.OpenFault.{OpenFault}
 use Rattle.recovery.specs.declared.fault.OpenFault.TheVariants.{BadSize, NoLabel, OtherVersion, WrongCount}
 
@@ -9,13 +9,21 @@ use Rattle.recovery.specs.declared.fault.OpenFault.TheVariants.{BadSize, NoLabel
 abbrev pub blocks_in : ℕ → ℕ
 blocks_in sectors = (sectors - 3) / 4
 
+-- whether an image of n blocks, and of no more than so many, has so many sectors
+abbrev pub fits_within : ℕ → ℕ → ℕ → Bool
+fits_within most n sectors = (nat_le fewest_blocks n && nat_le n most) && (sectors == sectors_for n)
+
+-- whether some image of no more than so many blocks has so many sectors
+abbrev pub is_size_within : ℕ → ℕ → Bool
+is_size_within most sectors = fits_within most (blocks_in sectors) sectors
+
 -- whether an image of n blocks has so many sectors
 abbrev pub is_size_for : ℕ → ℕ → Bool
-is_size_for n sectors = (nat_le 32 n && nat_le n 2048) && (sectors == sectors_for n)
+is_size_for n sectors = fits_within most_blocks n sectors
 
 -- whether some image has so many sectors
 abbrev pub is_size : ℕ → Bool
-is_size sectors = is_size_for (blocks_in sectors) sectors
+is_size sectors = is_size_within most_blocks sectors
 
 -- the name at the beginning, and zeros after the numbers
 abbrev pub is_named : List ℕ → Bool
@@ -25,12 +33,16 @@ is_named label = starts_with nat_eq label (codes "F83BLOCK") && list_all (λ byt
 abbrev pub number_at : List ℕ → ℕ → ℕ
 number_at bytes at = slice_index bytes at + 256 * slice_index bytes (at + 1)
 
+-- the refusal of a label in an image of n blocks by a layout of this version
+abbrev pub label_refusal_by : ℕ → ℕ → List ℕ → Option OpenFault
+label_refusal_by version n label =
+    if not (is_named label) then Some NoLabel
+    else (if not (number_at label 8 == version) then Some OtherVersion
+    else (if not (number_at label 10 == n) then Some WrongCount else None))
+
 -- the refusal of a label in an image of n blocks
 abbrev pub label_refusal : ℕ → List ℕ → Option OpenFault
-label_refusal n label =
-    if not (is_named label) then Some NoLabel
-    else (if not (number_at label 8 == 1) then Some OtherVersion
-    else (if not (number_at label 10 == n) then Some WrongCount else None))
+label_refusal n label = label_refusal_by 2 n label
 
 -- the refusal of an image with so many sectors and this label
 abbrev pub refusal : ℕ → List ℕ → Option OpenFault

@@ -1,12 +1,27 @@
--- What a recovery makes of a disk.
-use Rattle.std.specs.Prelude.{ℕ, ◌+◌, ◌*◌, if◌then◌else◌, List, replicate, Result, Ok, Err}
+-- Which refusal an image gives, and what a recovery makes of a disk.
+use Rattle.std.specs.Prelude.{ℕ, ◌+◌, ◌*◌, if◌then◌else◌, List, replicate, Result, Ok, Err, Option, Some, None}
 use Rattle.sector_disk.specs.Disk.{Disk, Image, MayLeave}
 use Rattle.sector_disk.specs.declared.device.SectorDevice.{Ghosts}
 use Rattle.journal.specs.declared.store.Store.{Store}
 use Rattle.journal.specs.Store.{device_of}
 use Rattle.journal.specs.Layout.{gate_open, count_listed}
 use Rattle.journal.specs.Chain.{Follows}
+use Rattle.journal.specs.Images.{is_damaged}
+use Rattle.recovery.specs.Label.{blocks_in, refusal}
 use Rattle.recovery.specs.declared.fault.OpenFault.{OpenFault}
+use Rattle.recovery.specs.declared.fault.OpenFault.TheVariants.{Damaged}
+
+-- the refusal of an image of n blocks with the good label
+abbrev pub damage_refusal : ℕ → Image → Option OpenFault
+damage_refusal n image = if is_damaged n image then Some Damaged else None
+
+abbrev pub first_refusal : Option OpenFault → Option OpenFault → Option OpenFault
+first_refusal (Some e) second = Some e
+first_refusal None second = second
+
+-- the refusal of an image with so many sectors: that of its size or label, and then that of its record
+abbrev pub image_refusal : ℕ → Image → Option OpenFault
+image_refusal sectors image = first_refusal (refusal sectors (image 0)) (damage_refusal (blocks_in sectors) image)
 
 -- the device, in a store or handed back
 abbrev pub end_of : {D : Type 0} {G : Ghosts D} → Result (Store D G) (OpenFault × D) → D

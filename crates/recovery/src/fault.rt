@@ -1,4 +1,4 @@
-// Why an image isn't opened or made.
+// Why an image isn't opened, made or upgraded.
 ghost use Rattle.std.specs.Prelude.{◌≡◌};
 ghost use Rattle.recovery.specs.declared.fault.OpenFault.TheVariants.{Device};
 
@@ -18,6 +18,8 @@ pub enum OpenFault {
     WrongCount = 4,
     #[error("the device failed")]
     Device = 5,
+    #[error("an open gate stands over a record that isn't that of its slots")]
+    Damaged = 6,
 }
 
 impl From<DeviceFault> for OpenFault {
@@ -26,4 +28,13 @@ impl From<DeviceFault> for OpenFault {
     fn from(_: DeviceFault) -> Self {
         OpenFault::Device
     }
+}
+
+/// Why an image isn't upgraded: what was refused of the old image, or of the new one.
+#[derive(Clone, Copy, Debug, PartialEq, Eq, Error)]
+pub enum UpgradeFault {
+    #[error("the old image: {0}")]
+    Old(OpenFault),
+    #[error("the new image: {0}")]
+    New(OpenFault),
 }

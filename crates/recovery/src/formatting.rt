@@ -1,32 +1,32 @@
 // A device is made an image of blank blocks.
 ghost use Rattle.std.specs.Prelude.{◌≡◌, ◌≢◌, ◌⊎◌, ◌<◌, ◌≤◌, ◌+◌, ◌*◌, ℕ, true, false, IsTrue, OnOk, IfOk, IfErr, MatchBool, replicate};
-ghost use Rattle.sector_disk.specs.Counting.{HasRisen};
-ghost use Rattle.sector_disk.specs.Disk.{Image, MayLeave, written};
+ghost use Rattle.sector_disk.specs.Counting.{count_up};
+ghost use Rattle.sector_disk.specs.Disk.{Image, MayLeave, written, settled};
 ghost use Rattle.sector_disk.specs.Moments.{Elapses};
 ghost use Rattle.journal.specs.Calls.{StopsLeave, BeginsAtMost, Passes};
 ghost use Rattle.journal.specs.Clean.{IsClean};
 ghost use Rattle.journal.specs.Images.{Means};
-ghost use Rattle.journal.specs.Layout.{sectors_for, label_of};
+ghost use Rattle.journal.specs.Layout.{fewest_blocks, most_blocks, sectors_for, label_of};
 ghost use Rattle.journal.specs.Maps.{fresh};
 ghost use Rattle.journal.specs.Steps.{WritesOnly, IsAsSynced};
 ghost use Rattle.journal.specs.Store.{device_of, disk_of, blocks_of, closed_of, is_pending, StandsFor};
 ghost use Rattle.recovery.specs.Formatted.{FormatLeaves, IsBlank, KeepsSlots, blank_blocks};
 ghost use Rattle.recovery.specs.Label.{is_size_for};
 ghost use Rattle.recovery.specs.Opened.{end_of};
-ghost use Rattle.recovery.specs.Steps.{IsUnlabelled, IsPrepared, IsMade};
+ghost use Rattle.recovery.specs.Steps.{IsUnlabelled, IsPrepared, IsMade, TakenAway, Sealed};
 ghost use Rattle.recovery.specs.declared.fault.OpenFault.TheVariants.{BadSize, Device};
 
 use crate::OpenFault;
 use crate::label::fits;
 use crate::settling::settle;
-use journal::layout::{GATE, LABEL, RECORD, home_sector, label};
+use journal::layout::{GATE, LABEL, MOST_BLOCKS, RECORD, home_sector, label};
 use journal::{Store, write_through};
 use sector_disk::{DeviceFault, SectorDevice};
 
 // Fills the homes with blanks.
 fn fill_homes<D: SectorDevice>(device: &mut D, blocks: u16) -> Result<(), DeviceFault>
-    requires many { 32 ≤ blocks }
-    requires few { blocks ≤ 2048 }
+    requires many { fewest_blocks ≤ blocks }
+    requires few { blocks ≤ most_blocks }
     requires size { D.sector_count device.old ≡ sectors_for blocks }
     ensures ok { IsTrue (D.keeps_model device.old)
         → OnOk result ((k : ℕ) → 3 + 2 * blocks ≤ k → k < 3 + 4 * blocks → (D.disk device.new).content k ≡ replicate 512 32) }
@@ -46,15 +46,15 @@ fn fill_homes<D: SectorDevice>(device: &mut D, blocks: u16) -> Result<(), Device
 }
 
 // Takes a good label away.
-fn unlabel<D: SectorDevice>(device: &mut D, blocks: u16) -> Result<(), DeviceFault>
-    requires many { 32 ≤ blocks }
-    requires few { blocks ≤ 2048 }
+pub(crate) fn unlabel<D: SectorDevice>(device: &mut D, blocks: u16) -> Result<(), DeviceFault>
+    requires many { fewest_blocks ≤ blocks }
+    requires few { blocks ≤ most_blocks }
     requires size { D.sector_count device.old ≡ sectors_for blocks }
     ensures ok { IsTrue (D.keeps_model device.old) → OnOk result (IsUnlabelled blocks (D.disk device.new)) }
     ensures slots { IsTrue (D.keeps_model device.old)
         → OnOk result (KeepsSlots blocks (D.disk device.old).content (D.disk device.new).content) }
     ensures stops { IsTrue (D.keeps_model device.old)
-        → StopsLeave D.SectorDevice device.old device.new (FormatLeaves blocks (D.disk device.old)) }
+        → StopsLeave D.SectorDevice device.old device.new (TakenAway blocks (D.disk device.old)) }
     ensures passes { Passes D.SectorDevice device.old device.new result }
     ensures begins { BeginsAtMost D.SectorDevice device.old device.new 1 2 }
 {
@@ -67,7 +67,8 @@ fn unlabel<D: SectorDevice>(device: &mut D, blocks: u16) -> Result<(), DeviceFau
     }
 }
 
-fn fill_head<D: SectorDevice>(device: &mut D) -> Result<(), DeviceFault>
+// Closes the gate and clears the record.
+pub(crate) fn fill_head<D: SectorDevice>(device: &mut D) -> Result<(), DeviceFault>
     requires { 3 ≤ D.sector_count device.old }
     ensures ok { IsTrue (D.keeps_model device.old)
         → OnOk result (D.disk device.new ≡ written (written (D.disk device.old) 1 (replicate 512 0)) 2 (replicate 512 0)) }
@@ -82,9 +83,10 @@ fn fill_head<D: SectorDevice>(device: &mut D) -> Result<(), DeviceFault>
     device.write(RECORD, &[0; 512])
 }
 
+// Writes all of the blank image but its label.
 fn fill<D: SectorDevice>(device: &mut D, blocks: u16) -> Result<(), DeviceFault>
-    requires many { 32 ≤ blocks }
-    requires few { blocks ≤ 2048 }
+    requires many { fewest_blocks ≤ blocks }
+    requires few { blocks ≤ most_blocks }
     requires size { D.sector_count device.old ≡ sectors_for blocks }
     ensures ok { IsTrue (D.keeps_model device.old) → OnOk result (IsBlank blocks (D.disk device.new).content) }
     ensures slots { IsTrue (D.keeps_model device.old)
@@ -102,11 +104,11 @@ fn fill<D: SectorDevice>(device: &mut D, blocks: u16) -> Result<(), DeviceFault>
 
 // Makes all blank under no good label.
 fn prepare<D: SectorDevice>(device: &mut D, blocks: u16) -> Result<(), DeviceFault>
-    requires many { 32 ≤ blocks }
-    requires few { blocks ≤ 2048 }
+    requires many { fewest_blocks ≤ blocks }
+    requires few { blocks ≤ most_blocks }
     requires size { D.sector_count device.old ≡ sectors_for blocks }
     requires unlabelled { IsTrue (D.keeps_model device.old) → IsUnlabelled blocks (D.disk device.old) }
-    ensures ok { IsTrue (D.keeps_model device.old) → OnOk result (IsPrepared blocks (D.disk device.new)) }
+    ensures ok { IsTrue (D.keeps_model device.old) → OnOk result (IsPrepared blocks (λ _. replicate 512 32) (D.disk device.new)) }
     ensures slots { IsTrue (D.keeps_model device.old)
         → OnOk result (KeepsSlots blocks (D.disk device.old).content (D.disk device.new).content) }
     ensures stops { IsTrue (D.keeps_model device.old)
@@ -118,17 +120,16 @@ fn prepare<D: SectorDevice>(device: &mut D, blocks: u16) -> Result<(), DeviceFau
     device.sync()
 }
 
-// Writes the label over a blank image.
-fn seal<D: SectorDevice>(device: &mut D, blocks: u16) -> Result<(), DeviceFault>
-    requires many { 32 ≤ blocks }
-    requires few { blocks ≤ 2048 }
+// Writes the label over an image.
+pub(crate) fn seal<D: SectorDevice>(device: &mut D, blocks: u16) -> Result<(), DeviceFault>
+    requires many { fewest_blocks ≤ blocks }
+    requires few { blocks ≤ most_blocks }
     requires size { D.sector_count device.old ≡ sectors_for blocks }
-    requires prepared { IsTrue (D.keeps_model device.old) → IsPrepared blocks (D.disk device.old) }
-    ensures ok { IsTrue (D.keeps_model device.old) → OnOk result (IsMade blocks (D.disk device.new)) }
-    ensures slots { IsTrue (D.keeps_model device.old)
-        → OnOk result (KeepsSlots blocks (D.disk device.old).content (D.disk device.new).content) }
+    requires synced { IsTrue (D.keeps_model device.old) → (k : ℕ) → (D.disk device.old).unsynced k ≡ false }
+    ensures ok { IsTrue (D.keeps_model device.old)
+        → OnOk result (D.disk device.new ≡ settled (written (D.disk device.old) 0 (label_of blocks))) }
     ensures stops { IsTrue (D.keeps_model device.old)
-        → StopsLeave D.SectorDevice device.old device.new (λ c. (c 0 ≢ label_of blocks) ⊎ Means (blank_blocks blocks) c) }
+        → StopsLeave D.SectorDevice device.old device.new (Sealed blocks (D.disk device.old).content) }
     ensures passes { Passes D.SectorDevice device.old device.new result }
     ensures begins { BeginsAtMost D.SectorDevice device.old device.new 1 1 }
 {
@@ -137,10 +138,11 @@ fn seal<D: SectorDevice>(device: &mut D, blocks: u16) -> Result<(), DeviceFault>
 
 // Makes the image. A stop before the end leaves no good label, or what was there.
 fn make<D: SectorDevice>(device: &mut D, blocks: u16) -> Result<(), DeviceFault>
-    requires many { 32 ≤ blocks }
-    requires few { blocks ≤ 2048 }
+    requires many { fewest_blocks ≤ blocks }
+    requires few { blocks ≤ most_blocks }
     requires size { D.sector_count device.old ≡ sectors_for blocks }
-    ensures ok { IsTrue (D.keeps_model device.old) → OnOk result (IsMade blocks (D.disk device.new)) }
+    ensures ok { IsTrue (D.keeps_model device.old)
+        → OnOk result (IsMade blocks (λ _. replicate 512 32) (D.disk device.new)) }
     ensures slots { IsTrue (D.keeps_model device.old)
         → OnOk result (KeepsSlots blocks (D.disk device.old).content (D.disk device.new).content) }
     ensures stops { IsTrue (D.keeps_model device.old)
@@ -153,7 +155,7 @@ fn make<D: SectorDevice>(device: &mut D, blocks: u16) -> Result<(), DeviceFault>
     seal(device, blocks)
 }
 
-/// Makes an image of `blocks` blank blocks, 32 to 2,048, on a device of exactly `3 + 4 * blocks` sectors, and answers a
+/// Makes an image of `blocks` blank blocks, 32 to 3,840, on a device of exactly `3 + 4 * blocks` sectors, and answers a
 /// store of them. An error hands the device back. Takes no memory.
 ///
 /// Gate and record become zeros, and the slots are left. The label is written last, and a good label that stood there is
@@ -171,7 +173,9 @@ pub fn format<D: SectorDevice>(mut device: D, blocks: u16) -> Result<Store<D>, (
     ensures size { IfOk result (λ _. is_size_for blocks (D.sector_count device) ≡ true) }
     ensures refusal { IfErr result (λ e. MatchBool (is_size_for blocks (D.sector_count device)) (e.0 ≡ Device) (e.0 ≡ BadSize)) }
     ensures unasked { IfErr result (λ e. e.0 ≡ BadSize → e.1 ≡ device) }
-    ensures device { IfErr result (λ e. e.0 ≡ Device → HasRisen (D.failures device) (D.failures e.1)) }
+    ensures device { IfErr result (λ e. e.0 ≡ Device → D.failures e.1 ≡ count_up (D.failures device)) }
+    ensures refused { IfErr result (λ e. e.0 ≢ Device → D.failures e.1 ≡ D.failures device) }
+    ensures well { IfOk result (λ store. D.failures (device_of store) ≡ D.failures device) }
 
     // What a stop at any moment leaves, and a stop once it has returned.
     ensures stops { IsTrue (D.keeps_model device) → (n : ℕ) → D.sector_count device ≡ sectors_for n
@@ -185,7 +189,7 @@ pub fn format<D: SectorDevice>(mut device: D, blocks: u16) -> Result<Store<D>, (
     ensures sectors { D.sector_count (end_of result) ≡ D.sector_count device }
     ensures model { D.keeps_model (end_of result) ≡ D.keeps_model device }
 {
-    if !fits(blocks, device.sectors()) {
+    if !fits(blocks, MOST_BLOCKS, device.sectors()) {
         return Err((OpenFault::BadSize, device));
     }
     match make(&mut device, blocks) {

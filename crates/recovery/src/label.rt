@@ -2,39 +2,40 @@
 ghost use Rattle.std.specs.Prelude.{◌≡◌, ◌≢◌, ◌<◌, ◌≤◌, ◌+◌, ℕ, false, true, Some, None, MatchResult, OnOk, IfSome, OnSome, IfNone, IfErr, IsTrue, ◌==◌, ◌*◌};
 ghost use Rattle.std.specs.Bool.{OnTrue};
 ghost use Rattle.std.specs.List.{list_all};
-ghost use Rattle.journal.specs.Layout.{sectors_for, label_of};
-ghost use Rattle.recovery.specs.Label.{blocks_in, is_size, is_named, number_at, label_refusal, is_size_for};
+ghost use Rattle.journal.specs.Layout.{fewest_blocks, sectors_for, label_by};
+ghost use Rattle.recovery.specs.Label.{blocks_in, is_size_within, is_named, number_at, label_refusal_by, fits_within};
 ghost use Rattle.recovery.specs.declared.fault.OpenFault.TheVariants.{BadSize};
 
 use crate::OpenFault;
 use byteorder::{ByteOrder, LittleEndian};
+use journal::layout::FEWEST_BLOCKS;
 
-// How many blocks an image of so many sectors has.
-pub(crate) fn blocks_of_size(sectors: u32) -> Option<u16>
-    ensures some { IfSome result (λ n. (n ≡ blocks_in sectors) × (is_size sectors ≡ true)) }
-    ensures none { IfNone result (is_size sectors ≡ false) }
+/// How many blocks an image of so many sectors has, where it has no more than `most`.
+pub fn blocks_of_size(sectors: u32, most: u16) -> Option<u16>
+    ensures some { IfSome result (λ n. (n ≡ blocks_in sectors) × (is_size_within most sectors ≡ true)) }
+    ensures none { IfNone result (is_size_within most sectors ≡ false) }
     ensures size { IfSome result (λ n. sectors ≡ sectors_for n) }
-    ensures many { IfSome result (λ n. 32 ≤ n) }
-    ensures few { IfSome result (λ n. n ≤ 2048) }
+    ensures many { IfSome result (λ n. fewest_blocks ≤ n) }
+    ensures few { IfSome result (λ n. n ≤ most) }
 {
     let blocks = u16::try_from(sectors.saturating_sub(3) / 4).ok()?;
-    if fits(blocks, sectors) {
+    if fits(blocks, most, sectors) {
         Some(blocks)
     } else {
         None
     }
 }
 
-// Whether a label is the good one, or else why not.
-pub(crate) fn check_label(label: &[u8; 512], blocks: u16) -> Result<(), OpenFault>
-    ensures exact { MatchResult result (λ _. label_refusal blocks label.now ≡ None) (λ e. label_refusal blocks label.now ≡ Some e) }
-    ensures good { OnOk result (label.now ≡ label_of blocks) }
+// Whether a label is the good one of a layout, or else why not.
+pub(crate) fn check_label(label: &[u8; 512], version: u16, blocks: u16) -> Result<(), OpenFault>
+    ensures exact { MatchResult result (λ _. label_refusal_by version blocks label.now ≡ None) (λ e. label_refusal_by version blocks label.now ≡ Some e) }
+    ensures good { OnOk result (label.now ≡ label_by version blocks) }
     ensures sized { IfErr result (λ e. e ≢ BadSize) }
 {
     if !is_label(label) {
         return Err(OpenFault::NoLabel);
     }
-    if number(label, 8) != 1 {
+    if number(label, 8) != version {
         return Err(OpenFault::OtherVersion);
     }
     if number(label, 10) != blocks {
@@ -63,10 +64,10 @@ fn number(bytes: &[u8; 512], at: usize) -> u16
     LittleEndian::read_u16(&bytes[at..])
 }
 
-// Whether an image of so many blocks has so many sectors.
-pub(crate) fn fits(blocks: u16, sectors: u32) -> bool
-    ensures value { result ≡ is_size_for blocks sectors }
-    ensures yes { OnTrue result ((32 ≤ blocks) × (blocks ≤ 2048) × (sectors ≡ sectors_for blocks)) }
+// Whether an image of so many blocks, and of no more than `most`, has so many sectors.
+pub(crate) fn fits(blocks: u16, most: u16, sectors: u32) -> bool
+    ensures value { result ≡ fits_within most blocks sectors }
+    ensures yes { OnTrue result ((fewest_blocks ≤ blocks) × (blocks ≤ most) × (sectors ≡ sectors_for blocks)) }
 {
-    32 <= blocks && blocks <= 2048 && sectors == 3 + 4 * blocks as u32
+    FEWEST_BLOCKS <= blocks && blocks <= most && sectors == 3 + 4 * blocks as u32
 }

@@ -1,32 +1,63 @@
 // An image is opened after a stop.
-ghost use Rattle.std.specs.Prelude.{◌≡◌, ◌≢◌, ◌⊎◌, ◌<◌, ◌≤◌, ◌+◌, ◌-◌, ◌*◌, ℕ, Ok, true, false, Some, None, IsTrue, OnOk, IfOk, IfErr, MatchBool, MatchResult};
-ghost use Rattle.sector_disk.specs.Counting.{HasRisen};
+ghost use Rattle.std.specs.Prelude.{◌≡◌, ◌≢◌, ◌⊎◌, ◌<◌, ◌≤◌, ◌+◌, ◌-◌, ◌*◌, ℕ, true, false, Some, None, IsTrue, OnOk, IfOk, IfErr, MatchBool, MatchResult};
+ghost use Rattle.sector_disk.specs.Counting.{count_up};
 ghost use Rattle.sector_disk.specs.Disk.{Image, MayLeave, settled};
 ghost use Rattle.sector_disk.specs.Moments.{Elapses};
-ghost use Rattle.journal.specs.Calls.{StopsLeave, BeginsAtMost, Passes};
-ghost use Rattle.journal.specs.Chain.{Follows};
+ghost use Rattle.journal.specs.Calls.{StopsLeave, BeginsAtMost, Passes, Proceeds};
+ghost use Rattle.journal.specs.Chain.{HasMeaning, Follows};
 ghost use Rattle.journal.specs.Clean.{IsClean};
-ghost use Rattle.journal.specs.Images.{meaning, Means};
-ghost use Rattle.journal.specs.Layout.{HasGoodLabel, sectors_for, label_of, gate_open, count_listed};
+ghost use Rattle.journal.specs.Images.{meaning, is_true_record, is_damaged, Means};
+ghost use Rattle.journal.specs.Layout.{fewest_blocks, most_blocks, HasGoodLabel, sectors_for, label_of, gate_open, count_listed};
 ghost use Rattle.journal.specs.Maps.{fresh};
 ghost use Rattle.journal.specs.Steps.{HasRecovered};
 ghost use Rattle.journal.specs.Store.{device_of, disk_of, blocks_of, closed_of, is_pending, StandsFor};
-ghost use Rattle.recovery.specs.Label.{is_size, label_refusal, refusal};
-ghost use Rattle.recovery.specs.Opened.{RecoveryLeaves, end_of, gate_after, writes_for, syncs_for};
+ghost use Rattle.recovery.specs.Label.{is_size, label_refusal};
+ghost use Rattle.recovery.specs.Opened.{damage_refusal, image_refusal, RecoveryLeaves, end_of, gate_after, writes_for, syncs_for};
 ghost use Rattle.recovery.specs.declared.fault.OpenFault.{OpenFault};
-ghost use Rattle.recovery.specs.declared.fault.OpenFault.TheVariants.{BadSize, Device};
+ghost use Rattle.recovery.specs.declared.fault.OpenFault.TheVariants.{BadSize, Device, Damaged};
 
 use crate::OpenFault;
-use crate::label::{blocks_of_size, check_label};
-use crate::settling::settle;
-use journal::layout::{GATE, RECORD, gate_is_open};
-use journal::{Store, apply};
+use crate::label::blocks_of_size;
+use crate::settling::start;
+use journal::layout::{GATE, MOST_BLOCKS, RECORD, VERSION, gate_is_open};
+use journal::{Store, apply, is_true_record};
 use sector_disk::{DeviceFault, SectorDevice};
 
+// Reads the record, and checks that it belongs to the slots.
+fn read_record<D: SectorDevice>(
+    device: &mut D,
+    blocks: u16,
+    bytes: &mut [u8; 512],
+) -> Result<(), OpenFault>
+    requires many { fewest_blocks ≤ blocks }
+    requires few { blocks ≤ most_blocks }
+    requires size { D.sector_count device.old ≡ sectors_for blocks }
+    ensures bytes { IsTrue (D.keeps_model device.old) → OnOk result (bytes.new ≡ (D.disk device.old).content 2) }
+    ensures exact { IsTrue (D.keeps_model device.old) → MatchResult result
+        (λ _. is_true_record blocks ((D.disk device.old).content 2) (D.disk device.old).content ≡ true)
+        (λ e. (e ≡ Device) ⊎ ((e ≡ Damaged) × (is_true_record blocks ((D.disk device.old).content 2) (D.disk device.old).content ≡ false))) }
+    ensures sized { IfErr result (λ e. e ≢ BadSize) }
+    ensures device { IfErr result (λ e. e ≡ Device → D.failures device.new ≡ count_up (D.failures device.old)) }
+    ensures refused { IfErr result (λ e. e ≢ Device → D.failures device.new ≡ D.failures device.old) }
+    ensures well { OnOk result (D.failures device.new ≡ D.failures device.old) }
+    ensures disk { IsTrue (D.keeps_model device.old) → D.disk device.new ≡ D.disk device.old }
+    ensures stops { IsTrue (D.keeps_model device.old)
+        → StopsLeave D.SectorDevice device.old device.new (MayLeave (D.disk device.old)) }
+    ensures passes { Proceeds D.SectorDevice device.old device.new }
+    ensures begins { BeginsAtMost D.SectorDevice device.old device.new 0 0 }
+{
+    device.read(RECORD, bytes)?;
+    if is_true_record(device, blocks, bytes)? {
+        Ok(())
+    } else {
+        Err(OpenFault::Damaged)
+    }
+}
+
 // Does again what an open gate asks for.
-fn redo<D: SectorDevice>(device: &mut D, blocks: u16) -> Result<(), DeviceFault>
-    requires many { 32 ≤ blocks }
-    requires few { blocks ≤ 2048 }
+fn redo<D: SectorDevice>(device: &mut D, blocks: u16) -> Result<(), OpenFault>
+    requires many { fewest_blocks ≤ blocks }
+    requires few { blocks ≤ most_blocks }
     requires size { D.sector_count device.old ≡ sectors_for blocks }
     requires label { IsTrue (D.keeps_model device.old) → (D.disk device.old).content 0 ≡ label_of blocks }
     requires gate { IsTrue (D.keeps_model device.old) → gate_open ((D.disk device.old).content 1) ≡ true }
@@ -35,21 +66,33 @@ fn redo<D: SectorDevice>(device: &mut D, blocks: u16) -> Result<(), DeviceFault>
         → OnOk result (HasRecovered blocks (D.disk device.old) (D.disk device.new)) }
     ensures gate { IsTrue (D.keeps_model device.old)
         → OnOk result ((D.disk device.new).content 1 ≡ gate_after ((D.disk device.old).content 1)) }
+    ensures exact { IsTrue (D.keeps_model device.old) → MatchResult result
+        (λ _. damage_refusal blocks (D.disk device.old).content ≡ None) (λ e. (e ≡ Device) ⊎ (damage_refusal blocks (D.disk device.old).content ≡ Some e)) }
+    ensures sized { IfErr result (λ e. e ≢ BadSize) }
+    ensures device { IfErr result (λ e. e ≡ Device → D.failures device.new ≡ count_up (D.failures device.old)) }
+    ensures refused { IfErr result (λ e. e ≢ Device → D.failures device.new ≡ D.failures device.old) }
+    ensures well { OnOk result (D.failures device.new ≡ D.failures device.old) }
+    ensures content { IsTrue (D.keeps_model device.old)
+        → IfErr result (λ e. e ≢ Device → (D.disk device.new).content ≡ (D.disk device.old).content) }
+    ensures unwritten { IfErr result (λ e. e ≢ Device → BeginsAtMost D.SectorDevice device.old device.new 0 0) }
     ensures stops { IsTrue (D.keeps_model device.old)
         → StopsLeave D.SectorDevice device.old device.new (Follows blocks (D.disk device.old).content) }
-    ensures passes { Passes D.SectorDevice device.old device.new result }
+    ensures passes { Proceeds D.SectorDevice device.old device.new }
     ensures begins { IsTrue (D.keeps_model device.old)
         → BeginsAtMost D.SectorDevice device.old device.new (2 * count_listed ((D.disk device.old).content 2) blocks + 1) 2 }
 {
-    let mut listed = [0; 512];
-    device.read(RECORD, &mut listed)?;
-    apply(device, blocks, &listed)
+    let mut record = [0; 512];
+    read_record(device, blocks, &mut record)?;
+    match apply(device, blocks, &record) {
+        Ok(()) => Ok(()),
+        Err(_) => Err(OpenFault::Device),
+    }
 }
 
 // Reads the gate, and does what it asks for.
-fn finish<D: SectorDevice>(device: &mut D, blocks: u16) -> Result<(), DeviceFault>
-    requires many { 32 ≤ blocks }
-    requires few { blocks ≤ 2048 }
+fn finish<D: SectorDevice>(device: &mut D, blocks: u16) -> Result<(), OpenFault>
+    requires many { fewest_blocks ≤ blocks }
+    requires few { blocks ≤ most_blocks }
     requires size { D.sector_count device.old ≡ sectors_for blocks }
     requires label { IsTrue (D.keeps_model device.old) → (D.disk device.old).content 0 ≡ label_of blocks }
     requires synced { IsTrue (D.keeps_model device.old) → (k : ℕ) → (D.disk device.old).unsynced k ≡ false }
@@ -57,71 +100,60 @@ fn finish<D: SectorDevice>(device: &mut D, blocks: u16) -> Result<(), DeviceFaul
         → OnOk result (HasRecovered blocks (D.disk device.old) (D.disk device.new)) }
     ensures gate { IsTrue (D.keeps_model device.old)
         → OnOk result ((D.disk device.new).content 1 ≡ gate_after ((D.disk device.old).content 1)) }
+    ensures exact { IsTrue (D.keeps_model device.old) → MatchResult result
+        (λ _. damage_refusal blocks (D.disk device.old).content ≡ None) (λ e. (e ≡ Device) ⊎ (damage_refusal blocks (D.disk device.old).content ≡ Some e)) }
+    ensures sized { IfErr result (λ e. e ≢ BadSize) }
+    ensures device { IfErr result (λ e. e ≡ Device → D.failures device.new ≡ count_up (D.failures device.old)) }
+    ensures refused { IfErr result (λ e. e ≢ Device → D.failures device.new ≡ D.failures device.old) }
+    ensures well { OnOk result (D.failures device.new ≡ D.failures device.old) }
+    ensures content { IsTrue (D.keeps_model device.old)
+        → IfErr result (λ e. e ≢ Device → (D.disk device.new).content ≡ (D.disk device.old).content) }
+    ensures unwritten { IfErr result (λ e. e ≢ Device → BeginsAtMost D.SectorDevice device.old device.new 0 0) }
     ensures stops { IsTrue (D.keeps_model device.old)
         → StopsLeave D.SectorDevice device.old device.new (Follows blocks (D.disk device.old).content) }
-    ensures passes { Passes D.SectorDevice device.old device.new result }
+    ensures passes { Proceeds D.SectorDevice device.old device.new }
     ensures begins { IsTrue (D.keeps_model device.old)
         → BeginsAtMost D.SectorDevice device.old device.new (writes_for blocks (D.disk device.old).content) (syncs_for (D.disk device.old).content - 1) }
 {
     let mut gate = [0; 512];
     device.read(GATE, &mut gate)?;
     if gate_is_open(&gate) {
-        redo(device, blocks)?;
+        redo(device, blocks)
+    } else {
+        Ok(())
     }
-    Ok(())
-}
-
-// Makes what is there stay, and looks at the label.
-fn start<D: SectorDevice>(device: &mut D, blocks: u16) -> Result<(), OpenFault>
-    requires many { 32 ≤ blocks }
-    requires few { blocks ≤ 2048 }
-    requires size { D.sector_count device.old ≡ sectors_for blocks }
-    ensures ok { IsTrue (D.keeps_model device.old)
-        → OnOk result ((D.disk device.new ≡ settled (D.disk device.old)) × ((D.disk device.old).content 0 ≡ label_of blocks)) }
-    ensures exact { IsTrue (D.keeps_model device.old) → MatchResult result
-        (λ _. label_refusal blocks ((D.disk device.old).content 0) ≡ None) (λ e. (e ≡ Device) ⊎ (label_refusal blocks ((D.disk device.old).content 0) ≡ Some e)) }
-    ensures sized { IfErr result (λ e. e ≢ BadSize) }
-    ensures device { IfErr result (λ e. e ≡ Device → HasRisen (D.failures device.old) (D.failures device.new)) }
-    ensures content { IsTrue (D.keeps_model device.old)
-        → IfErr result (λ e. e ≢ Device → (D.disk device.new).content ≡ (D.disk device.old).content) }
-    ensures stops { IsTrue (D.keeps_model device.old)
-        → StopsLeave D.SectorDevice device.old device.new (RecoveryLeaves blocks (D.disk device.old)) }
-    ensures passes { Passes D.SectorDevice {T = Unit {0}} {E = OpenFault} device.old device.new (Ok tt) }
-    ensures begins { BeginsAtMost D.SectorDevice device.old device.new 0 1 }
-{
-    let mut label = [0; 512];
-    settle(device, &mut label)?;
-    check_label(&label, blocks)
 }
 
 // Recovers the image, and answers how many blocks it has.
 fn recover<D: SectorDevice>(device: &mut D) -> Result<u16, OpenFault>
-    ensures size { IfOk result (λ n. (32 ≤ n) × (n ≤ 2048) × (D.sector_count device.old ≡ sectors_for n)) }
+    ensures size { IfOk result (λ n. (fewest_blocks ≤ n) × (n ≤ most_blocks) × (D.sector_count device.old ≡ sectors_for n)) }
     ensures sized { IfOk result (λ _. is_size (D.sector_count device.old) ≡ true) }
     ensures bad_size { IfErr result (λ e. MatchBool (is_size (D.sector_count device.old)) (e ≢ BadSize) (e ≡ BadSize)) }
     ensures unasked { IfErr result (λ e. e ≡ BadSize → device.new ≡ device.old) }
-    ensures label { IsTrue (D.keeps_model device.old)
-        → IfOk result (λ n. HasGoodLabel n (D.disk device.old).content) }
+    ensures meaning { IsTrue (D.keeps_model device.old)
+        → IfOk result (λ n. HasMeaning n (D.disk device.old).content) }
     ensures ok { IsTrue (D.keeps_model device.old)
         → IfOk result (λ n. HasRecovered n (D.disk device.old) (D.disk device.new)) }
     ensures gate { IsTrue (D.keeps_model device.old)
         → IfOk result (λ _. (D.disk device.new).content 1 ≡ gate_after ((D.disk device.old).content 1)) }
     ensures exact { IsTrue (D.keeps_model device.old) → MatchResult result
-        (λ _. refusal (D.sector_count device.old) ((D.disk device.old).content 0) ≡ None) (λ e. (e ≡ Device) ⊎ (refusal (D.sector_count device.old) ((D.disk device.old).content 0) ≡ Some e)) }
-    ensures device { IfErr result (λ e. e ≡ Device → HasRisen (D.failures device.old) (D.failures device.new)) }
+        (λ _. image_refusal (D.sector_count device.old) (D.disk device.old).content ≡ None) (λ e. (e ≡ Device) ⊎ (image_refusal (D.sector_count device.old) (D.disk device.old).content ≡ Some e)) }
+    ensures device { IfErr result (λ e. e ≡ Device → D.failures device.new ≡ count_up (D.failures device.old)) }
+    ensures refused { IfErr result (λ e. e ≢ Device → D.failures device.new ≡ D.failures device.old) }
+    ensures well { OnOk result (D.failures device.new ≡ D.failures device.old) }
     ensures content { IsTrue (D.keeps_model device.old)
         → IfErr result (λ e. e ≢ Device → (D.disk device.new).content ≡ (D.disk device.old).content) }
     ensures unwritten { IfErr result (λ e. e ≢ Device → BeginsAtMost D.SectorDevice device.old device.new 0 1) }
     ensures stops { IsTrue (D.keeps_model device.old) → (n : ℕ) → D.sector_count device.old ≡ sectors_for n
         → StopsLeave D.SectorDevice device.old device.new (RecoveryLeaves n (D.disk device.old)) }
-    ensures passes { Passes D.SectorDevice {T = Unit {0}} {E = OpenFault} device.old device.new (Ok tt) }
+    ensures passes { Proceeds D.SectorDevice device.old device.new }
     ensures begins { IsTrue (D.keeps_model device.old) → (n : ℕ) → D.sector_count device.old ≡ sectors_for n
         → BeginsAtMost D.SectorDevice device.old device.new (writes_for n (D.disk device.old).content) (syncs_for (D.disk device.old).content) }
 {
-    let Some(blocks) = blocks_of_size(device.sectors()) else {
+    let Some(blocks) = blocks_of_size(device.sectors(), MOST_BLOCKS) else {
         return Err(OpenFault::BadSize);
     };
-    start(device, blocks)?;
+    start(device, VERSION, blocks)?;
     finish(device, blocks)?;
     Ok(blocks)
 }
@@ -131,8 +163,9 @@ fn recover<D: SectorDevice>(device: &mut D) -> Result<u16, OpenFault>
 /// hands the device back. Takes no memory.
 ///
 /// It refuses, in this order, a device of a size that no image has (BadSize, with no device call), one without the name
-/// and zeros of a label (NoLabel), a label of another version (OtherVersion) or of another number of blocks (WrongCount).
-/// Device comes where a call of the device failed.
+/// and zeros of a label (NoLabel), a label of another version (OtherVersion) or of another number of blocks (WrongCount),
+/// and an open gate over a record whose digest isn't that of its bits and slots (Damaged). Device comes where a call of
+/// the device failed.
 pub fn open<D: SectorDevice>(mut device: D) -> Result<Store<D>, (OpenFault, D)>
     // The store has the blocks that the image meant.
     ensures ok { IsTrue (D.keeps_model device)
@@ -150,14 +183,16 @@ pub fn open<D: SectorDevice>(mut device: D) -> Result<Store<D>, (OpenFault, D)>
     ensures unasked { IfErr result (λ e. e.0 ≡ BadSize → e.1 ≡ device) }
     // Each refusal tells the first test that the image fails.
     ensures exact { IsTrue (D.keeps_model device) → MatchResult result
-        (λ _. refusal (D.sector_count device) ((D.disk device).content 0) ≡ None)
-        (λ e. (e.0 ≡ Device) ⊎ (refusal (D.sector_count device) ((D.disk device).content 0) ≡ Some e.0)) }
-    // What is opened has the good label, and what has it is refused only by a fault of the device.
-    ensures label { IsTrue (D.keeps_model device)
-        → IfOk result (λ store. HasGoodLabel (blocks_of store) (D.disk device).content) }
+        (λ _. image_refusal (D.sector_count device) (D.disk device).content ≡ None)
+        (λ e. (e.0 ≡ Device) ⊎ (image_refusal (D.sector_count device) (D.disk device).content ≡ Some e.0)) }
+    // What is opened has a meaning, and what has one is refused only by a fault of the device.
+    ensures meaning { IsTrue (D.keeps_model device)
+        → IfOk result (λ store. HasMeaning (blocks_of store) (D.disk device).content) }
     ensures good { IsTrue (D.keeps_model device) → (n : ℕ) → D.sector_count device ≡ sectors_for n
-        → HasGoodLabel n (D.disk device).content → IfErr result (λ e. e.0 ≡ Device) }
-    ensures device { IfErr result (λ e. e.0 ≡ Device → HasRisen (D.failures device) (D.failures e.1)) }
+        → HasMeaning n (D.disk device).content → IfErr result (λ e. e.0 ≡ Device) }
+    ensures device { IfErr result (λ e. e.0 ≡ Device → D.failures e.1 ≡ count_up (D.failures device)) }
+    ensures refused { IfErr result (λ e. e.0 ≢ Device → D.failures e.1 ≡ D.failures device) }
+    ensures well { IfOk result (λ store. D.failures (device_of store) ≡ D.failures device) }
     // Another refusal wrote nothing.
     ensures unwritten { IfErr result (λ e. e.0 ≢ Device → BeginsAtMost D.SectorDevice device e.1 0 1) }
     ensures content { IsTrue (D.keeps_model device)

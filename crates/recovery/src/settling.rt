@@ -1,8 +1,15 @@
-// The first step on an image, whatever a stop left unsynced.
-ghost use Rattle.std.specs.Prelude.{◌≡◌, ◌≤◌, IsTrue, OnOk};
+// The first steps on an image, whatever a stop left unsynced.
+ghost use Rattle.std.specs.Prelude.{◌≡◌, ◌≢◌, ◌⊎◌, ◌≤◌, None, Some, IsTrue, OnOk, IfErr, MatchResult};
+ghost use Rattle.sector_disk.specs.Counting.{count_up};
 ghost use Rattle.sector_disk.specs.Disk.{MayLeave, settled};
-ghost use Rattle.journal.specs.Calls.{StopsLeave, BeginsAtMost, Passes};
+ghost use Rattle.journal.specs.Calls.{StopsLeave, BeginsAtMost, Passes, Proceeds};
+ghost use Rattle.journal.specs.Layout.{label_by};
+ghost use Rattle.recovery.specs.Label.{label_refusal_by};
+ghost use Rattle.recovery.specs.declared.fault.OpenFault.{OpenFault};
+ghost use Rattle.recovery.specs.declared.fault.OpenFault.TheVariants.{BadSize, Device};
 
+use crate::OpenFault;
+use crate::label::check_label;
 use journal::layout::LABEL;
 use sector_disk::{DeviceFault, SectorDevice};
 
@@ -23,4 +30,31 @@ pub(crate) fn settle<D: SectorDevice>(
 {
     device.sync()?;
     device.read(LABEL, found)
+}
+
+// Makes what is there stay, and looks at the label.
+pub(crate) fn start<D: SectorDevice>(
+    device: &mut D,
+    version: u16,
+    blocks: u16,
+) -> Result<(), OpenFault>
+    requires { 3 ≤ D.sector_count device.old }
+    ensures ok { IsTrue (D.keeps_model device.old)
+        → OnOk result ((D.disk device.new ≡ settled (D.disk device.old)) × ((D.disk device.old).content 0 ≡ label_by version blocks)) }
+    ensures exact { IsTrue (D.keeps_model device.old) → MatchResult result
+        (λ _. label_refusal_by version blocks ((D.disk device.old).content 0) ≡ None) (λ e. (e ≡ Device) ⊎ (label_refusal_by version blocks ((D.disk device.old).content 0) ≡ Some e)) }
+    ensures sized { IfErr result (λ e. e ≢ BadSize) }
+    ensures device { IfErr result (λ e. e ≡ Device → D.failures device.new ≡ count_up (D.failures device.old)) }
+    ensures refused { IfErr result (λ e. e ≢ Device → D.failures device.new ≡ D.failures device.old) }
+    ensures well { OnOk result (D.failures device.new ≡ D.failures device.old) }
+    ensures content { IsTrue (D.keeps_model device.old)
+        → IfErr result (λ e. e ≢ Device → (D.disk device.new).content ≡ (D.disk device.old).content) }
+    ensures stops { IsTrue (D.keeps_model device.old)
+        → StopsLeave D.SectorDevice device.old device.new (MayLeave (D.disk device.old)) }
+    ensures passes { Proceeds D.SectorDevice device.old device.new }
+    ensures begins { BeginsAtMost D.SectorDevice device.old device.new 0 1 }
+{
+    let mut label = [0; 512];
+    settle(device, &mut label)?;
+    check_label(&label, version, blocks)
 }

@@ -1,5 +1,6 @@
 pub mod Counting
 pub mod Disk
+pub mod FileDisk
 pub mod Fuse
 pub mod Fused
 pub mod Laws
@@ -8,3 +9,4 @@ pub mod MemoryDisk
 pub mod Moments
 pub mod Recorded
 pub mod Stop
+pub mod Tearing

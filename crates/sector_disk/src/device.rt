@@ -62,7 +62,7 @@ pub(crate) fn count_failure<E: Drop>(
 ///
 /// The clauses with the premise `keeps_model` say what a call does to the disk, and bind only a device that keeps
 /// the disk model. All others bind every device: sectors and model never change, time goes on, a stop within a call
-/// leaves what one before it or after it may leave, and failures and calls are counted.
+/// leaves what one before it or after it may leave, each call is counted, and each that fails is counted as a failure.
 ///
 /// A device may know its whole history, as `Recorded` does, or the present alone, as `MemoryDisk` does: both meet
 /// all clauses, so what is proved over any device speaks of each moment within a call.

@@ -36,12 +36,15 @@ pub struct FileDisk {
 }
 
 impl FileDisk {
+    ghost use Rattle.sector_disk.specs.FileDisk.{has_failed_sync};
+
     /// Opens a file that is there. One whose length isn't a multiple of 512 bytes, or is 2^32 sectors or more, has
     /// no sectors. `Cannot` where it can't be opened for reading and writing.
     pub fn open(rt: &impl Files<File = File>, path: &str) -> Result<FileDisk, FileFault>
         ensures refusal { IfErr result (λ fault. fault ≡ FileFault.Cannot) }
         ensures counts { IfOk result (λ d. ⟦<FileDisk as SectorDevice>⟧.counts d ≡ record { reads = 0; writes = 0; syncs = 0 }) }
         ensures failures { IfOk result (λ d. ⟦<FileDisk as SectorDevice>⟧.failures d ≡ 0) }
+        ensures sync { IfOk result (λ d. has_failed_sync d ≡ false) }
     {
         let file = OpenOptions::new()
             .read(true)
@@ -62,6 +65,7 @@ impl FileDisk {
         ensures sectors { IfOk result (λ d. ⟦<FileDisk as SectorDevice>⟧.sector_count d ≡ sectors) }
         ensures counts { IfOk result (λ d. ⟦<FileDisk as SectorDevice>⟧.counts d ≡ record { reads = 0; writes = 0; syncs = 0 }) }
         ensures failures { IfOk result (λ d. ⟦<FileDisk as SectorDevice>⟧.failures d ≡ 0) }
+        ensures sync { IfOk result (λ d. has_failed_sync d ≡ false) }
     {
         let file = OpenOptions::new()
             .read(true)
@@ -80,6 +84,7 @@ impl FileDisk {
     fn with_sectors(file: File, sectors: u32) -> FileDisk
         ensures sectors { result.sectors ≡ sectors }
         ensures failures { result.failures ≡ 0 }
+        ensures sync { result.sync_failed ≡ false }
         ensures counts { result.counts ≡ record { reads = 0; writes = 0; syncs = 0 } }
     {
         FileDisk {
@@ -122,6 +127,11 @@ fn folder_of(path: &str) -> &str {
 }
 
 impl SectorDevice for FileDisk {
+    ghost use Rattle.std.specs.Prelude.{IsErr, ◌↔◌};
+    ghost use Rattle.sector_disk.specs.Counting.{with_read, with_write, with_sync};
+    ghost use Rattle.sector_disk.specs.FileDisk.{sectors_of, has_failed_sync};
+    ghost use Rattle.sector_disk.specs.Fused.{GoesOn};
+
     ghost sector_count = { λ f. f.sectors };
 
     ghost keeps_model = { λ f. false };
@@ -148,13 +158,23 @@ impl SectorDevice for FileDisk {
         self.sectors
     }
 
-    fn read(&mut self, k: u32, out: &mut [u8; 512]) -> Result<(), DeviceFault> {
+    fn read(&mut self, k: u32, out: &mut [u8; 512]) -> Result<(), DeviceFault>
+        requires { k < sectors_of self.old }
+        ensures sync { has_failed_sync self.new ≡ has_failed_sync self.old }
+        ensures goes_on { GoesOn ⟦<FileDisk as SectorDevice>⟧ self.old self.new result }
+        ensures counts { let n = ⟦<FileDisk as SectorDevice>⟧.counts in n self.new ≡ with_read (n self.old) }
+    {
         self.counts.count_read();
         let outcome = self.file.read_exact_at(out, SECTOR * k as u64);
         count_failure(&mut self.failures, outcome)
     }
 
-    fn write(&mut self, k: u32, bytes: &[u8; 512]) -> Result<(), DeviceFault> {
+    fn write(&mut self, k: u32, bytes: &[u8; 512]) -> Result<(), DeviceFault>
+        requires { k < sectors_of self.old }
+        ensures sync { has_failed_sync self.new ≡ has_failed_sync self.old }
+        ensures goes_on { GoesOn ⟦<FileDisk as SectorDevice>⟧ self.old self.new result }
+        ensures counts { let n = ⟦<FileDisk as SectorDevice>⟧.counts in n self.new ≡ with_write (n self.old) }
+    {
         self.counts.count_write();
         let outcome = self.file.write_all_at(bytes, SECTOR * k as u64);
         count_failure(&mut self.failures, outcome)
@@ -162,13 +182,23 @@ impl SectorDevice for FileDisk {
 
     // After a sync that failed the system may have given up the bytes, and would answer the next one with success.
     // So each later one fails too.
-    fn sync(&mut self) -> Result<(), DeviceFault> {
+    fn sync(&mut self) -> Result<(), DeviceFault>
+        ensures fails { has_failed_sync self.old ≡ true → IsErr result }
+        ensures sync { IsErr result ↔ (has_failed_sync self.new ≡ true) }
+        ensures goes_on { GoesOn ⟦<FileDisk as SectorDevice>⟧ self.old self.new result }
+        ensures counts { let n = ⟦<FileDisk as SectorDevice>⟧.counts in n self.new ≡ with_sync (n self.old) }
+    {
         self.counts.count_sync();
-        if self.sync_failed {
-            return count_failure(&mut self.failures, Err(DeviceFault));
-        }
-        let outcome = self.file.sync_data();
+        let outcome = if self.sync_failed {
+            Err(DeviceFault)
+        } else {
+            sync_file(&self.file)
+        };
         self.sync_failed = outcome.is_err();
         count_failure(&mut self.failures, outcome)
     }
+}
+
+fn sync_file(file: &File) -> Result<(), DeviceFault> {
+    file.sync_data().map_err(|_| DeviceFault)
 }

@@ -9,7 +9,7 @@ use crate::{Counts, DeviceFault, SectorDevice};
 
 /// Which calls fail.
 #[derive(Clone, Copy, Debug, PartialEq, Eq)]
-enum Fuse {
+pub(crate) enum Fuse {
     // So many calls pass, the next one fails, and all after it pass.
     Once(u64),
     // So many calls pass, and all after them fail.
@@ -20,7 +20,7 @@ enum Fuse {
 
 impl Fuse {
     // Counts this call, and fails where it is one that fails.
-    fn burn(&mut self) -> Result<(), DeviceFault>
+    pub(crate) fn burn(&mut self) -> Result<(), DeviceFault>
         ensures fails { IsErr result ↔ IsTrue (will_fail self.old 1) }
         ensures further { (j : ℕ) → 1 ≤ j → will_fail self.new j ≡ will_fail self.old (j + 1) }
     {

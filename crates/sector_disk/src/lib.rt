@@ -6,12 +6,11 @@ mod file;
 mod fused;
 mod memory;
 mod recorded;
+mod tearing;
 
 pub use device::{Counts, DeviceFault, SectorDevice};
 pub use file::{FileDisk, FileFault};
 pub use fused::Fused;
 pub use memory::{Fate, MemoryDisk, NoMemory};
 pub use recorded::Recorded;
-
-#[cfg(test)]
-mod tests;
+pub use tearing::Tearing;

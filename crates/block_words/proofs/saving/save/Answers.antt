@@ -80,7 +80,7 @@ returns-in-Ok-commit-clause-saves g c =
       faults = tt;
       closed = search rules;
       closed_same = search rules;
-      device = search rules;
+      failures = c.in-Ok-commit.ensures.well ∙ c.in-Ok.ensures.well;
       shuts = search rules;
       stops =
           saves_then g.D.SectorDevice old mid new c.args.buffers.now c.args.space.now
@@ -103,7 +103,7 @@ returns-in-Err-commit-clause-saves g c =
       faults = inl refl;
       closed = search rules;
       closed_same = search rules;
-      device = search rules;
+      failures = search rules;
       shuts = search rules;
       stops =
           saves_then g.D.SectorDevice old mid new c.args.buffers.now c.args.space.now

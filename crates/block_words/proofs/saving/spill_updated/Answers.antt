@@ -61,6 +61,7 @@ loop-updated-preserved g c =
           keeps_then_spill g.D.SectorDevice c.args.store.now c.loop-updated.store new (take i xs) c.args.space.now
           c.loop-updated.invariant.continues c.spill.ensures.continues c.loop-updated.invariant.stands c.loop-updated.invariant.stops c.spill.ensures.stops;
       continues = continues_then c.args.store.now c.loop-updated.store new (g.met.D.SectorDevice.widens new.device) c.loop-updated.invariant.continues c.spill.ensures.continues;
+      well = c.in-Ok.ensures.well ∙ c.loop-updated.invariant.well;
       pending = λ u. rw add-one
           (c.in-Ok.ensures.pending u ∙ ap (λ t. (u == x.block) || t) (c.loop-updated.invariant.pending u)
           ∙ among_more xs i x u (is_pending c.args.store.now u) (item_at xs i nothing c.loop-updated-test.true));

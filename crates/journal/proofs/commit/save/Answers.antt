@@ -1,87 +1,79 @@
-use Rattle.std.proofs.Common.{◌≡◌, ◌⊎◌, inl, inr, ⊎_elim, sym, ◌∙◌, ap, subst, IsTrue}
+use Rattle.std.proofs.Common.{refl, ◌≡◌, ◌⊎◌, inl, inr, ⊎_elim, true, sym, subst, arith, IsTrue}
 use Rattle.std.proofs.lemmas.Result.{on_ok_weaker}
-use Rattle.sector_disk.specs.Disk.{Disk, written, settled}
+use Rattle.sector_disk.specs.Disk.{Disk, MayLeave}
 use Rattle.sector_disk.proofs.Moments.{leaves_then}
-use Rattle.journal.specs.Images.{home_of, HasHomes}
+use Rattle.journal.specs.Images.{home_of, HasHomes, is_true_record}
 use Rattle.journal.specs.Layout.{open_gate_bytes}
-use Rattle.journal.specs.Chain.{Follows}
-use Rattle.journal.specs.Steps.{IsAsSynced, HasBlocks, merged}
-use Rattle.journal.proofs.Meaning.{sound_homes, sound_means, gate_homes, gate_means, logged_means, follows_gate, follows_means, saved}
+use Rattle.journal.specs.Steps.{HasBlocks, HasSaved, merged}
+use Rattle.journal.proofs.Calls.{passes_then}
+use Rattle.journal.proofs.Meaning.{sound_homes, sound_means}
+use Rattle.journal.proofs.Signing.{count_same, blocks_same, homes_same, saved_same, signed_true}
 use Rattle.journal.proofs.commit.save.Goals as goal
 
-pub returns-in_err-log-clause-stops : goal.returns-in_err-log-clause-stops
-returns-in_err-log-clause-stops g c = λ keeps x since.
+pub save_listed-requires-clause-digest : goal.save_listed-requires-clause-digest
+save_listed-requires-clause-digest g c = λ honest.
     let D = g.D.SectorDevice in
-    let n = c.args.blocks in
-    let bytes = c.args.bytes.now in
-    let d = D.disk c.args.device.now in
-    let sound = c.requires.sound keeps in
-    ⊎_elim
-    (λ is. inl (sound_means n d (g.met.D.SectorDevice.present c.args.device.now keeps) sound (λ j. j ≡ 2) (λ k at. inl at) x is))
-    (λ is. gate_means n bytes d sound.label x is)
-    (c.log.ensures.stops keeps x since)
-
-pub returns-in_err-log-clause-gate : goal.returns-in_err-log-clause-gate
-returns-in_err-log-clause-gate g c = λ keeps x since.
-    let D = g.D.SectorDevice in
-    let n = c.args.blocks in
-    let bytes = c.args.bytes.now in
-    let d = D.disk c.args.device.now in
-    let sound = c.requires.sound keeps in
-    inr (inl (⊎_elim
-    (λ is. sound_homes n d (g.met.D.SectorDevice.present c.args.device.now keeps) sound (λ j. j ≡ 2) (λ k at. inl at) x is)
-    (λ is. gate_homes n bytes d sound.label x is)
-    (c.log.ensures.stops keeps x since)))
+    let keeps : IsTrue (D.keeps_model c.args.device.now) = subst IsTrue c.sign.ensures.passes.model honest in
+    subst (λ (e : Disk). is_true_record c.args.blocks c.in_ok-bytes.bytes e.content ≡ true) (sym (c.sign.ensures.disk keeps))
+    (signed_true c.args.blocks c.args.bits.now (D.disk c.args.device.now).content c.in_ok-bytes.bytes c.requires.few (c.in_ok-bytes.ensures.ok keeps))
 
 pub returns-clause-ok : goal.returns-clause-ok
 returns-clause-ok g c = λ keeps.
     let D = g.D.SectorDevice in
-    let honest : IsTrue (D.keeps_model c.log.new.device) = subst IsTrue (sym c.log.ensures.passes.model) keeps in
-    on_ok_weaker c.apply.result
-    (λ done. saved c.args.blocks c.args.bytes.now (D.disk c.args.device.now) (D.disk c.log.new.device) (D.disk c.apply.new.device)
-    (c.requires.sound keeps).label (c.in_ok-log.ensures.ok keeps) done)
-    (c.apply.ensures.ok honest)
+    let n = c.args.blocks in
+    let bytes = c.in_ok-bytes.bytes in
+    let honest : IsTrue (D.keeps_model c.sign.new.device) = subst IsTrue (sym c.sign.ensures.passes.model) keeps in
+    on_ok_weaker c.save_listed.result
+    (λ done. saved_same bytes c.args.bits.now c.in_ok-bytes.ensures.bits n c.requires.few (D.disk c.args.device.now) (D.disk c.save_listed.new.device)
+    (subst (λ (e : Disk). HasSaved n bytes e (D.disk c.save_listed.new.device)) (c.sign.ensures.disk keeps) done))
+    (c.save_listed.ensures.ok honest)
 
 pub returns-clause-stops : goal.returns-clause-stops
 returns-clause-stops g c = λ keeps.
     let D = g.D.SectorDevice in
     let n = c.args.blocks in
-    let bytes = c.args.bytes.now in
     let d = D.disk c.args.device.now in
-    let mid = c.log.new.device in
-    let sound = c.requires.sound keeps in
-    let honest : IsTrue (D.keeps_model mid) = subst IsTrue (sym c.log.ensures.passes.model) keeps in
-    let means : HasBlocks n (merged n bytes d.content) (D.disk mid).content =
-    subst (λ (e : Disk). HasBlocks n (merged n bytes d.content) e.content) (sym (c.in_ok-log.ensures.ok keeps)) (logged_means n bytes d sound.label) in
-    leaves_then D.time D.left_since c.args.device.now mid c.apply.new.device
-    (λ x. IsAsSynced (λ j. j ≡ 2) d x ⊎ IsAsSynced (λ j. j ≡ 1) (settled (written d 2 bytes)) x) (Follows n (D.disk mid).content)
-    (λ x. HasBlocks n (home_of n d.content) x ⊎ HasBlocks n (merged n bytes d.content) x)
-    c.log.ensures.passes.time c.apply.ensures.passes.time (c.log.ensures.stops keeps) (c.apply.ensures.stops honest)
-    (λ x. ⊎_elim
-    (λ is. inl (sound_means n d (g.met.D.SectorDevice.present c.args.device.now keeps) sound (λ j. j ≡ 2) (λ k at. inl at) x is))
-    (λ is. gate_means n bytes d sound.label x is))
-    (λ x next. inr (follows_means n (merged n bytes d.content) (D.disk mid).content x next means))
+    let mid = c.sign.new.device in
+    let bytes = c.in_ok-bytes.bytes in
+    let bits = c.args.bits.now in
+    let honest : IsTrue (D.keeps_model mid) = subst IsTrue (sym c.sign.ensures.passes.model) keeps in
+    leaves_then D.time D.left_since c.args.device.now mid c.save_listed.new.device
+    (MayLeave d)
+    (λ x. HasBlocks n (home_of n (D.disk mid).content) x ⊎ HasBlocks n (merged n bytes (D.disk mid).content) x)
+    (λ x. HasBlocks n (home_of n d.content) x ⊎ HasBlocks n (merged n bits d.content) x)
+    c.sign.ensures.passes.time c.save_listed.ensures.passes.time (c.sign.ensures.stops keeps) (c.save_listed.ensures.stops honest)
+    (λ x may. inl (sound_means n d (g.met.D.SectorDevice.present c.args.device.now keeps) (c.requires.sound keeps) (λ k. ⊥) (λ k none. absurd none) x (λ k _ synced. may k synced)))
+    (λ x either. ⊎_elim (λ old. inl old) (λ new. inr (blocks_same bytes bits c.in_ok-bytes.ensures.bits n c.requires.few d.content x new))
+    (subst (λ (e : Disk). HasBlocks n (home_of n e.content) x ⊎ HasBlocks n (merged n bytes e.content) x) (c.sign.ensures.disk keeps) either))
 
 pub returns-clause-gate : goal.returns-clause-gate
 returns-clause-gate g c = λ keeps.
     let D = g.D.SectorDevice in
     let n = c.args.blocks in
-    let bytes = c.args.bytes.now in
     let d = D.disk c.args.device.now in
-    let mid = c.log.new.device in
-    let sound = c.requires.sound keeps in
-    let is_mid = c.in_ok-log.ensures.ok keeps in
-    let honest : IsTrue (D.keeps_model mid) = subst IsTrue (sym c.log.ensures.passes.model) keeps in
-    let means : HasBlocks n (merged n bytes d.content) (D.disk mid).content =
-    subst (λ (e : Disk). HasBlocks n (merged n bytes d.content) e.content) (sym is_mid) (logged_means n bytes d sound.label) in
-    leaves_then D.time D.left_since c.args.device.now mid c.apply.new.device
-    (λ x. IsAsSynced (λ j. j ≡ 2) d x ⊎ IsAsSynced (λ j. j ≡ 1) (settled (written d 2 bytes)) x) (Follows n (D.disk mid).content)
-    (λ x. (x 1 ≡ open_gate_bytes) ⊎ HasHomes n (home_of n d.content) x ⊎ HasHomes n (merged n bytes d.content) x)
-    c.log.ensures.passes.time c.apply.ensures.passes.time (c.log.ensures.stops keeps) (c.apply.ensures.stops honest)
-    (λ x. ⊎_elim
-    (λ is. inr (inl (sound_homes n d (g.met.D.SectorDevice.present c.args.device.now keeps) sound (λ j. j ≡ 2) (λ k at. inl at) x is)))
-    (λ is. inr (inl (gate_homes n bytes d sound.label x is))))
-    (λ x next. ⊎_elim
-    (λ same. inl (same ∙ ap (λ (e : Disk). e.content 1) is_mid))
-    (λ homes. inr (inr homes))
-    (follows_gate n (merged n bytes d.content) (D.disk mid).content x next means))
+    let mid = c.sign.new.device in
+    let bytes = c.in_ok-bytes.bytes in
+    let bits = c.args.bits.now in
+    let honest : IsTrue (D.keeps_model mid) = subst IsTrue (sym c.sign.ensures.passes.model) keeps in
+    leaves_then D.time D.left_since c.args.device.now mid c.save_listed.new.device
+    (MayLeave d)
+    (λ x. (x 1 ≡ open_gate_bytes) ⊎ HasHomes n (home_of n (D.disk mid).content) x ⊎ HasHomes n (merged n bytes (D.disk mid).content) x)
+    (λ x. (x 1 ≡ open_gate_bytes) ⊎ HasHomes n (home_of n d.content) x ⊎ HasHomes n (merged n bits d.content) x)
+    c.sign.ensures.passes.time c.save_listed.ensures.passes.time (c.sign.ensures.stops keeps) (c.save_listed.ensures.gate honest)
+    (λ x may. inr (inl (sound_homes n d (g.met.D.SectorDevice.present c.args.device.now keeps) (c.requires.sound keeps) (λ k. ⊥) (λ k none. absurd none) x (λ k _ synced. may k synced))))
+    (λ x either. ⊎_elim (λ whole. inl whole) (⊎_elim (λ old. inr (inl old)) (λ new. inr (inr (homes_same bytes bits c.in_ok-bytes.ensures.bits n c.requires.few d.content x new))))
+    (subst (λ (e : Disk). (x 1 ≡ open_gate_bytes) ⊎ HasHomes n (home_of n e.content) x ⊎ HasHomes n (merged n bytes e.content) x) (c.sign.ensures.disk keeps) either))
+
+pub returns-clause-passes : goal.returns-clause-passes
+returns-clause-passes g c =
+    passes_then g.D.SectorDevice c.args.device.now c.sign.new.device c.save_listed.new.device g.met.D.SectorDevice.widens c.in_ok-bytes.ensures.passes c.save_listed.ensures.passes refl
+
+pub returns-clause-begins : goal.returns-clause-begins
+returns-clause-begins g c =
+    let sign = c.sign.ensures.begins in
+    let save = c.save_listed.ensures.begins in
+    let count = count_same c.in_ok-bytes.bytes c.args.bits.now c.in_ok-bytes.ensures.bits c.args.blocks c.requires.few in
+    record {
+      few_writes = omega (arith, count, sign.few_writes, save.few_writes);
+      few_syncs = omega (arith, sign.few_syncs, save.few_syncs);
+    }

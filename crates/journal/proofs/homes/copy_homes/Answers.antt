@@ -1,4 +1,4 @@
-use Rattle.std.proofs.Common.{arith, sym, subst, IsTrue}
+use Rattle.std.proofs.Common.{refl, arith, sym, subst, IsTrue}
 use Rattle.journal.specs.Layout.{InListedHomes, InHomeIfListed}
 use Rattle.journal.specs.Steps.{IsAsSynced}
 use Rattle.sector_disk.proofs.Moments.{leaves_then}
@@ -34,7 +34,7 @@ loop-b-preserved g c =
           (IsAsSynced (InListedHomes n bytes) d) (IsAsSynced (InHomeIfListed n bytes c.loop-b.b) e) (IsAsSynced (InListedHomes n bytes) d)
           inv.passes.time step.passes.time (inv.stops keeps) (step.stops (honest keeps))
           (λ x is. is) (λ x is. as_synced_more n bytes c.loop-b.b d e x below (inv.only keeps) is);
-      passes = passes_then D c.args.device.now c.loop-b.device c.copy_if_listed.new.device g.met.D.SectorDevice.widens inv.passes c.in_ok-copy_if_listed.ensures.passes;
+      passes = passes_then D c.args.device.now c.loop-b.device c.copy_if_listed.new.device g.met.D.SectorDevice.widens inv.passes c.in_ok-copy_if_listed.ensures.passes refl;
       begins = record {
         few_writes = (step_writes bytes c.loop-b.b n _ _ _ below inv.begins.few_writes step.begins.few_writes).0;
         few_syncs = omega (arith, inv.begins.few_syncs, step.begins.few_syncs);

@@ -1,14 +1,14 @@
-use Rattle.std.proofs.Common.{◌≡◌, sym, ◌∙◌, subst, refl, arith, IsTrue}
+use Rattle.std.proofs.Common.{◌≡◌, sym, ◌∙◌, subst, refl, arith, replicate, IsTrue}
 use Rattle.sector_disk.specs.Disk.{MayLeave}
 use Rattle.journal.specs.Maps.{fresh}
 use Rattle.journal.specs.Store.{StandsFor}
-use Rattle.recovery.specs.Formatted.{FormatLeaves}
-use Rattle.recovery.proofs.Formats.{half_now, made_means, blank_meaning}
+use Rattle.recovery.specs.Formatted.{FormatLeaves, blank_blocks}
+use Rattle.recovery.proofs.Formats.{half_now, making, blank_homes, made_means, blank_meaning}
 use Rattle.recovery.proofs.formatting.format.Goals as goal
 
 pub returns-then-not-fits-clause-stops : goal.returns-then-not-fits-clause-stops
 returns-then-not-fits-clause-stops g c = λ keeps n size x since.
-    half_now n (g.D.SectorDevice.disk c.args.device) x (g.met.D.SectorDevice.only_now c.args.device x since)
+    making n (g.D.SectorDevice.disk c.args.device) (blank_blocks n) x (half_now n (g.D.SectorDevice.disk c.args.device) x (g.met.D.SectorDevice.only_now c.args.device x since))
 
 pub returns-in-Ok-clause-ok : goal.returns-in-Ok-clause-ok
 returns-in-Ok-clause-ok g c = λ keeps.
@@ -17,7 +17,7 @@ returns-in-Ok-clause-ok g c = λ keeps.
     let fits = c.if-not-fits.ensures.yes in
     let new = D.disk c.make.new.device in
     let honest : IsTrue (D.keeps_model c.make.new.device) = subst IsTrue (sym c.make.ensures.passes.model) keeps in
-    let means = made_means n fits.0 fits.1 new (c.in-Ok.ensures.ok keeps) new.content (λ k. refl) in
+    let means = made_means n fits.0 fits.1 (λ _. replicate 512 32) new (c.in-Ok.ensures.ok keeps) (blank_blocks n) (blank_homes n) new.content (λ k. refl) in
     subst (λ l. StandsFor c.adopt.result (fresh l)) (blank_meaning n new.content means) (c.adopt.ensures.state honest)
 
 pub returns-in-Ok-clause-after : goal.returns-in-Ok-clause-after
@@ -28,7 +28,7 @@ returns-in-Ok-clause-after g c = λ keeps x may.
     let honest : IsTrue (D.keeps_model c.make.new.device) = subst IsTrue (sym c.make.ensures.passes.model) keeps in
     let made = c.in-Ok.ensures.ok keeps in
     let left = subst (λ d. MayLeave (D.disk d) x) c.adopt.ensures.device may in
-    made_means c.args.blocks fits.0 fits.1 new made x (λ k. left k (made.synced k) ∙ sym (g.met.D.SectorDevice.present c.make.new.device honest k (made.synced k)))
+    made_means c.args.blocks fits.0 fits.1 (λ _. replicate 512 32) new made (blank_blocks c.args.blocks) (blank_homes c.args.blocks) x (λ k. left k (made.synced k) ∙ sym (g.met.D.SectorDevice.present c.make.new.device honest k (made.synced k)))
 
 pub returns-in-Ok-clause-stops : goal.returns-in-Ok-clause-stops
 returns-in-Ok-clause-stops g c = λ keeps n size x since.

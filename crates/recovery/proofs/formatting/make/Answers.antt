@@ -1,34 +1,54 @@
-use Rattle.std.proofs.Common.{◌≢◌, ◌⊎◌, inl, inr, ⊎_elim, sym, subst, IsTrue}
+use Rattle.std.proofs.Common.{◌≢◌, inl, sym, subst, replicate, IsTrue}
+use Rattle.std.proofs.lemmas.Result.{on_ok_weaker}
+use Rattle.sector_disk.specs.Disk.{Disk}
 use Rattle.sector_disk.proofs.Moments.{leaves_then, elapses_then}
-use Rattle.journal.specs.Images.{Means}
 use Rattle.journal.specs.Layout.{label_of}
 use Rattle.recovery.specs.Formatted.{FormatLeaves, blank_blocks}
-use Rattle.recovery.proofs.Formats.{unlabelled}
+use Rattle.recovery.specs.Steps.{TakenAway, Sealed, IsMade}
+use Rattle.recovery.proofs.Formats.{unlabelled, making, sealed_means, blank_homes, made_of}
 use Rattle.recovery.proofs.formatting.make.Goals as goal
+
+pub returns-in_err-unlabel-clause-stops : goal.returns-in_err-unlabel-clause-stops
+returns-in_err-unlabel-clause-stops g c = λ keeps x since.
+    making c.args.blocks (g.D.SectorDevice.disk c.args.device.now) (blank_blocks c.args.blocks) x (c.unlabel.ensures.stops keeps x since)
 
 pub returns-in_err-prepare-clause-stops : goal.returns-in_err-prepare-clause-stops
 returns-in_err-prepare-clause-stops g c = λ keeps.
     let D = g.D.SectorDevice in
     let n = c.args.blocks in
+    let d = D.disk c.args.device.now in
     let honest : IsTrue (D.keeps_model c.unlabel.new.device) = subst IsTrue (sym c.unlabel.ensures.passes.model) keeps in
     leaves_then D.time D.left_since c.args.device.now c.unlabel.new.device c.prepare.new.device
-    (FormatLeaves n (D.disk c.args.device.now)) (λ x. x 0 ≢ label_of n) (FormatLeaves n (D.disk c.args.device.now))
+    (TakenAway n d) (λ x. x 0 ≢ label_of n) (FormatLeaves n d)
     c.unlabel.ensures.passes.time c.prepare.ensures.passes.time (c.unlabel.ensures.stops keeps) (c.prepare.ensures.stops honest)
-    (λ x half. half) (λ x bad. inl (unlabelled n x bad))
+    (making n d (blank_blocks n)) (λ x bad. inl (unlabelled n x bad))
+
+pub returns-clause-ok : goal.returns-clause-ok
+returns-clause-ok g c = λ keeps.
+    let D = g.D.SectorDevice in
+    let n = c.args.blocks in
+    let honest : IsTrue (D.keeps_model c.unlabel.new.device) = subst IsTrue (sym c.unlabel.ensures.passes.model) keeps in
+    let sealed : IsTrue (D.keeps_model c.prepare.new.device) = subst IsTrue (sym c.prepare.ensures.passes.model) honest in
+    on_ok_weaker c.seal.result
+    (λ is. subst (λ (e : Disk). IsMade n (λ _. replicate 512 32) e) (sym is) (made_of n (λ _. replicate 512 32) (D.disk c.prepare.new.device) (c.in_ok-prepare.ensures.ok honest)))
+    (c.seal.ensures.ok sealed)
 
 pub returns-clause-stops : goal.returns-clause-stops
 returns-clause-stops g c = λ keeps.
     let D = g.D.SectorDevice in
     let n = c.args.blocks in
+    let d = D.disk c.args.device.now in
     let honest : IsTrue (D.keeps_model c.unlabel.new.device) = subst IsTrue (sym c.unlabel.ensures.passes.model) keeps in
     let sealed : IsTrue (D.keeps_model c.prepare.new.device) = subst IsTrue (sym c.prepare.ensures.passes.model) honest in
+    let mid = D.disk c.prepare.new.device in
+    let prepared = c.in_ok-prepare.ensures.ok honest in
     leaves_then D.time D.left_since c.args.device.now c.prepare.new.device c.seal.new.device
-    (FormatLeaves n (D.disk c.args.device.now)) (λ x. (x 0 ≢ label_of n) ⊎ Means (blank_blocks n) x) (FormatLeaves n (D.disk c.args.device.now))
+    (FormatLeaves n d) (Sealed n mid.content) (FormatLeaves n d)
     (elapses_then D.time D.left_since c.args.device.now c.unlabel.new.device c.prepare.new.device (g.met.D.SectorDevice.widens c.prepare.new.device) c.unlabel.ensures.passes.time c.prepare.ensures.passes.time)
     c.seal.ensures.passes.time
     (leaves_then D.time D.left_since c.args.device.now c.unlabel.new.device c.prepare.new.device
-    (FormatLeaves n (D.disk c.args.device.now)) (λ x. x 0 ≢ label_of n) (FormatLeaves n (D.disk c.args.device.now))
+    (TakenAway n d) (λ x. x 0 ≢ label_of n) (FormatLeaves n d)
     c.unlabel.ensures.passes.time c.prepare.ensures.passes.time (c.unlabel.ensures.stops keeps) (c.prepare.ensures.stops honest)
-    (λ x half. half) (λ x bad. inl (unlabelled n x bad)))
+    (making n d (blank_blocks n)) (λ x bad. inl (unlabelled n x bad)))
     (c.seal.ensures.stops sealed)
-    (λ x half. half) (λ x. ⊎_elim (λ bad. inl (unlabelled n x bad)) (λ means. inr (inl means)))
+    (λ x half. half) (λ x is. sealed_means n c.requires.many c.requires.few (λ _. replicate 512 32) mid.content prepared.filled (blank_blocks n) (blank_homes n) d x is)

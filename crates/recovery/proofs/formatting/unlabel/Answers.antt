@@ -1,10 +1,10 @@
-use Rattle.std.proofs.Common.{◌≡◌, ◌∙◌, sym, subst, IsTrue, rules}
+use Rattle.std.proofs.Common.{refl, ◌≡◌, ◌∙◌, sym, subst, IsTrue, rules}
 use Rattle.sector_disk.specs.Disk.{Disk, MayLeave}
 use Rattle.sector_disk.proofs.Moments.{leaves_then}
 use Rattle.journal.specs.Layout.{label_of}
 use Rattle.journal.specs.Steps.{IsAsSynced}
 use Rattle.journal.proofs.Calls.{passes_then}
-use Rattle.recovery.specs.Formatted.{FormatLeaves}
+use Rattle.recovery.specs.Steps.{TakenAway}
 use Rattle.recovery.proofs.Formats.{half_now, half_cleared}
 use Rattle.recovery.proofs.formatting.unlabel.Goals as goal
 
@@ -23,7 +23,7 @@ returns-then-eq-clause-stops g c = λ keeps.
     let honest : IsTrue (D.keeps_model mid) = subst IsTrue (sym c.settle.ensures.passes.model) keeps in
     let same : c.settle.new.found ≡ c.label.result = search rules in
     let good : d.content 0 ≡ label_of n = sym (c.in_ok-settle.ensures.label keeps) ∙ same ∙ c.label.ensures in
-    leaves_then D.time D.left_since c.args.device.now mid c.write_through.new.device (MayLeave d) (IsAsSynced (λ k. k ≡ 0) (D.disk mid)) (FormatLeaves n d)
+    leaves_then D.time D.left_since c.args.device.now mid c.write_through.new.device (MayLeave d) (IsAsSynced (λ k. k ≡ 0) (D.disk mid)) (TakenAway n d)
     c.settle.ensures.passes.time c.write_through.ensures.passes.time (c.settle.ensures.stops keeps) (c.write_through.ensures.stops honest)
     (half_now n d)
     (λ x is. half_cleared n d (g.met.D.SectorDevice.present c.args.device.now keeps) good x
@@ -32,4 +32,4 @@ returns-then-eq-clause-stops g c = λ keeps.
 pub returns-then-eq-clause-passes : goal.returns-then-eq-clause-passes
 returns-then-eq-clause-passes g c =
     passes_then g.D.SectorDevice c.args.device.now c.settle.new.device c.write_through.new.device g.met.D.SectorDevice.widens
-    c.settle.ensures.passes c.write_through.ensures.passes
+    c.in_ok-settle.ensures.passes c.write_through.ensures.passes refl

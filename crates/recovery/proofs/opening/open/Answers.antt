@@ -5,7 +5,7 @@ use Rattle.journal.specs.Maps.{fresh}
 use Rattle.journal.specs.Store.{StandsFor}
 use Rattle.journal.proofs.Blocks.{same_below}
 use Rattle.recovery.specs.Opened.{writes_for, syncs_for}
-use Rattle.recovery.proofs.Labels.{good_passes}
+use Rattle.recovery.proofs.Recoveries.{passes_all}
 use Rattle.recovery.proofs.opening.open.Goals as goal
 
 pub returns-in-Ok-clause-ok : goal.returns-in-Ok-clause-ok
@@ -30,5 +30,5 @@ returns-in-Ok-clause-begins g c = λ keeps n size.
 pub returns-in-Err-clause-good : goal.returns-in-Err-clause-good
 returns-in-Err-clause-good g c = λ keeps n size good.
     ⊎_elim (λ device. device)
-    (λ refused. absurd (cc (refused, good_passes n _ _ good.many good.few size good.label)))
+    (λ refused. absurd (cc (refused, passes_all n _ _ size good)))
     (c.in-Err.ensures.exact keeps)

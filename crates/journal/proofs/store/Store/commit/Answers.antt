@@ -1,11 +1,11 @@
-use Rattle.std.proofs.Common.{sym, subst, cond, Some, None, ◌∙◌, ap, IsTrue}
+use Rattle.std.proofs.Common.{arith, sym, subst, cond, Some, None, ◌∙◌, ap, IsTrue}
 use Rattle.std.proofs.lemmas.List.{length-map}
 use Rattle.journal.specs.Images.{slot_of, home_of, Means}
-use Rattle.journal.specs.Layout.{listed}
 use Rattle.journal.specs.Maps.{block_in, latest}
 use Rattle.journal.proofs.Copies.{none_listed}
 use Rattle.journal.proofs.Blocks.{length-overridden, at_none}
 use Rattle.journal.proofs.Meaning.{means_sized, sound_means}
+use Rattle.journal.proofs.Signing.{listed_same}
 use Rattle.journal.proofs.Stores.{latest_in, none_pending, nothing_new, means_either, homes_either}
 use Rattle.journal.proofs.store.Store.commit.Goals as goal
 
@@ -62,11 +62,11 @@ returns-in-Ok-clause-ok g c = λ s stands.
 pub returns-in-Ok-clause-recorded : goal.returns-in-Ok-clause-recorded
 returns-in-Ok-clause-recorded g c = λ keeps some.
     let old = c.args.self.now in
-    let saved = c.in-Ok.ensures.ok keeps in
-    let is = saved.listed in (
+    let saved = c.in-Ok.ensures.ok keeps in (
       record {
-        each = λ b below. ap (λ bytes. listed bytes b) is;
-        rest = λ b past. ap (λ bytes. listed bytes b) is ∙ old.clear b past;
+        each = λ b below. listed_same _ old.pending saved.bits b (omega (arith, below, old.few));
+        rest = λ b past low. listed_same _ old.pending saved.bits b low ∙ old.clear b past;
+        digest = saved.digest;
       },
       saved.closed,
     )

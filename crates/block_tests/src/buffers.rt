@@ -1,0 +1,96 @@
+// Four buffers in the order of their use.
+use block_buffers::{Buffers, NoMemory, Slot};
+use std::process::Abort;
+use std::test::Fail;
+
+// Gives the slot of a block that is used, as the word `BLOCK` does. A refusal of memory is met once: it changes
+// nothing, and the second try goes well.
+fn used(rt: &impl Abort, buffers: &mut Buffers, block: u16) -> Result<Slot, NoMemory> {
+    if let Some(slot) = buffers.touch(block) {
+        return Ok(slot);
+    }
+    let oldest = buffers.oldest();
+    if let Ok(slot) = buffers.place(block) {
+        return Ok(slot);
+    }
+    assert!(rt; buffers.peek(block).is_none());
+    assert!(rt; buffers.oldest() == oldest);
+    buffers.place(block)
+}
+
+// What a screen shows is 61,440 + 1,024 for each slot, so 62,464 is slot 1.
+#[test]
+fn the_least_recently_used_buffer_is_reused(rt: HostRuntime) -> Result<(), Fail> {
+    let rows: [(&[u16], &[Slot]); 4] = [
+        (&[0, 1, 2, 3, 0, 4], &[0, 1, 2, 3, 0, 1]),
+        (&[1, 2, 3, 4, 5, 1], &[0, 1, 2, 3, 0, 1]),
+        (&[7, 7, 8, 7, 9], &[0, 0, 1, 0, 2]),
+        (&[3, 2, 1, 0, 3, 2, 1, 9, 8], &[0, 1, 2, 3, 0, 1, 2, 3, 0]),
+    ];
+    for (blocks, slots) in rows {
+        let mut buffers = Buffers::new(rt.alloc())?;
+        for (block, slot) in blocks.iter().zip(slots) {
+            assert_eq!(rt; used(&rt, &mut buffers, *block)?, *slot, "block {block}");
+            assert_eq!(rt; buffers.peek(*block), Some(*slot), "block {block}");
+        }
+    }
+    Ok(())
+}
+
+#[test]
+fn the_fourth_buffer_is_the_last_free_one(rt: HostRuntime) -> Result<(), Fail> {
+    let mut buffers = Buffers::new(rt.alloc())?;
+    for block in 10..14 {
+        assert!(rt; buffers.oldest().is_none(), "before block {block}");
+        used(&rt, &mut buffers, block)?;
+    }
+    assert!(rt; buffers.mark());
+    used(&rt, &mut buffers, 10)?;
+    let oldest = buffers.oldest().ok_or("four are assigned")?;
+    assert_eq!(rt; (oldest.block, oldest.slot, oldest.updated), (11, 1, false));
+    used(&rt, &mut buffers, 15)?;
+    assert_eq!(rt; buffers.peek(11), None);
+    Ok(())
+}
+
+// The buffers of blocks 1, 2 and 3 are marked, and then block 1 is used again.
+#[test]
+fn a_save_begins_with_the_most_recently_used(rt: HostRuntime) -> Result<(), Fail> {
+    let mut buffers = Buffers::new(rt.alloc())?;
+    assert!(rt; !buffers.mark());
+    for block in [1, 2, 3, 4] {
+        used(&rt, &mut buffers, block)?;
+        assert!(rt; block == 4 || buffers.mark());
+    }
+    used(&rt, &mut buffers, 1)?;
+    let updated = buffers.updated();
+    let want = [(1, 0), (3, 2), (2, 1)];
+    assert_eq!(rt; updated.len(), want.len());
+    for (row, (block, slot)) in updated.iter().zip(want) {
+        assert_eq!(rt; (row.block, row.slot, row.updated), (block, slot, true));
+    }
+    buffers.unmark_all();
+    assert_eq!(rt; buffers.updated().len(), 0);
+    assert_eq!(rt; buffers.peek(3), Some(2));
+    Ok(())
+}
+
+// A buffer that another block takes is not updated, and after all are given back none is current.
+#[test]
+fn a_mark_ends_with_its_block(rt: HostRuntime) -> Result<(), Fail> {
+    let mut buffers = Buffers::new(rt.alloc())?;
+    used(&rt, &mut buffers, 1)?;
+    assert!(rt; buffers.mark());
+    for block in [2, 3, 4, 5] {
+        used(&rt, &mut buffers, block)?;
+    }
+    assert_eq!(rt; buffers.peek(5), Some(0));
+    assert_eq!(rt; buffers.updated().len(), 0);
+    assert!(rt; buffers.mark());
+    buffers.unassign_all();
+    assert!(rt; !buffers.mark());
+    assert_eq!(rt; buffers.updated().len(), 0);
+    assert_eq!(rt; used(&rt, &mut buffers, 1)?, 0);
+    assert_eq!(rt; buffers.updated().len(), 0);
+    Ok(())
+}

@@ -1,0 +1,74 @@
+use crate::support::{put, sector};
+use sector_disk::{Counts, Fused, MemoryDisk, SectorDevice};
+use std::test::Fail;
+
+// Six calls, and whether each of them failed.
+fn outcomes<D: SectorDevice>(disk: &mut D) -> [bool; 6] {
+    [
+        put(disk, 0, &[1; 512]).is_err(),
+        sector(disk, 0).is_err(),
+        disk.sync().is_err(),
+        put(disk, 1, &[2; 512]).is_err(),
+        sector(disk, 1).is_err(),
+        disk.sync().is_err(),
+    ]
+}
+
+// How many of these calls reached the device.
+fn passed(failed: [bool; 6], calls: [usize; 2]) -> u64 {
+    calls
+        .iter()
+        .filter(|call| failed.get(**call) == Some(&false))
+        .count() as u64
+}
+
+fn passed_counts(failed: [bool; 6]) -> Counts {
+    Counts {
+        reads: passed(failed, [1, 4]),
+        writes: passed(failed, [0, 3]),
+        syncs: passed(failed, [2, 5]),
+    }
+}
+
+#[test]
+fn one_call_fails(rt: HostRuntime) -> Result<(), Fail> {
+    for k in 1..8 {
+        let mut fused = Fused::once(MemoryDisk::new(rt.alloc(), 2)?, k);
+        let failed = outcomes(&mut fused);
+        let want = [1, 2, 3, 4, 5, 6].map(|call: u64| call == k);
+        assert_eq!(rt; failed, want, "the call {k}");
+        let mut disk = fused.into_device();
+        assert_eq!(rt; disk.counts(), passed_counts(want));
+        assert_eq!(rt; sector(&mut disk, 0)?, [if k == 1 { 0 } else { 1 }; 512]);
+        assert_eq!(rt; sector(&mut disk, 1)?, [if k == 4 { 0 } else { 2 }; 512]);
+    }
+    Ok(())
+}
+
+#[test]
+fn all_calls_fail_from_one_on(rt: HostRuntime) -> Result<(), Fail> {
+    for k in 1..8 {
+        let mut fused = Fused::from(MemoryDisk::new(rt.alloc(), 2)?, k);
+        assert_eq!(rt; fused.sectors(), 2);
+        let failed = outcomes(&mut fused);
+        let want = [1, 2, 3, 4, 5, 6].map(|call: u64| call >= k);
+        assert_eq!(rt; failed, want, "from the call {k}");
+        let mut disk = fused.into_device();
+        assert_eq!(rt; disk.counts(), passed_counts(want));
+        assert_eq!(rt; sector(&mut disk, 0)?, [if k == 1 { 0 } else { 1 }; 512]);
+        assert_eq!(rt; sector(&mut disk, 1)?, [if k <= 4 { 0 } else { 2 }; 512]);
+    }
+    Ok(())
+}
+
+#[test]
+fn the_contract_says_which_call_fails(rt: HostRuntime) -> Result<(), Fail> {
+    let mut fused = Fused::once(MemoryDisk::new(rt.alloc(), 1)?, 2);
+    let first = fused.sync();
+    let second = fused.sync();
+    let third = fused.sync();
+    prove!(first.is_ok());
+    prove!(second.is_err());
+    prove!(third.is_ok());
+    Ok(())
+}

@@ -1,0 +1,325 @@
+// The bytes of an image, and which images are refused.
+use crate::support::{
+    BLOCKS, SECTORS, block, failing, formatted, opened, put, record, sector, spill,
+};
+use journal::layout;
+use recovery::{OpenFault, format, open};
+use sector_disk::{MemoryDisk, SectorDevice};
+use std::test::Fail;
+
+#[test]
+fn a_formatted_image_is_blank(rt: HostRuntime) -> Result<(), Fail> {
+    let mut disk = formatted(&rt)?;
+    let label = sector(&mut disk, 0)?;
+    assert_eq!(rt; &label[..12], b"F83BLOCK\x02\x00\x20\x00".as_slice());
+    assert_eq!(rt; &label[12..], [0; 500].as_slice());
+    assert_eq!(rt; sector(&mut disk, 1)?, [0; 512]);
+    assert_eq!(rt; sector(&mut disk, 2)?, [0; 512]);
+    for k in 67..131 {
+        assert_eq!(rt; sector(&mut disk, k)?, [b' '; 512]);
+    }
+    Ok(())
+}
+
+#[test]
+fn a_format_leaves_the_slots(rt: HostRuntime) -> Result<(), Fail> {
+    let mut disk = MemoryDisk::new(rt.alloc(), SECTORS)?;
+    for k in 0..SECTORS {
+        put(&mut disk, k, &[7; 512])?;
+    }
+    let Ok(store) = format(disk, BLOCKS) else {
+        return Err("not formatted")?;
+    };
+    let mut disk = store.into_device();
+    for k in 3..67 {
+        assert_eq!(rt; sector(&mut disk, k)?, [7; 512]);
+    }
+    for k in 67..131 {
+        assert_eq!(rt; sector(&mut disk, k)?, [b' '; 512]);
+    }
+    Ok(())
+}
+
+#[test]
+fn a_spill_writes_its_slot_alone(rt: HostRuntime) -> Result<(), Fail> {
+    let mut store = opened(formatted(&rt)?)?;
+    spill(&mut store, 1, 65)?;
+    assert_eq!(rt; block(&mut store, 1)?, [65; 1024]);
+    let mut disk = store.into_device();
+    assert_eq!(rt; sector(&mut disk, 0)?, layout::label(BLOCKS));
+    for k in 1..67 {
+        let byte = if k == 5 || k == 6 { 65 } else { 0 };
+        assert_eq!(rt; sector(&mut disk, k)?, [byte; 512]);
+    }
+    for k in 67..131 {
+        assert_eq!(rt; sector(&mut disk, k)?, [b' '; 512]);
+    }
+    Ok(())
+}
+
+#[test]
+fn a_commit_writes_record_and_homes(rt: HostRuntime) -> Result<(), Fail> {
+    let mut store = opened(formatted(&rt)?)?;
+    spill(&mut store, 1, 65)?;
+    spill(&mut store, 2, 66)?;
+    store.commit()?;
+    let mut disk = store.into_device();
+    assert_eq!(rt; sector(&mut disk, 2)?, record(&[6], &[65, 66]));
+    assert_eq!(rt; sector(&mut disk, 1)?, [0; 512]);
+    for k in 67..131 {
+        let byte = match k {
+            69 | 70 => 65,
+            71 | 72 => 66,
+            _ => b' ',
+        };
+        assert_eq!(rt; sector(&mut disk, k)?, [byte; 512]);
+    }
+    Ok(())
+}
+
+// SHA-256 of a byte 2, 479 zeros, and 1,024 bytes 65.
+const DIGEST: [u8; 32] = [
+    0xb8, 0xa4, 0xe9, 0xa9, 0x79, 0xa6, 0x82, 0xc5, 0x92, 0xbd, 0x59, 0x46, 0x03, 0xdf, 0xb1, 0xcb,
+    0xcf, 0x50, 0xb2, 0xc5, 0x8f, 0x19, 0xb3, 0xce, 0x77, 0x7d, 0x09, 0x40, 0x60, 0xd2, 0x16, 0xbc,
+];
+
+// An image whose save of block 1 has been done.
+fn saved(rt: &HostRuntime) -> Result<MemoryDisk, Fail> {
+    let mut store = opened(formatted(rt)?)?;
+    spill(&mut store, 1, 65)?;
+    store.commit()?;
+    Ok(store.into_device())
+}
+
+#[test]
+fn a_record_ends_with_its_digest(rt: HostRuntime) -> Result<(), Fail> {
+    let mut disk = saved(&rt)?;
+    let listed = sector(&mut disk, 2)?;
+    assert_eq!(rt; listed[0], 2);
+    assert_eq!(rt; &listed[1..480], [0; 479].as_slice());
+    assert_eq!(rt; &listed[480..], DIGEST.as_slice());
+    Ok(())
+}
+
+// Two spills make four calls; then come the four reads of the digest, the record, a sync, the gate and a sync.
+#[test]
+fn a_gate_is_opened_with_zeros_after_its_name(rt: HostRuntime) -> Result<(), Fail> {
+    let mut store = failing(formatted(&rt)?, 13, true)?;
+    spill(&mut store, 1, 65)?;
+    spill(&mut store, 2, 66)?;
+    assert!(rt; store.commit().is_err());
+    let mut disk = store.into_device().into_device().stop(&[]);
+    let gate = sector(&mut disk, 1)?;
+    assert_eq!(rt; &gate[..8], b"COMMIT83".as_slice());
+    assert_eq!(rt; &gate[8..], [0; 504].as_slice());
+    assert_eq!(rt; sector(&mut disk, 2)?[0], 6);
+    assert_eq!(rt; sector(&mut disk, 69)?, [b' '; 512]);
+    Ok(())
+}
+
+#[test]
+fn other_images_are_refused(rt: HostRuntime) -> Result<(), Fail> {
+    let alloc = rt.alloc();
+    let short = format(MemoryDisk::new(alloc, 130)?, 32);
+    assert_eq!(rt; short.map_err(|e| e.0).err(), Some(OpenFault::BadSize));
+    let few = format(MemoryDisk::new(alloc, 127)?, 31);
+    assert_eq!(rt; few.map_err(|e| e.0).err(), Some(OpenFault::BadSize));
+    for (sectors, fault) in [
+        (0, OpenFault::BadSize),
+        (127, OpenFault::BadSize),
+        (130, OpenFault::BadSize),
+        (131, OpenFault::NoLabel),
+        (15_363, OpenFault::NoLabel),
+        (15_367, OpenFault::BadSize),
+    ] {
+        assert_eq!(rt; opened(MemoryDisk::new(alloc, sectors)?).err(), Some(fault));
+    }
+    let good = layout::label(32);
+    for (at, byte, fault) in [
+        (0, b'f', OpenFault::NoLabel),
+        (8, 1, OpenFault::OtherVersion),
+        (9, 1, OpenFault::OtherVersion),
+        (10, 33, OpenFault::WrongCount),
+        (11, 1, OpenFault::WrongCount),
+        (12, 1, OpenFault::NoLabel),
+        (511, 1, OpenFault::NoLabel),
+    ] {
+        let mut label = good;
+        if at < 512 {
+            label[at] = byte;
+        }
+        let mut disk = MemoryDisk::new(alloc, SECTORS)?;
+        put(&mut disk, 0, &label)?;
+        assert_eq!(rt; opened(disk).err(), Some(fault));
+    }
+    Ok(())
+}
+
+#[test]
+fn the_largest_image_is_formatted_and_opened(rt: HostRuntime) -> Result<(), Fail> {
+    let Ok(store) = format(MemoryDisk::new(rt.alloc(), 15_363)?, 3_840) else {
+        return Err("not formatted")?;
+    };
+    let mut store = opened(store.into_device())?;
+    assert_eq!(rt; store.blocks(), 3_840);
+    spill(&mut store, 3_839, 65)?;
+    store.commit()?;
+    assert_eq!(rt; block(&mut store, 3_839)?, [65; 1024]);
+    let mut disk = store.into_device();
+    assert_eq!(rt; sector(&mut disk, 2)?[479], 128);
+    assert_eq!(rt; sector(&mut disk, 15_362)?, [65; 512]);
+    Ok(())
+}
+
+fn open_gate() -> [u8; 512] {
+    let mut gate = [0; 512];
+    gate[..8].copy_from_slice(b"COMMIT83");
+    gate
+}
+
+#[test]
+fn an_open_gate_is_obeyed(rt: HostRuntime) -> Result<(), Fail> {
+    let mut disk = formatted(&rt)?;
+    put(&mut disk, 1, &open_gate())?;
+    put(&mut disk, 2, &record(&[2], &[65]))?;
+    put(&mut disk, 5, &[65; 512])?;
+    put(&mut disk, 6, &[65; 512])?;
+    let mut store = opened(disk)?;
+    assert_eq!(rt; block(&mut store, 1)?, [65; 1024]);
+    let mut disk = store.into_device();
+    assert_eq!(rt; sector(&mut disk, 69)?, [65; 512]);
+    assert_eq!(rt; sector(&mut disk, 70)?, [65; 512]);
+    assert_eq!(rt; sector(&mut disk, 1)?, [0; 512]);
+    Ok(())
+}
+
+// Whether these two disks hold the same.
+fn is_same(one: &mut MemoryDisk, two: &mut MemoryDisk) -> Result<bool, Fail> {
+    let mut same = one.sectors() == two.sectors();
+    for k in 0..one.sectors().min(two.sectors()) {
+        same = same && sector(one, k)? == sector(two, k)?;
+    }
+    Ok(same)
+}
+
+// The image is refused as damaged, with no write and with all sectors as they were.
+fn is_damaged(rt: &HostRuntime, disk: MemoryDisk) -> Result<bool, Fail> {
+    let mut before = disk.try_clone(rt.alloc())?;
+    let writes = disk.counts().writes;
+    match open(disk) {
+        Ok(_) => Ok(false),
+        Err((fault, mut after)) => Ok(
+            fault == OpenFault::Damaged
+                && after.counts().writes == writes
+                && is_same(&mut before, &mut after)?,
+        ),
+    }
+}
+
+#[test]
+fn a_record_of_other_slots_is_refused(rt: HostRuntime) -> Result<(), Fail> {
+    for k in [5, 6] {
+        let mut disk = saved(&rt)?;
+        put(&mut disk, 1, &open_gate())?;
+        let mut half = sector(&mut disk, k)?;
+        half[0] = 66;
+        put(&mut disk, k, &half)?;
+        assert!(rt; is_damaged(&rt, disk)?);
+    }
+    Ok(())
+}
+
+#[test]
+fn a_record_with_another_bit_is_refused(rt: HostRuntime) -> Result<(), Fail> {
+    // Another block, a bit past the last block, and a byte of the digest.
+    for (at, byte) in [(0, 4), (0, 0), (479, 128), (480, 0), (511, 0)] {
+        let mut disk = saved(&rt)?;
+        put(&mut disk, 1, &open_gate())?;
+        let mut listed = sector(&mut disk, 2)?;
+        if at < 512 {
+            listed[at] = byte;
+        }
+        put(&mut disk, 2, &listed)?;
+        assert!(rt; is_damaged(&rt, disk)?);
+    }
+    Ok(())
+}
+
+// Under a closed gate neither slots nor record count.
+#[test]
+fn under_a_closed_gate_other_slots_are_harmless(rt: HostRuntime) -> Result<(), Fail> {
+    let mut disk = saved(&rt)?;
+    put(&mut disk, 5, &[66; 512])?;
+    put(&mut disk, 2, &[255; 512])?;
+    let mut store = opened(disk)?;
+    assert_eq!(rt; block(&mut store, 1)?, [65; 1024]);
+    Ok(())
+}
+
+#[test]
+fn a_record_of_all_bits_and_no_digest_is_refused(rt: HostRuntime) -> Result<(), Fail> {
+    let mut disk = formatted(&rt)?;
+    put(&mut disk, 1, &open_gate())?;
+    put(&mut disk, 2, &[255; 512])?;
+    for k in 3..67 {
+        put(&mut disk, k, &[65; 512])?;
+    }
+    assert!(rt; is_damaged(&rt, disk)?);
+    Ok(())
+}
+
+#[test]
+fn a_record_of_all_bits_lists_every_block_and_no_more(rt: HostRuntime) -> Result<(), Fail> {
+    let mut disk = formatted(&rt)?;
+    put(&mut disk, 1, &open_gate())?;
+    put(&mut disk, 2, &record(&[255; 480], &[65; 32]))?;
+    for k in 3..67 {
+        put(&mut disk, k, &[65; 512])?;
+    }
+    let before = disk.counts();
+    let mut store = opened(disk)?;
+    for b in 0..BLOCKS {
+        assert_eq!(rt; block(&mut store, b)?, [65; 1024]);
+    }
+    let after = store.into_device().counts();
+    assert!(rt; after.writes.saturating_sub(before.writes) <= 65);
+    assert!(rt; after.syncs.saturating_sub(before.syncs) <= 3);
+    Ok(())
+}
+
+// A gate that isn't open is closed, whatever it holds, and isn't written.
+#[test]
+fn a_closed_gate_is_left_as_it_is(rt: HostRuntime) -> Result<(), Fail> {
+    let mut disk = formatted(&rt)?;
+    let mut gate = open_gate();
+    gate[7] = b'4';
+    put(&mut disk, 1, &gate)?;
+    put(&mut disk, 2, &[255; 512])?;
+    let before = disk.counts();
+    let mut store = opened(disk)?;
+    assert_eq!(rt; block(&mut store, 1)?, [b' '; 1024]);
+    let mut disk = store.into_device();
+    assert_eq!(rt; disk.counts().writes, before.writes);
+    assert_eq!(rt; sector(&mut disk, 1)?, gate);
+    Ok(())
+}
+
+// 32 blocks: a record, an open gate, 64 sectors of homes and a closed gate.
+#[test]
+fn a_commit_counts_its_calls(rt: HostRuntime) -> Result<(), Fail> {
+    let mut store = opened(formatted(&rt)?)?;
+    for b in 0..BLOCKS {
+        spill(&mut store, b, 65)?;
+    }
+    let before = store.into_device().counts();
+    let mut store = opened(formatted(&rt)?)?;
+    for b in 0..BLOCKS {
+        spill(&mut store, b, 65)?;
+    }
+    store.commit()?;
+    store.commit()?;
+    let after = store.into_device().counts();
+    assert_eq!(rt; after.writes.saturating_sub(before.writes), 67);
+    assert_eq!(rt; after.syncs.saturating_sub(before.syncs), 4);
+    Ok(())
+}

@@ -1,0 +1,92 @@
+-- What a stop of an upgrade leaves.
+use Rattle.std.proofs.Common.{◌≡◌, ◌⊎◌, inl, inr, ⊎_elim, ℕ, ◌≤◌, List, length, refl, sym, ◌∙◌, ap, subst, arith}
+use Rattle.std.proofs.lemmas.Bool.{cases_lt}
+use Rattle.sector_disk.specs.Disk.{Disk, Image, MayLeave}
+use Rattle.journal.specs.Chain.{MayRedo}
+use Rattle.journal.specs.Images.{slot_of, home_of, block_of, meaning, Means}
+use Rattle.journal.specs.Layout.{fewest_blocks, most_blocks, label_1_of, gate_open, listed}
+use Rattle.journal.specs.Layout1.{HasGoodLabel1, Means1}
+use Rattle.journal.specs.Steps.{HasRecovered}
+use Rattle.journal.proofs.Blocks.{same_below, at_below, length-below}
+use Rattle.journal.proofs.Meaning.{redo_blocks, redo_label, pick_shut}
+use Rattle.recovery.specs.Formatted.{MakingLeaves}
+use Rattle.recovery.specs.Steps.{TakenAway, Sealed, IsPrepared, IsMade, CarriedLeaves}
+use Rattle.recovery.specs.Upgraded.{MeansAsBefore, OldLeaves}
+use Rattle.recovery.proofs.Formats.{same_or_not, unlabelled, making, AreHomes, filled_means, filled_same, made_means}
+
+good_or_not_1 : (n : ℕ) (c : Image) → HasGoodLabel1 n c ⊎ ¬ HasGoodLabel1 n c
+good_or_not_1 n c = ⊎_elim
+    (λ same. ⊎_elim
+    (λ low. inr (λ good. absurd (omega (arith, low, good.many))))
+    (λ many. ⊎_elim (λ high. inr (λ good. absurd (omega (arith, high, good.few)))) (λ few. inl (record { many = many; few = few; label = same })) (cases_lt 2048 n))
+    (cases_lt n 32))
+    (λ bad. inr (λ good. bad good.label))
+    (same_or_not (c 0) (label_1_of n))
+
+-- An image with a good label means its blocks, and so does each other one of them.
+means_like : (n : ℕ) (i j : Image) → HasGoodLabel1 n j → meaning n j ≡ meaning n i → Means1 (meaning n i) j
+means_like n i j good same = record {
+  label = subst (λ m. HasGoodLabel1 m j) (sym long) good;
+  meant = ap (λ m. meaning m j) long ∙ same;
+}
+  where
+    long : length (meaning n i) ≡ n
+    long = length-below (block_of n i) n
+
+as_before : (n : ℕ) (i j : Image) → HasGoodLabel1 n i → j 0 ≡ i 0 → meaning n j ≡ meaning n i → MeansAsBefore n i j
+as_before n i j good label same =
+    inl (meaning n i, length-below (block_of n i) n, means_like n i i good refl, means_like n i j (record { many = good.many; few = good.few; label = label ∙ good.label }) same)
+
+module _ (n : ℕ) (disk : Disk) where
+  -- what a stop may leave before anything is written
+  pub old_now : (x : Image) → MayLeave disk x → OldLeaves n disk x
+  old_now x may = record {
+    from = x;
+    may = may;
+    means = ⊎_elim (λ good. as_before n x x good refl refl) (λ bad. inr (bad, bad)) (good_or_not_1 n x);
+  }
+
+  module _ (present : MayLeave disk disk.content) (good : HasGoodLabel1 n disk.content) where
+    -- within the recovery
+    pub old_later : (x : Image) → MayRedo n disk.content x → OldLeaves n disk x
+    old_later x redo = record {
+      from = disk.content;
+      may = present;
+      means = as_before n disk.content x good (redo_label n disk.content x redo)
+          (same_below (block_of n x) (block_of n disk.content) n (redo_blocks n (block_of n disk.content) disk.content x redo (λ b below. refl)));
+    }
+
+    -- after it
+    pub old_recovered : (now : Disk) → HasRecovered n disk now → MayLeave now now.content → (x : Image) → MayLeave now x → OldLeaves n disk x
+    old_recovered now done here x may = record {
+      from = disk.content;
+      may = present;
+      means = as_before n disk.content x good (same 0 ∙ done.label)
+          (ap (λ (i : Image). meaning n i) (λ t k. same k t) ∙ same_below (block_of n now.content) (block_of n disk.content) n done.blocks);
+    }
+      where
+        same : (k : ℕ) → x k ≡ now.content k
+        same k = may k (done.synced k) ∙ sym (here k (done.synced k))
+
+-- The homes of a recovered image are the blocks that it meant.
+pub recovered_homes : (n : ℕ) (old new : Disk) → HasRecovered n old new → AreHomes n new.content (meaning n old.content)
+recovered_homes n old new done = (
+  length-below (block_of n old.content) n,
+  λ b below.
+      at_below (block_of n old.content) n b below ∙ sym (done.blocks b below)
+      ∙ pick_shut (gate_open (new.content 1)) (listed (new.content 2) b) (slot_of new.content b) (home_of n new.content b) done.gate,
+)
+
+pub sealed_leaves : (n : ℕ) → fewest_blocks ≤ n → n ≤ most_blocks → (bytes : Image) (disk : Disk) → IsPrepared n bytes disk → (x : Image) → Sealed n disk.content x → CarriedLeaves n bytes x
+sealed_leaves n many few bytes disk prepared x =
+    ⊎_elim (λ bad. inl bad) (λ good. inr (good.0, filled_same n many few bytes disk.content prepared.filled x good.1))
+
+module _ (n : ℕ) (many : fewest_blocks ≤ n) (few : n ≤ most_blocks) (bytes : Image) (blocks : List (List ℕ)) (are : AreHomes n bytes blocks) where
+  pub carried_means : (disk : Disk) (x : Image) → TakenAway n disk x ⊎ CarriedLeaves n bytes x → MakingLeaves n blocks disk x
+  carried_means disk x = ⊎_elim (making n disk blocks x) (⊎_elim
+      (λ bad. inl (unlabelled n x bad))
+      (λ good. inr (inl (filled_means n many few bytes x good.1 blocks are x good.0 (λ k other. refl)))))
+
+  pub after_means : (disk : Disk) → MayLeave disk disk.content → IsMade n bytes disk → (x : Image) → MayLeave disk x → Means blocks x
+  after_means disk present made x may =
+      made_means n many few bytes disk made blocks are x (λ k. may k (made.synced k) ∙ sym (present k (made.synced k)))

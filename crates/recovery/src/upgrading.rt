@@ -1,0 +1,332 @@
+// An image of layout 1 is recovered, and its blocks are put into an image of layout 2 on another device.
+ghost use Rattle.std.specs.Prelude.{◌≡◌, ◌≢◌, ◌⊎◌, ◌<◌, ◌≤◌, ◌+◌, ◌-◌, ◌*◌, ℕ, true, false, Some, None, IsTrue, OnOk, IfOk, IfErr, MatchResult, replicate};
+ghost use Rattle.sector_disk.specs.Counting.{count_up};
+ghost use Rattle.sector_disk.specs.Disk.{Image, MayLeave, written};
+ghost use Rattle.journal.specs.Calls.{StopsLeave, BeginsAtMost, Passes, Proceeds};
+ghost use Rattle.journal.specs.Chain.{MayRedo};
+ghost use Rattle.journal.specs.Images.{meaning, Means};
+ghost use Rattle.journal.specs.Layout.{fewest_blocks, most_blocks, most_blocks_1, sectors_for, label_of, label_1_of, gate_open, count_listed};
+ghost use Rattle.journal.specs.Steps.{WritesOnly, IsAsSynced, HasRecovered};
+ghost use Rattle.recovery.specs.Formatted.{MakingLeaves, IsFilled};
+ghost use Rattle.recovery.specs.Label.{label_refusal_by};
+ghost use Rattle.recovery.specs.Opened.{writes_for, syncs_for};
+ghost use Rattle.recovery.specs.Steps.{IsUnlabelled, IsPrepared, IsMade, TakenAway, CarriedLeaves, OnlyRead, WentWell, TellsFault};
+ghost use Rattle.recovery.specs.Upgraded.{size_refusal, upgrade_refusal, OldLeaves};
+ghost use Rattle.recovery.specs.declared.fault.OpenFault.{OpenFault};
+ghost use Rattle.recovery.specs.declared.fault.OpenFault.TheVariants.{BadSize, Device};
+ghost use Rattle.recovery.specs.declared.fault.UpgradeFault.{UpgradeFault};
+ghost use Rattle.recovery.specs.declared.fault.UpgradeFault.TheVariants.{Old, New};
+
+use crate::formatting::{fill_head, seal, unlabel};
+use crate::label::blocks_of_size;
+use crate::settling::start;
+use crate::{OpenFault, UpgradeFault};
+use journal::apply;
+use journal::layout::{GATE, MOST_BLOCKS_1, RECORD, VERSION_1, gate_is_open, home_sector};
+use sector_disk::{DeviceFault, SectorDevice};
+
+// How many blocks both images have.
+fn blocks_of_both(old: u32, new: u32) -> Result<u16, UpgradeFault>
+    ensures exact { MatchResult result (λ _. size_refusal old new ≡ None) (λ e. size_refusal old new ≡ Some e) }
+    ensures size { IfOk result (λ n. (old ≡ sectors_for n) × (new ≡ sectors_for n)) }
+    ensures many { IfOk result (λ n. fewest_blocks ≤ n) }
+    ensures few { IfOk result (λ n. n ≤ most_blocks_1) }
+    ensures told { IfErr result (λ e. (e ≡ Old BadSize) ⊎ (e ≡ New BadSize)) }
+{
+    let Some(blocks) = blocks_of_size(old, MOST_BLOCKS_1) else {
+        return Err(UpgradeFault::Old(OpenFault::BadSize));
+    };
+    if new != old {
+        return Err(UpgradeFault::New(OpenFault::BadSize));
+    }
+    Ok(blocks)
+}
+
+// Does again what an open gate asks for. By layout 1 a record has nothing to be checked by.
+fn redo<D: SectorDevice>(device: &mut D, blocks: u16) -> Result<(), DeviceFault>
+    requires many { fewest_blocks ≤ blocks }
+    requires few { blocks ≤ most_blocks }
+    requires size { D.sector_count device.old ≡ sectors_for blocks }
+    requires gate { IsTrue (D.keeps_model device.old) → gate_open ((D.disk device.old).content 1) ≡ true }
+    requires synced { IsTrue (D.keeps_model device.old) → (k : ℕ) → (D.disk device.old).unsynced k ≡ false }
+    ensures ok { IsTrue (D.keeps_model device.old)
+        → OnOk result (HasRecovered blocks (D.disk device.old) (D.disk device.new)) }
+    ensures stops { IsTrue (D.keeps_model device.old)
+        → StopsLeave D.SectorDevice device.old device.new (MayRedo blocks (D.disk device.old).content) }
+    ensures passes { Passes D.SectorDevice device.old device.new result }
+    ensures begins { IsTrue (D.keeps_model device.old)
+        → BeginsAtMost D.SectorDevice device.old device.new (2 * count_listed ((D.disk device.old).content 2) blocks + 1) 2 }
+{
+    let mut record = [0; 512];
+    device.read(RECORD, &mut record)?;
+    apply(device, blocks, &record)
+}
+
+// Reads the gate, and does what it asks for.
+fn finish<D: SectorDevice>(device: &mut D, blocks: u16) -> Result<(), DeviceFault>
+    requires many { fewest_blocks ≤ blocks }
+    requires few { blocks ≤ most_blocks }
+    requires size { D.sector_count device.old ≡ sectors_for blocks }
+    requires synced { IsTrue (D.keeps_model device.old) → (k : ℕ) → (D.disk device.old).unsynced k ≡ false }
+    ensures ok { IsTrue (D.keeps_model device.old)
+        → OnOk result (HasRecovered blocks (D.disk device.old) (D.disk device.new)) }
+    ensures stops { IsTrue (D.keeps_model device.old)
+        → StopsLeave D.SectorDevice device.old device.new (MayRedo blocks (D.disk device.old).content) }
+    ensures passes { Passes D.SectorDevice device.old device.new result }
+    ensures begins { IsTrue (D.keeps_model device.old)
+        → BeginsAtMost D.SectorDevice device.old device.new (writes_for blocks (D.disk device.old).content) (syncs_for (D.disk device.old).content - 1) }
+{
+    let mut gate = [0; 512];
+    device.read(GATE, &mut gate)?;
+    if gate_is_open(&gate) {
+        redo(device, blocks)
+    } else {
+        Ok(())
+    }
+}
+
+// Recovers an image of layout 1.
+fn recover<D: SectorDevice>(device: &mut D, blocks: u16) -> Result<(), OpenFault>
+    requires many { fewest_blocks ≤ blocks }
+    requires few { blocks ≤ most_blocks_1 }
+    requires size { D.sector_count device.old ≡ sectors_for blocks }
+    ensures ok { IsTrue (D.keeps_model device.old)
+        → OnOk result (HasRecovered blocks (D.disk device.old) (D.disk device.new)) }
+    ensures label { IsTrue (D.keeps_model device.old)
+        → OnOk result ((D.disk device.old).content 0 ≡ label_1_of blocks) }
+    ensures exact { IsTrue (D.keeps_model device.old) → MatchResult result
+        (λ _. label_refusal_by 1 blocks ((D.disk device.old).content 0) ≡ None) (λ e. (e ≡ Device) ⊎ (label_refusal_by 1 blocks ((D.disk device.old).content 0) ≡ Some e)) }
+    ensures sized { IfErr result (λ e. e ≢ BadSize) }
+    ensures device { IfErr result (λ e. e ≡ Device → D.failures device.new ≡ count_up (D.failures device.old)) }
+    ensures refused { IfErr result (λ e. e ≢ Device → D.failures device.new ≡ D.failures device.old) }
+    ensures well { OnOk result (D.failures device.new ≡ D.failures device.old) }
+    ensures unwritten { IfErr result (λ e. e ≢ Device → BeginsAtMost D.SectorDevice device.old device.new 0 1) }
+    ensures stops { IsTrue (D.keeps_model device.old)
+        → StopsLeave D.SectorDevice device.old device.new (OldLeaves blocks (D.disk device.old)) }
+    ensures passes { Proceeds D.SectorDevice device.old device.new }
+    ensures begins { IsTrue (D.keeps_model device.old)
+        → BeginsAtMost D.SectorDevice device.old device.new (writes_for blocks (D.disk device.old).content) (syncs_for (D.disk device.old).content) }
+{
+    start(device, VERSION_1, blocks)?;
+    match finish(device, blocks) {
+        Ok(()) => Ok(()),
+        Err(_) => Err(OpenFault::Device),
+    }
+}
+
+// Copies a sector from one device to the same place of another.
+fn carry_sector<A: SectorDevice, B: SectorDevice>(
+    source: &mut A,
+    target: &mut B,
+    k: u32,
+) -> Result<(), UpgradeFault>
+    requires from { k < A.sector_count source.old }
+    requires to { k < B.sector_count target.old }
+    ensures ok { IsTrue (A.keeps_model source.old) → IsTrue (B.keeps_model target.old)
+        → OnOk result (B.disk target.new ≡ written (B.disk target.old) k ((A.disk source.old).content k)) }
+    ensures only { IsTrue (B.keeps_model target.old)
+        → WritesOnly (λ j. j ≡ k) (B.disk target.old) (B.disk target.new) }
+    ensures stops { IsTrue (B.keeps_model target.old)
+        → StopsLeave B.SectorDevice target.old target.new (IsAsSynced (λ j. j ≡ k) (B.disk target.old)) }
+    ensures faults { IfErr result (TellsFault A.SectorDevice B.SectorDevice source.old source.new target.old target.new) }
+    ensures well { OnOk result (WentWell A.SectorDevice B.SectorDevice source.old source.new target.old target.new) }
+    ensures source { OnlyRead A.SectorDevice source.old source.new }
+    ensures passes { Proceeds B.SectorDevice target.old target.new }
+    ensures begins { BeginsAtMost B.SectorDevice target.old target.new 1 0 }
+{
+    let mut bytes = [0; 512];
+    match source.read(k, &mut bytes) {
+        Ok(()) => match target.write(k, &bytes) {
+            Ok(()) => Ok(()),
+            Err(_) => Err(UpgradeFault::New(OpenFault::Device)),
+        },
+        Err(_) => Err(UpgradeFault::Old(OpenFault::Device)),
+    }
+}
+
+// Copies the homes.
+fn carry_homes<A: SectorDevice, B: SectorDevice>(
+    source: &mut A,
+    target: &mut B,
+    blocks: u16,
+) -> Result<(), UpgradeFault>
+    requires many { fewest_blocks ≤ blocks }
+    requires few { blocks ≤ most_blocks }
+    requires from { A.sector_count source.old ≡ sectors_for blocks }
+    requires to { B.sector_count target.old ≡ sectors_for blocks }
+    ensures ok { IsTrue (A.keeps_model source.old) → IsTrue (B.keeps_model target.old)
+        → OnOk result ((k : ℕ) → 3 + 2 * blocks ≤ k → k < 3 + 4 * blocks → (B.disk target.new).content k ≡ (A.disk source.old).content k) }
+    ensures only { IsTrue (B.keeps_model target.old)
+        → WritesOnly (λ k. 3 + 2 * blocks ≤ k) (B.disk target.old) (B.disk target.new) }
+    ensures stops { IsTrue (B.keeps_model target.old)
+        → StopsLeave B.SectorDevice target.old target.new (IsAsSynced (λ k. 3 + 2 * blocks ≤ k) (B.disk target.old)) }
+    ensures faults { IfErr result (TellsFault A.SectorDevice B.SectorDevice source.old source.new target.old target.new) }
+    ensures well { OnOk result (WentWell A.SectorDevice B.SectorDevice source.old source.new target.old target.new) }
+    ensures source { OnlyRead A.SectorDevice source.old source.new }
+    ensures passes { Proceeds B.SectorDevice target.old target.new }
+    ensures begins { BeginsAtMost B.SectorDevice target.old target.new (2 * blocks) 0 }
+{
+    let first = home_sector(blocks, 0);
+    for k in first..first + 2 * blocks as u32 {
+        carry_sector(source, target, k)?;
+    }
+    Ok(())
+}
+
+// Writes all of the new image but its label.
+fn fill<A: SectorDevice, B: SectorDevice>(
+    source: &mut A,
+    target: &mut B,
+    blocks: u16,
+) -> Result<(), UpgradeFault>
+    requires many { fewest_blocks ≤ blocks }
+    requires few { blocks ≤ most_blocks }
+    requires from { A.sector_count source.old ≡ sectors_for blocks }
+    requires to { B.sector_count target.old ≡ sectors_for blocks }
+    ensures ok { IsTrue (A.keeps_model source.old) → IsTrue (B.keeps_model target.old)
+        → OnOk result (IsFilled blocks (A.disk source.old).content (B.disk target.new).content) }
+    ensures only { IsTrue (B.keeps_model target.old)
+        → WritesOnly (λ k. k ≢ 0) (B.disk target.old) (B.disk target.new) }
+    ensures stops { IsTrue (B.keeps_model target.old)
+        → StopsLeave B.SectorDevice target.old target.new (IsAsSynced (λ k. k ≢ 0) (B.disk target.old)) }
+    ensures faults { IfErr result (TellsFault A.SectorDevice B.SectorDevice source.old source.new target.old target.new) }
+    ensures well { OnOk result (WentWell A.SectorDevice B.SectorDevice source.old source.new target.old target.new) }
+    ensures source { OnlyRead A.SectorDevice source.old source.new }
+    ensures passes { Proceeds B.SectorDevice target.old target.new }
+    ensures begins { BeginsAtMost B.SectorDevice target.old target.new (2 * blocks + 2) 0 }
+{
+    match fill_head(target) {
+        Ok(()) => carry_homes(source, target, blocks),
+        Err(_) => Err(UpgradeFault::New(OpenFault::Device)),
+    }
+}
+
+// Fills the image under no good label.
+fn prepare<A: SectorDevice, B: SectorDevice>(
+    source: &mut A,
+    target: &mut B,
+    blocks: u16,
+) -> Result<(), UpgradeFault>
+    requires many { fewest_blocks ≤ blocks }
+    requires few { blocks ≤ most_blocks }
+    requires from { A.sector_count source.old ≡ sectors_for blocks }
+    requires to { B.sector_count target.old ≡ sectors_for blocks }
+    requires unlabelled { IsTrue (B.keeps_model target.old) → IsUnlabelled blocks (B.disk target.old) }
+    ensures ok { IsTrue (A.keeps_model source.old) → IsTrue (B.keeps_model target.old)
+        → OnOk result (IsPrepared blocks (A.disk source.old).content (B.disk target.new)) }
+    ensures synced { IsTrue (B.keeps_model target.old)
+        → OnOk result ((k : ℕ) → (B.disk target.new).unsynced k ≡ false) }
+    ensures stops { IsTrue (B.keeps_model target.old)
+        → StopsLeave B.SectorDevice target.old target.new (λ c. c 0 ≢ label_of blocks) }
+    ensures faults { IfErr result (TellsFault A.SectorDevice B.SectorDevice source.old source.new target.old target.new) }
+    ensures well { OnOk result (WentWell A.SectorDevice B.SectorDevice source.old source.new target.old target.new) }
+    ensures source { OnlyRead A.SectorDevice source.old source.new }
+    ensures passes { Proceeds B.SectorDevice target.old target.new }
+    ensures begins { BeginsAtMost B.SectorDevice target.old target.new (2 * blocks + 2) 1 }
+{
+    fill(source, target, blocks)?;
+    match target.sync() {
+        Ok(()) => Ok(()),
+        Err(_) => Err(UpgradeFault::New(OpenFault::Device)),
+    }
+}
+
+// Puts the image under a label, once it is whole.
+fn write_image<A: SectorDevice, B: SectorDevice>(
+    source: &mut A,
+    target: &mut B,
+    blocks: u16,
+) -> Result<(), UpgradeFault>
+    requires many { fewest_blocks ≤ blocks }
+    requires few { blocks ≤ most_blocks }
+    requires from { A.sector_count source.old ≡ sectors_for blocks }
+    requires to { B.sector_count target.old ≡ sectors_for blocks }
+    requires unlabelled { IsTrue (B.keeps_model target.old) → IsUnlabelled blocks (B.disk target.old) }
+    ensures ok { IsTrue (A.keeps_model source.old) → IsTrue (B.keeps_model target.old)
+        → OnOk result (IsMade blocks (A.disk source.old).content (B.disk target.new)) }
+    ensures stops { IsTrue (A.keeps_model source.old) → IsTrue (B.keeps_model target.old)
+        → StopsLeave B.SectorDevice target.old target.new (CarriedLeaves blocks (A.disk source.old).content) }
+    ensures faults { IfErr result (TellsFault A.SectorDevice B.SectorDevice source.old source.new target.old target.new) }
+    ensures well { OnOk result (WentWell A.SectorDevice B.SectorDevice source.old source.new target.old target.new) }
+    ensures source { OnlyRead A.SectorDevice source.old source.new }
+    ensures passes { Proceeds B.SectorDevice target.old target.new }
+    ensures begins { BeginsAtMost B.SectorDevice target.old target.new (2 * blocks + 3) 2 }
+{
+    prepare(source, target, blocks)?;
+    match seal(target, blocks) {
+        Ok(()) => Ok(()),
+        Err(_) => Err(UpgradeFault::New(OpenFault::Device)),
+    }
+}
+
+// Makes an image of the homes of another. A stop before the end leaves no good label, or what was there.
+fn carry<A: SectorDevice, B: SectorDevice>(
+    source: &mut A,
+    target: &mut B,
+    blocks: u16,
+) -> Result<(), UpgradeFault>
+    requires many { fewest_blocks ≤ blocks }
+    requires few { blocks ≤ most_blocks }
+    requires from { A.sector_count source.old ≡ sectors_for blocks }
+    requires to { B.sector_count target.old ≡ sectors_for blocks }
+    ensures ok { IsTrue (A.keeps_model source.old) → IsTrue (B.keeps_model target.old)
+        → OnOk result (IsMade blocks (A.disk source.old).content (B.disk target.new)) }
+    ensures stops { IsTrue (A.keeps_model source.old) → IsTrue (B.keeps_model target.old)
+        → StopsLeave B.SectorDevice target.old target.new (λ c. TakenAway blocks (B.disk target.old) c ⊎ CarriedLeaves blocks (A.disk source.old).content c) }
+    ensures faults { IfErr result (TellsFault A.SectorDevice B.SectorDevice source.old source.new target.old target.new) }
+    ensures well { OnOk result (WentWell A.SectorDevice B.SectorDevice source.old source.new target.old target.new) }
+    ensures source { OnlyRead A.SectorDevice source.old source.new }
+    ensures passes { Proceeds B.SectorDevice target.old target.new }
+    ensures begins { BeginsAtMost B.SectorDevice target.old target.new (2 * blocks + 4) 4 }
+{
+    match unlabel(target, blocks) {
+        Ok(()) => write_image(source, target, blocks),
+        Err(_) => Err(UpgradeFault::New(OpenFault::Device)),
+    }
+}
+
+/// Makes an image of layout 2 of the blocks of one of layout 1, on another device of as many sectors. The old image is
+/// recovered first, and is written no further. The label of the new one is written last. Takes no memory.
+///
+/// It refuses, in this order, an old device of a size that no image of layout 1 has (BadSize), a new one of another size
+/// (BadSize), and an old label as `open` does, by layout 1 (NoLabel, OtherVersion, WrongCount). Before these nothing is
+/// written. Device comes where a call of that device failed.
+pub fn upgrade<A: SectorDevice, B: SectorDevice>(
+    old: &mut A,
+    new: &mut B,
+) -> Result<(), UpgradeFault>
+    // Each refusal tells the first test that fails.
+    ensures exact { IsTrue (A.keeps_model old.old) → MatchResult result
+        (λ _. upgrade_refusal (A.sector_count old.old) (B.sector_count new.old) ((A.disk old.old).content 0) ≡ None)
+        (λ e. (e ≡ Old Device) ⊎ (e ≡ New Device) ⊎ (upgrade_refusal (A.sector_count old.old) (B.sector_count new.old) ((A.disk old.old).content 0) ≡ Some e)) }
+    // The device that is told as failed failed once, and no call failed else.
+    ensures old_device { IfErr result (λ e. e ≡ Old Device → A.failures old.new ≡ count_up (A.failures old.old)) }
+    ensures new_device { IfErr result (λ e. e ≡ New Device → B.failures new.new ≡ count_up (B.failures new.old)) }
+    ensures old_well { IfErr result (λ e. e ≢ Old Device → A.failures old.new ≡ A.failures old.old) }
+    ensures new_well { IfErr result (λ e. e ≢ New Device → B.failures new.new ≡ B.failures new.old) }
+    ensures well { OnOk result (WentWell A.SectorDevice B.SectorDevice old.old old.new new.old new.new) }
+    // BadSize comes with no call of either device. Another refusal than Device wrote nothing.
+    ensures unasked { IfErr result (λ e. (e ≡ Old BadSize) ⊎ (e ≡ New BadSize) → (old.new ≡ old.old) × (new.new ≡ new.old)) }
+    ensures unwritten { IfErr result (λ e. e ≢ Old Device → e ≢ New Device
+        → BeginsAtMost A.SectorDevice old.old old.new 0 1 × BeginsAtMost B.SectorDevice new.old new.new 0 0) }
+
+    // What a stop at any moment leaves of the old image, and of the new one, and what one leaves of that once it has returned.
+    ensures old_stops { IsTrue (A.keeps_model old.old) → (n : ℕ) → A.sector_count old.old ≡ sectors_for n
+        → StopsLeave A.SectorDevice old.old old.new (OldLeaves n (A.disk old.old)) }
+    ensures new_stops { IsTrue (A.keeps_model old.old) → IsTrue (B.keeps_model new.old) → (n : ℕ) → B.sector_count new.old ≡ sectors_for n
+        → StopsLeave B.SectorDevice new.old new.new (MakingLeaves n (meaning n (A.disk old.old).content) (B.disk new.old)) }
+    ensures after { IsTrue (A.keeps_model old.old) → IsTrue (B.keeps_model new.old) → OnOk result ((n : ℕ) → B.sector_count new.old ≡ sectors_for n
+        → (image : Image) → MayLeave (B.disk new.new) image → Means (meaning n (A.disk old.old).content) image) }
+    ensures old_passes { Proceeds A.SectorDevice old.old old.new }
+    ensures new_passes { Proceeds B.SectorDevice new.old new.new }
+    ensures old_begins { IsTrue (A.keeps_model old.old) → (n : ℕ) → A.sector_count old.old ≡ sectors_for n
+        → BeginsAtMost A.SectorDevice old.old old.new (writes_for n (A.disk old.old).content) (syncs_for (A.disk old.old).content) }
+    ensures new_begins { (n : ℕ) → B.sector_count new.old ≡ sectors_for n
+        → BeginsAtMost B.SectorDevice new.old new.new (2 * n + 4) 4 }
+{
+    let blocks = blocks_of_both(old.sectors(), new.sectors())?;
+    match recover(old, blocks) {
+        Ok(()) => carry(old, new, blocks),
+        Err(fault) => Err(UpgradeFault::Old(fault)),
+    }
+}

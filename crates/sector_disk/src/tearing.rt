@@ -1,0 +1,109 @@
+// A device that tears a write on purpose.
+ghost use Rattle.std.specs.Prelude.{◌≡◌, ◌⊎◌, ℕ, ◌+◌, ◌<◌, ◌≤◌, Bool, IsTrue};
+ghost use Rattle.sector_disk.specs.Disk.{Disk, Image};
+
+use crate::device::count_failure;
+use crate::fused::Fuse;
+use crate::{Counts, DeviceFault, SectorDevice};
+
+/// A device of which one call fails. Where that is a write, its sector holds other bytes afterwards; any other call
+/// isn't passed on.
+#[derive(Drop)]
+pub struct Tearing<D> {
+    device: D,
+    fuse: Fuse,
+    torn: [u8; 512],
+    failures: u64,
+    counts: Counts,
+}
+
+impl<D: SectorDevice> Tearing<D> {
+    ghost use Rattle.sector_disk.specs.Tearing.{torn_device_of};
+
+    /// Fails the `k`-th call, counted from 1. A write that is failed leaves the bytes `torn`.
+    pub fn once(device: D, k: u64, torn: [u8; 512]) -> Self
+        requires { 1 ≤ k }
+        ensures device { torn_device_of result ≡ device }
+        ensures disk { ⟦<Tearing<D> as SectorDevice>⟧.disk result ≡ D.disk device }
+        ensures model { ⟦<Tearing<D> as SectorDevice>⟧.keeps_model result ≡ D.keeps_model device }
+        ensures sectors { ⟦<Tearing<D> as SectorDevice>⟧.sector_count result ≡ D.sector_count device }
+    {
+        Tearing {
+            device,
+            fuse: Fuse::Once(k - 1),
+            torn,
+            failures: 0,
+            counts: Counts::default(),
+        }
+    }
+
+    /// The device within.
+    pub fn into_device(self) -> D
+        ensures device { result ≡ torn_device_of self }
+        ensures disk { D.disk result ≡ ⟦<Tearing<D> as SectorDevice>⟧.disk self }
+        ensures model { D.keeps_model result ≡ ⟦<Tearing<D> as SectorDevice>⟧.keeps_model self }
+        ensures sectors { D.sector_count result ≡ ⟦<Tearing<D> as SectorDevice>⟧.sector_count self }
+    {
+        let Tearing { device, .. } = self;
+        device
+    }
+}
+
+impl<D: SectorDevice> SectorDevice for Tearing<D> {
+    ghost use Rattle.std.specs.Prelude.{◌^◌, ◌-◌, min};
+
+    ghost sector_count = { λ f. D.sector_count f.device };
+
+    ghost keeps_model = { λ f. D.keeps_model f.device };
+
+    ghost disk = { λ f. D.disk f.device };
+
+    ghost time = { λ f. D.time f.device };
+
+    ghost left_since = { λ f t c. D.left_since f.device t c };
+
+    // those of the device and those made here together
+    ghost failures = { λ f. min (D.failures f.device + f.failures) (2 ^ 64 - 1) };
+
+    ghost counts = { λ f. f.counts };
+
+    ghost present = { λ f keeps. D.present f.device keeps };
+
+    ghost counts_now = { λ f t c le now. D.counts_now f.device t c le now };
+
+    ghost only_now = { λ f c since. D.only_now f.device c since };
+
+    ghost widens = { λ f s t c le since. D.widens f.device s t c le since };
+
+    fn sectors(&self) -> u32 {
+        self.device.sectors()
+    }
+
+    fn read(&mut self, k: u32, out: &mut [u8; 512]) -> Result<(), DeviceFault> {
+        self.counts.count_read();
+        match self.fuse.burn() {
+            Ok(()) => self.device.read(k, out),
+            Err(fault) => count_failure(&mut self.failures, Err(fault)),
+        }
+    }
+
+    fn write(&mut self, k: u32, bytes: &[u8; 512]) -> Result<(), DeviceFault> {
+        self.counts.count_write();
+        match self.fuse.burn() {
+            Ok(()) => self.device.write(k, bytes),
+            Err(fault) => {
+                // Where this write fails as well, the device has counted that failure.
+                self.device.write(k, &self.torn)?;
+                count_failure(&mut self.failures, Err(fault))
+            }
+        }
+    }
+
+    fn sync(&mut self) -> Result<(), DeviceFault> {
+        self.counts.count_sync();
+        match self.fuse.burn() {
+            Ok(()) => self.device.sync(),
+            Err(fault) => count_failure(&mut self.failures, Err(fault)),
+        }
+    }
+}
