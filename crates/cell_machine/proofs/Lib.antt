@@ -23,7 +23,6 @@ pub mod Paid
 pub mod Asking
 pub mod Calling
 pub mod Served
-pub mod Callees
 pub mod Deeds
 pub mod Shapes
 pub mod Trims

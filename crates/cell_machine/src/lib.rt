@@ -18,6 +18,4 @@ mod once;
 mod operands;
 mod returns;
 mod step;
-#[cfg(test)]
-mod tests;
 mod words;

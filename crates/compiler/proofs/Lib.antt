@@ -8,5 +8,3 @@ pub mod Spots
 pub mod Closing
 pub mod Fields
 pub mod Ends
-pub mod Sound
-pub mod Running

@@ -1,4 +1,3 @@
 pub mod Definition
 pub mod Represents
 pub mod Promise
-pub mod Running

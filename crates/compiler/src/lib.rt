@@ -10,8 +10,6 @@ ghost use Rattle.compiler.specs.Promise.{SameBelow, Added, Refused, BodiesStay, 
 
 mod leaves;
 mod opens;
-#[cfg(test)]
-mod tests;
 
 use arrayvec::ArrayVec;
 use cell_machine::code::Code;
@@ -93,6 +91,14 @@ impl Compiler {
         ensures { (code : List ℕ) (o : Option Definition) → Holds self.now code o → result ≡ is_some o }
     {
         self.opened().is_ok()
+    }
+
+    /// Where the bodies end, but for that of the open definition, which begins there.
+    #[inline]
+    pub fn end(&self) -> u16
+        ensures { result ≡ used self.now }
+    {
+        self.start // and not `here`, where it goes on
     }
 
     /// The name of the open definition, or of the last one.

@@ -12,8 +12,6 @@ use std::marker::Model;
 
 pub mod lent;
 mod moves;
-#[cfg(test)]
-mod tests;
 
 /// How many bytes data space has: an address is a number of 16 bits.
 pub const SIZE: usize = 65536;

@@ -276,6 +276,3 @@ impl Dictionary {
         self.current = vocabulary;
     }
 }
-
-#[cfg(test)]
-mod tests;

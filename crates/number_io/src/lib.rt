@@ -15,8 +15,6 @@ mod held;
 pub mod laws;
 mod number;
 mod taking;
-#[cfg(test)]
-mod tests;
 
 /// The value of a byte as a digit in the base, or None where it is none: `0` to `9` are 0 to 9, and the bytes from `A`
 /// on 10 to 71.

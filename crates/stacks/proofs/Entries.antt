@@ -1,10 +1,10 @@
 -- The entries that lie in places.
-use Rattle.std.proofs.Common.{◌≡◌, ◌∙◌, refl, sym, ap, subst, ℕ, zero, suc, ◌+◌, ◌-◌, ◌<◌, ◌≤◌, Bool, true, false, List, [], ◌∷◌, Some, length, slice_set, slice_get, arith}
-use Rattle.std.proofs.lemmas.List.{get_or-set_same, get_or-set_other, length-set}
+use Rattle.std.proofs.Common.{◌≡◌, ◌∙◌, refl, sym, ap, subst, ℕ, zero, suc, ◌+◌, ◌-◌, ◌<◌, ◌≤◌, false, if◌then◌else◌, List, [], ◌∷◌, length, slice_set, arith}
+use Rattle.std.proofs.lemmas.List.{get_or-set_same, get_or-set_other, length-set, set-get_or}
 use Rattle.stacks.specs.declared.return_stack.Entry.{Entry}
 use Rattle.stacks.specs.declared.return_stack.Entry.TheVariants.{Call, Value, Loop, Load}
 use Rattle.stacks.specs.Stacks.{entry_units, units, has_loop, with_index, top_or_load}
-use Rattle.stacks.specs.Entries.{entry_at, entries_in, IsGround}
+use Rattle.stacks.specs.Entries.{is_loop, indexed, entry_at, entries_in, IsGround}
 use Rattle.stacks.proofs.Units.{at_least_one}
 
 pub none : (most : ℕ) (p : List Entry) → entries_in most p 0 ≡ []
@@ -132,6 +132,35 @@ module _ (p : List Entry) (u : ℕ) (es : List Entry) (h : Lies p u es) where
     where
       written : (k : ℕ) (x : Entry) → (k ≡ 0 → ⊥) → IsGround (slice_set p k x)
       written k x n = record { size = length-set p k x ∙ h.ground.size; below = get_or-set_other p k 0 x (Call 0) (λ z. n (sym z)) ∙ h.ground.below }
+
+  -- the top with another index, where it is a loop
+  pub reindexed : (j : ℕ) (x : Entry) → x ≡ indexed j top → Lies (slice_set p u x) u (if is_loop top then with_index j es else es)
+  reindexed j x is = by_top top refl
+    where
+      other : is_loop top ≡ false → indexed j top ≡ top → Lies (slice_set p u x) u (if is_loop top then with_index j es else es)
+      other f equal =
+          let kept : slice_set p u x ≡ p = ap (λ e. slice_set p u e) (is ∙ equal) ∙ set-get_or p u (Call 0) in
+          subst (λ b. Lies (slice_set p u x) u (if b then with_index j es else es)) (sym f) (subst (λ q. Lies q u es) (sym kept) h)
+
+      by_top : (e : Entry) → top ≡ e → Lies (slice_set p u x) u (if is_loop top then with_index j es else es)
+      by_top (Call y) t = other (ap is_loop t) (ap (λ e. indexed j e) t ∙ sym t)
+      by_top (Value y) t = other (ap is_loop t) (ap (λ e. indexed j e) t ∙ sym t)
+      by_top (Load y z) t = other (ap is_loop t) (ap (λ e. indexed j e) t ∙ sym t)
+      by_top (Loop limit i) t =
+          let after : with_index j es ≡ Loop limit j ∷ entries_in 256 p (u - 3) = ap (λ l. with_index j l) (with_loop limit i t) in
+          subst (λ b. Lies (slice_set p u x) u (if b then with_index j es else es)) (sym (ap is_loop t))
+          (subst (λ e. Lies (slice_set p u e) u (with_index j es)) (sym (is ∙ ap (λ e. indexed j e) t))
+          (subst (λ l. Lies (slice_set p u (Loop limit j)) u l) (sym after) (turned limit i j t)))
+
+  pub is_topped : is_loop top ≡ has_loop es
+  is_topped = ap is_loop peeked ∙ by_list es
+    where
+      by_list : (es : List Entry) → is_loop (top_or_load es) ≡ has_loop es
+      by_list [] = refl
+      by_list (Call y ∷ es) = refl
+      by_list (Value y ∷ es) = refl
+      by_list (Loop l i ∷ es) = refl
+      by_list (Load y z ∷ es) = refl
 
   pub put : (k : ℕ) (e : Entry) → k ≡ u + entry_units e → k ≤ 256 → Lies (slice_set p k e) k (e ∷ es)
   put k e s l =

@@ -1,3 +1,4 @@
 pub mod Places
 pub mod Units
 pub mod Entries
+pub mod Walks

@@ -1,8 +1,18 @@
 -- The places that the entries of the return stack lie in.
-use Rattle.std.specs.Prelude.{◌≡◌, ℕ, zero, suc, ◌-◌, List, [], ◌∷◌, length, slice_index_or}
+use Rattle.std.specs.Prelude.{◌≡◌, ℕ, zero, suc, ◌-◌, Bool, true, false, List, [], ◌∷◌, length, slice_index_or}
 use Rattle.stacks.specs.declared.return_stack.Entry.{Entry}
-use Rattle.stacks.specs.declared.return_stack.Entry.TheVariants.{Call, Load}
+use Rattle.stacks.specs.declared.return_stack.Entry.TheVariants.{Call, Loop, Load}
 use Rattle.stacks.specs.Stacks.{entry_units}
+
+-- a loop
+abbrev pub is_loop : Entry → Bool
+is_loop (Loop limit index) = true
+is_loop _ = false
+
+-- a loop with this index, and any other entry as it is
+abbrev pub indexed : ℕ → Entry → Entry
+indexed index (Loop limit old) = Loop limit index
+indexed index entry = entry
 
 abbrev pub entry_at : List Entry → ℕ → Entry
 entry_at places at = slice_index_or places at (Call 0)

@@ -1,5 +1,5 @@
 -- The two stacks as lists, the top first: cells, and the entries of the return stack.
-use Rattle.std.specs.Prelude.{ℕ, suc, Bool, true, false, ◌+◌, List, [], ◌∷◌, ◌++◌, take, drop}
+use Rattle.std.specs.Prelude.{ℕ, suc, Bool, true, false, ◌+◌, ◌&&◌, nat_lt, List, [], ◌∷◌, ◌++◌, take, drop}
 unfoldable pub use Rattle.stacks.specs.Places.{stack_in}
 use Rattle.stacks.specs.declared.return_stack.Entry.{Entry}
 use Rattle.stacks.specs.declared.return_stack.Entry.TheVariants.{Call as CallOf, Value as ValueOf, Loop as LoopOf, Load as LoadOf}
@@ -34,3 +34,20 @@ has_loop _ = false
 abbrev pub with_index : ℕ → List Entry → List Entry
 with_index index (LoopOf limit old ∷ entries) = LoopOf limit index ∷ entries
 with_index index entries = entries
+
+-- From this place outwards, where each call goes on in the body around it: all lie below the limit. The place behind the
+-- last call belongs to no body.
+abbrev pub calls_below : (limit place : ℕ) → List Entry → Bool
+calls_below limit place [] = true
+calls_below limit place (CallOf back ∷ entries) = nat_lt place limit && calls_below limit back entries
+calls_below limit place (ValueOf cell ∷ entries) = calls_below limit place entries
+calls_below limit place (LoopOf bound index ∷ entries) = calls_below limit place entries
+calls_below limit place (LoadOf block to_in ∷ entries) = calls_below limit place entries
+
+-- how many loads there are
+abbrev pub loads : List Entry → ℕ
+loads [] = 0
+loads (CallOf back ∷ entries) = loads entries
+loads (ValueOf cell ∷ entries) = loads entries
+loads (LoopOf limit index ∷ entries) = loads entries
+loads (LoadOf block to_in ∷ entries) = suc (loads entries)

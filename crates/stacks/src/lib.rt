@@ -8,8 +8,6 @@ pub use return_stack::{Entry, ReturnStack};
 mod data_stack;
 pub mod laws;
 mod return_stack;
-#[cfg(test)]
-mod tests;
 
 /// Why a call of a stack was refused. The stack is then as it was.
 #[derive(Clone, Copy, Debug, PartialEq, Eq)]

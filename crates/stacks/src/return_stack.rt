@@ -1,6 +1,7 @@
 //! The return stack.
 ghost use Rattle.std.specs.Prelude.{◌≡◌, ◌≢◌, ◌+◌, ◌<◌, ◌≤◌, ◌↔◌, [], ◌∷◌, ℕ, length, slice_get, IsTrue, IsOk, OnOk, OnErr, IfOk, IfErr, IfSome, IfNone, if◌then◌else◌};
-ghost use Rattle.stacks.specs.Stacks.{units, entry_units, has_loop, with_index, top_or_load};
+ghost use Rattle.stacks.specs.Entries.{is_loop, indexed};
+ghost use Rattle.stacks.specs.Stacks.{units, entry_units, has_loop, with_index, top_or_load, calls_below, loads};
 
 use super::StackFault;
 use std::marker::Model;
@@ -36,6 +37,35 @@ impl Entry {
             Entry::Value(_) => 1,
             Entry::Loop { .. } => 3,
             Entry::Load { .. } => 2,
+        }
+    }
+
+    /// Gives a loop another index, where it is. False where this is no loop.
+    #[inline(always)]
+    fn set_index(&mut self, index: u16) -> bool
+        ensures there { result ≡ is_loop self.old }
+        ensures after { self.new ≡ indexed index self.old }
+    {
+        match self {
+            Entry::Loop { index: kept, .. } => {
+                *kept = index;
+                true
+            }
+            _ => false,
+        }
+    }
+
+    /// One for a load, and none for the others.
+    #[inline]
+    fn loads(self) -> usize
+        ensures count { result ≡ loads (self ∷ []) }
+        ensures least { result ≤ entry_units self }
+    {
+        match self {
+            Entry::Call(_) => 0,
+            Entry::Value(_) => 0,
+            Entry::Loop { .. } => 0,
+            Entry::Load { .. } => 1,
         }
     }
 }
@@ -175,11 +205,42 @@ impl ReturnStack {
         ensures top { result ≡ has_loop self.old }
         ensures after { self.new ≡ (if result then with_index index self.old else self.old) }
     {
-        let Entry::Loop { limit, .. } = self.places[self.units] else {
-            return false;
-        };
-        self.places[self.units] = Entry::Loop { limit, index };
+        self.places[self.units].set_index(index)
+    }
+
+    /// Whether what runs lies below a limit: from this place outwards, where each call goes on in the body around it. The
+    /// place behind the last call belongs to no body.
+    pub fn calls_below(&self, limit: usize, place: usize) -> bool
+        ensures { result ≡ calls_below limit place self.now }
+    {
+        let mut place = place;
+        let mut units = self.units;
+        'entries: while units > 0 {
+            let entry = self.places[units];
+            units -= entry.units();
+            let Entry::Call(back) = entry else {
+                continue;
+            };
+            if place >= limit {
+                return false;
+            }
+            place = back;
+        }
         true
+    }
+
+    /// How many loads there are.
+    pub fn loads(&self) -> usize
+        ensures { result ≡ loads self.now }
+    {
+        let mut count = 0;
+        let mut units = self.units;
+        'entries: while units > 0 {
+            let entry = self.places[units];
+            units -= entry.units();
+            count += entry.loads();
+        }
+        count
     }
 
     /// Removes all entries.

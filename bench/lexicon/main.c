@@ -1,0 +1,50 @@
+// Runs a program through the lexicon, or looks a name up.
+//
+//     lexicon PROGRAM TURNS               one line: event, depth, result, steps
+//     lexicon find THROUGH NAME TURNS     the name again and again: through the lexicon (1), or in a dictionary (0)
+#include <stdint.h>
+#include <stdio.h>
+#include <stdlib.h>
+#include <string.h>
+
+struct outcome {
+    uint32_t left; // steps
+    uint16_t event;
+    uint16_t depth;
+};
+
+void lexicon_run(const uint8_t *source, size_t size, struct outcome *outcome, uint16_t *cells, size_t count);
+uint32_t look_up(int through, const uint8_t *name, size_t size, uint32_t turns);
+
+static const char *sources[][2] = {
+    {"loop", ": EMPTY 30000 0 DO LOOP ; : TURNS %d 0 DO EMPTY LOOP 30000 ;"},
+    {"calls", ": NOTHING ; "
+              ": EIGHT NOTHING NOTHING NOTHING NOTHING NOTHING NOTHING NOTHING NOTHING ; "
+              ": MANY 1000 0 DO EIGHT LOOP ; : TURNS %d 0 DO MANY LOOP 8000 ;"},
+    {"fib", ": FIB DUP 2 < IF EXIT THEN 1- DUP ITSELF SWAP 1- ITSELF + ; "
+            ": TURNS %d 0 DO 20 FIB DROP LOOP 20 FIB ;"},
+    {"sieve", "SIZE-IS 8190 CREATE FLAGS : SIEVE FLAGS SIZE 1 FILL 0 SIZE 0 DO "
+              "FLAGS I + C@ IF I DUP + 3 + DUP I + "
+              "BEGIN DUP SIZE < WHILE 0 OVER FLAGS + C! OVER + REPEAT DROP DROP 1+ THEN LOOP ; "
+              ": TURNS %d 0 DO SIEVE DROP LOOP SIEVE ;"},
+};
+
+int main(int argc, char **argv) {
+    if (argc == 5 && strcmp(argv[1], "find") == 0) {
+        printf("%u\n", look_up(atoi(argv[2]), (const uint8_t *)argv[3], strlen(argv[3]), (uint32_t)atoi(argv[4])));
+        return 0;
+    }
+    for (size_t i = 0; argc == 3 && i < sizeof sources / sizeof sources[0]; i++) {
+        if (strcmp(argv[1], sources[i][0]) != 0)
+            continue;
+        char text[600];
+        snprintf(text, sizeof text, sources[i][1], atoi(argv[2]));
+        struct outcome outcome = {1000000000, 0, 0};
+        uint16_t cells[1] = {0};
+        lexicon_run((const uint8_t *)text, strlen(text), &outcome, cells, 1);
+        printf("%s event %u depth %u result %u steps %u\n", argv[1], outcome.event, outcome.depth, cells[0],
+               1000000000 - outcome.left);
+        return 0;
+    }
+    return 2;
+}

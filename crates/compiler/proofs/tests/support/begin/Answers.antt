@@ -1,5 +1,0 @@
-use Rattle.compiler.proofs.Sound.{sound_opened}
-use Rattle.compiler.proofs.tests.support.begin.Goals as goal
-
-pub returns : goal.returns
-returns c = sound_opened c.args.compiler.now c.begin.new.self _ c.args.code.now c.begin.result c.requires c.begin.ensures.opened c.begin.ensures.refused

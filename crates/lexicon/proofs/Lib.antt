@@ -1,0 +1,12 @@
+pub mod Owners
+pub mod Words
+pub mod Places
+pub mod Becoming
+pub mod Lifting
+pub mod Ending
+pub mod Forgetting
+pub mod Giving
+pub mod Calls
+pub mod Looking
+pub mod Adding
+pub mod Falling

@@ -1,0 +1,9 @@
+pub mod Language
+pub mod Stands
+pub mod Promise
+pub mod Running
+pub mod Structures
+pub mod Kinds
+pub mod Adding
+pub mod Falling
+pub mod Laws

@@ -1,0 +1,16 @@
+//! Laws over the definitions alone. The functions do nothing; a caller's proof cites their clauses.
+
+ghost use Rattle.lexicon.specs.Laws.{NothingIsLeft, WordsEnter, LoadsEnter, LoadsLeave, ServicesAreOutside};
+
+/// What is left to do, as words are entered by themselves and loads come and go.
+pub fn levels()
+    ensures nothing { NothingIsLeft }
+    ensures words { WordsEnter }
+    ensures loads { LoadsEnter }
+    ensures left { LoadsLeave }
+{}
+
+/// The machine calls no word that is a service.
+pub fn services()
+    ensures { ServicesAreOutside }
+{}

@@ -1,0 +1,4 @@
+pub mod Sound
+pub mod Running
+pub mod Callees
+pub mod Enters

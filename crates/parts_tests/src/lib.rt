@@ -1,0 +1,13 @@
+//! Tests of memory, stacks, numbers, dictionary and lexicon, by their public calls alone.
+#![tactic(auto)]
+
+#[cfg(test)]
+mod memory;
+#[cfg(test)]
+mod names;
+#[cfg(test)]
+mod numbers;
+#[cfg(test)]
+mod two_stacks;
+#[cfg(test)]
+mod words;

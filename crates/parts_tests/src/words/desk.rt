@@ -1,0 +1,287 @@
+//! A lexicon with a machine and all that it works on.
+
+ghost use Rattle.std.specs.Prelude.{◌≡◌, ◌<◌, ◌≤◌, None, IfOk, OnOk, length};
+ghost use Rattle.cell_machine.specs.Layout.{most_tokens};
+ghost use Rattle.lexicon.specs.Running.{IsReady};
+ghost use Rattle.parts_tests.specs.Going.{GoesOn};
+ghost use Rattle.lexicon.specs.Stands.{IsHere};
+
+use cell_machine::event::{Event, Op, Work};
+use cell_machine::machine::Machine;
+use data_space::DataSpace;
+use lexicon::{CompileRefusal, Lexicon, Refusal, Structure, TextKind};
+use stacks::{DataStack, ReturnStack};
+use std::alloc::Global;
+use std::test::Fail;
+
+/// What a test works on.
+#[derive(Drop)]
+pub(super) struct Desk {
+    pub(super) lexicon: Lexicon,
+    machine: Machine,
+    stack: DataStack,
+    returns: ReturnStack,
+    space: DataSpace,
+    budget: u32,
+}
+
+impl Desk {
+    pub(super) fn new(alloc: Global, budget: u32) -> Result<Desk, Fail>
+        ensures ready { IfOk result (λ desk. IsReady desk.lexicon desk.machine desk.returns) }
+        ensures idle { IfOk result (λ desk. desk.machine.pending ≡ None) }
+    {
+        let lexicon = Lexicon::new(alloc)?;
+        let space = DataSpace::new(alloc)?;
+        Ok(Desk {
+            lexicon,
+            machine: Machine::new(),
+            stack: DataStack::new(),
+            returns: ReturnStack::new(),
+            space,
+            budget,
+        })
+    }
+
+    pub(super) fn begin(&mut self, name: &[u8]) -> Result<(), Refusal>
+        requires { IsReady self.old.lexicon self.old.machine self.old.returns }
+        ensures ready { IsReady self.new.lexicon self.new.machine self.new.returns }
+        ensures idle { self.new.machine ≡ self.old.machine }
+    {
+        self.lexicon.begin(name)
+    }
+
+    pub(super) fn finish(&mut self) -> Result<(), CompileRefusal>
+        requires { IsReady self.old.lexicon self.old.machine self.old.returns }
+        ensures ready { IsReady self.new.lexicon self.new.machine self.new.returns }
+        ensures idle { self.new.machine ≡ self.old.machine }
+    {
+        self.lexicon.finish()
+    }
+
+    pub(super) fn compile(&mut self, token: u16) -> Result<(), CompileRefusal>
+        requires ready { IsReady self.old.lexicon self.old.machine self.old.returns }
+        requires from { 0 < token }
+        requires most { token ≤ most_tokens }
+        ensures ready { IsReady self.new.lexicon self.new.machine self.new.returns }
+        ensures idle { self.new.machine ≡ self.old.machine }
+    {
+        self.lexicon.compile(token)
+    }
+
+    pub(super) fn literal(&mut self, cell: u16) -> Result<(), CompileRefusal>
+        requires { IsReady self.old.lexicon self.old.machine self.old.returns }
+        ensures ready { IsReady self.new.lexicon self.new.machine self.new.returns }
+        ensures idle { self.new.machine ≡ self.old.machine }
+    {
+        self.lexicon.literal(cell)
+    }
+
+    pub(super) fn text(&mut self, kind: TextKind, bytes: &[u8]) -> Result<(), CompileRefusal>
+        requires ready { IsReady self.old.lexicon self.old.machine self.old.returns }
+        requires most { length bytes.now ≤ 1024 }
+        ensures ready { IsReady self.new.lexicon self.new.machine self.new.returns }
+        ensures idle { self.new.machine ≡ self.old.machine }
+    {
+        self.lexicon.add_text(kind, bytes)
+    }
+
+    pub(super) fn structure(&mut self, structure: Structure) -> Result<(), CompileRefusal>
+        requires { IsReady self.old.lexicon self.old.machine self.old.returns }
+        ensures ready { IsReady self.new.lexicon self.new.machine self.new.returns }
+        ensures idle { self.new.machine ≡ self.old.machine }
+    {
+        self.lexicon.add_structure(structure)
+    }
+
+    pub(super) fn create(&mut self, name: &[u8]) -> Result<(), Refusal>
+        requires { IsReady self.old.lexicon self.old.machine self.old.returns }
+        ensures ready { IsReady self.new.lexicon self.new.machine self.new.returns }
+        ensures idle { self.new.machine ≡ self.old.machine }
+    {
+        self.lexicon.create(name)
+    }
+
+    pub(super) fn constant(&mut self, name: &[u8], cell: u16) -> Result<(), Refusal>
+        requires { IsReady self.old.lexicon self.old.machine self.old.returns }
+        ensures ready { IsReady self.new.lexicon self.new.machine self.new.returns }
+        ensures idle { self.new.machine ≡ self.old.machine }
+    {
+        self.lexicon.add_constant(name, cell)
+    }
+
+    pub(super) fn vocabulary(&mut self, name: &[u8]) -> Result<(), Refusal>
+        requires { IsReady self.old.lexicon self.old.machine self.old.returns }
+        ensures ready { IsReady self.new.lexicon self.new.machine self.new.returns }
+        ensures idle { self.new.machine ≡ self.old.machine }
+    {
+        self.lexicon.add_vocabulary(name)
+    }
+
+    pub(super) fn immediate(&mut self) -> Result<(), Refusal>
+        requires { IsReady self.old.lexicon self.old.machine self.old.returns }
+        ensures ready { IsReady self.new.lexicon self.new.machine self.new.returns }
+        ensures idle { self.new.machine ≡ self.old.machine }
+    {
+        self.lexicon.set_immediate()
+    }
+
+    /// Enters a word by itself, and does what is left to do up to the first event.
+    pub(super) fn run(&mut self, token: u16) -> Event
+        requires ready { IsReady self.old.lexicon self.old.machine self.old.returns }
+        requires idle { self.old.machine.pending ≡ None }
+        ensures ready { GoesOn self.new.lexicon result self.new.machine self.new.returns }
+        ensures idle { self.new.machine.pending ≡ None }
+    {
+        let _ = self
+            .machine
+            .enter(&mut self.stack, &mut self.returns, Work::Primitive(token));
+        self.resume()
+    }
+
+    /// Does what is left to do up to the first event.
+    pub(super) fn resume(&mut self) -> Event
+        requires { IsReady self.old.lexicon self.old.machine self.old.returns }
+        ensures ready { GoesOn self.new.lexicon result self.new.machine self.new.returns }
+        ensures idle { self.new.machine.pending ≡ None }
+    {
+        self.lexicon.resume(
+            &mut self.machine,
+            &mut self.stack,
+            &mut self.returns,
+            &mut self.space,
+            &mut self.budget,
+        )
+    }
+
+    /// Runs a word to its end.
+    pub(super) fn does(&mut self, token: u16) -> Result<(), Event>
+        requires ready { IsReady self.old.lexicon self.old.machine self.old.returns }
+        requires idle { self.old.machine.pending ≡ None }
+        ensures ready { OnOk result (IsReady self.new.lexicon self.new.machine self.new.returns) }
+        ensures idle { self.new.machine.pending ≡ None }
+    {
+        match self.run(token) {
+            Event::Done => Ok(()),
+            event => Err(event),
+        }
+    }
+
+    /// Runs a word up to a service that it asks for.
+    pub(super) fn asks(&mut self, token: u16) -> Result<Op, Event>
+        requires ready { IsReady self.old.lexicon self.old.machine self.old.returns }
+        requires idle { self.old.machine.pending ≡ None }
+        ensures ready { OnOk result (IsReady self.new.lexicon self.new.machine self.new.returns) }
+        ensures idle { self.new.machine.pending ≡ None }
+    {
+        match self.run(token) {
+            Event::Service(op) => Ok(op),
+            event => Err(event),
+        }
+    }
+
+    /// Goes on to the end.
+    pub(super) fn ends(&mut self) -> Result<(), Event>
+        requires { IsReady self.old.lexicon self.old.machine self.old.returns }
+        ensures ready { OnOk result (IsReady self.new.lexicon self.new.machine self.new.returns) }
+        ensures idle { self.new.machine.pending ≡ None }
+    {
+        match self.resume() {
+            Event::Done => Ok(()),
+            event => Err(event),
+        }
+    }
+
+    /// Forgets a word, while what is left to do is left.
+    pub(super) fn forget(&mut self, token: u16) -> Result<(), Refusal>
+        requires { IsReady self.old.lexicon self.old.machine self.old.returns }
+        ensures ready { IsReady self.new.lexicon self.new.machine self.new.returns }
+        ensures idle { self.new.machine ≡ self.old.machine }
+    {
+        if token == 0 || usize::from(token) > self.lexicon.len() {
+            return Err(Refusal::Protected);
+        }
+        self.lexicon.forget(token, &self.machine, &self.returns)
+    }
+
+    /// A cell more on the data stack.
+    pub(super) fn push(&mut self, cell: u16)
+        ensures lexicon { self.new.lexicon ≡ self.old.lexicon }
+        ensures machine { self.new.machine ≡ self.old.machine }
+        ensures returns { self.new.returns ≡ self.old.returns }
+    {
+        let _ = self.stack.push(cell);
+    }
+
+    /// The top of the data stack, or 65,535 where it is empty.
+    pub(super) fn pop(&mut self) -> u16
+        ensures lexicon { self.new.lexicon ≡ self.old.lexicon }
+        ensures machine { self.new.machine ≡ self.old.machine }
+        ensures returns { self.new.returns ≡ self.old.returns }
+    {
+        self.stack.pop().unwrap_or(65535)
+    }
+
+    /// Makes a vocabulary the first one.
+    pub(super) fn first(&mut self, vocabulary: u16)
+        requires { IsReady self.old.lexicon self.old.machine self.old.returns }
+        ensures ready { IsReady self.new.lexicon self.new.machine self.new.returns }
+        ensures idle { self.new.machine ≡ self.old.machine }
+    {
+        if vocabulary > 0 && usize::from(vocabulary) <= self.lexicon.len() {
+            self.lexicon.set_first(vocabulary);
+        }
+    }
+
+    /// Runs a word up to a text, and copies that out.
+    pub(super) fn print(&mut self, token: u16, out: &mut [u8; 1024]) -> Result<usize, Event>
+        requires ready { IsReady self.old.lexicon self.old.machine self.old.returns }
+        requires idle { self.old.machine.pending ≡ None }
+        ensures ready { OnOk result (IsReady self.new.lexicon self.new.machine self.new.returns) }
+        ensures idle { self.new.machine.pending ≡ None }
+    {
+        match self.run(token) {
+            Event::Service(Op::Text(place)) => Ok(self.lexicon.text(place, out)),
+            event => Err(event),
+        }
+    }
+
+    /// Goes on to a part that is given, and gives it.
+    pub(super) fn give(&mut self) -> Result<(), Fail>
+        requires { IsReady self.old.lexicon self.old.machine self.old.returns }
+        ensures ready { OnOk result (IsReady self.new.lexicon self.new.machine self.new.returns) }
+        ensures idle { self.new.machine.pending ≡ None }
+    {
+        match self.resume() {
+            Event::Service(Op::Does(place)) => Ok(self.lexicon.give_part(place)?),
+            event => Err(Fail::from(event)),
+        }
+    }
+
+    /// `HERE` is at this address.
+    pub(super) fn here(&mut self, here: u16)
+        requires ready { IsReady self.old.lexicon self.old.machine self.old.returns }
+        requires space { IsHere here }
+        ensures ready { IsReady self.new.lexicon self.new.machine self.new.returns }
+        ensures idle { self.new.machine ≡ self.old.machine }
+    {
+        self.lexicon.set_here(here);
+    }
+
+    /// New words go to the first vocabulary.
+    pub(super) fn definitions(&mut self)
+        requires { IsReady self.old.lexicon self.old.machine self.old.returns }
+        ensures ready { IsReady self.new.lexicon self.new.machine self.new.returns }
+        ensures idle { self.new.machine ≡ self.old.machine }
+    {
+        self.lexicon.set_current_to_first();
+    }
+
+    /// `FORTH` is the first vocabulary.
+    pub(super) fn forth(&mut self)
+        requires { IsReady self.old.lexicon self.old.machine self.old.returns }
+        ensures ready { IsReady self.new.lexicon self.new.machine self.new.returns }
+        ensures idle { self.new.machine ≡ self.old.machine }
+    {
+        self.lexicon.set_first_to_forth();
+    }
+}
