@@ -3,18 +3,16 @@
 
 pub use fault::Fault;
 pub use forth::{Forth, NoMemory};
-pub use reply::LineEnd;
+pub use lines::LineEnd;
+pub use promise::Lines;
 pub use terminal::{IoFault, Terminal};
 
-mod effects;
 mod fault;
 mod forth;
-mod interpret;
+mod interpreting;
 pub mod laws;
-mod print;
+mod lines;
 pub mod promise;
-mod reply;
+mod services;
+mod system_cells;
 mod terminal;
-#[cfg(test)]
-mod tests;
-mod words;

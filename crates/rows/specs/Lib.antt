@@ -7,10 +7,8 @@ pub mod Definitions
 pub mod Screens
 pub mod Loads
 pub mod Limits
-pub mod Missing
 pub mod Saves
 pub mod Images
 pub mod Stops
 pub mod Openings
-pub mod Twelve
 pub mod Formats

@@ -38,7 +38,7 @@ default_steps = 1000000
 
 -- a new system over these saved blocks
 abbrev pub over : List (List ℕ) → Forth
-over blocks = new_forth default_steps [] (fresh blocks)
+over blocks = new_forth default_steps (fresh blocks)
 
 -- the output of a session in which each line took all that it was given
 abbrev pub replies_of : Played → Option (List ℕ)
@@ -58,7 +58,7 @@ Replies xs = Plays (over (image [])) [] xs
 
 -- the same with this budget of steps
 abbrev pub RepliesIn : ℕ → List Exchange → Type 0
-RepliesIn steps xs = Plays (new_forth steps [] (fresh (image []))) [] xs
+RepliesIn steps xs = Plays (new_forth steps (fresh (image []))) [] xs
 
 -- the saved blocks after a session of these lines: what an image that is opened again has
 abbrev pub saved_after : Forth → List Answer → List Exchange → List (List ℕ)

@@ -67,7 +67,7 @@ blank_buffer = refl
 no_block : Replies (codes "32 BLOCK" ⇒ codes " ? NO BLOCK" ∷ codes "32 BUFFER" ⇒ codes " ? NO BLOCK" ∷ codes "UPDATE" ⇒ codes " ? NO BUFFER" ∷ [])
 no_block = refl
 
-many_blocks : Plays (over (replicate 2048 (replicate 1024 32))) [] (codes "2047 BLOCK C@ ." ⇒ codes "32  ok" ∷ codes "2048 BLOCK" ⇒ codes " ? NO BLOCK" ∷ [])
+many_blocks : Plays (over (replicate 3840 (replicate 1024 32))) [] (codes "3839 BLOCK C@ ." ⇒ codes "32  ok" ∷ codes "3840 BLOCK" ⇒ codes " ? NO BLOCK" ∷ [])
 unfolding digits_of divided
 many_blocks = refl
 

@@ -1,6 +1,6 @@
 -- A save that is stopped at every call, by the disk model and by what an image means. Where only two bytes of a sector
 -- tell something, it has two bytes here.
-use Rattle.std.specs.Prelude.{◌≡◌, ◌==◌, ◌&&◌, ◌||◌, ℕ, zero, suc, Bool, true, false, nat_eq, nat_lt, if◌then◌else◌, List, [], ◌∷◌, ◌++◌, codes, map, replicate, refl}
+use Rattle.std.specs.Prelude.{◌≡◌, ◌==◌, ◌&&◌, ◌||◌, not, ℕ, zero, suc, Bool, true, false, nat_eq, nat_lt, if◌then◌else◌, List, [], ◌∷◌, ◌++◌, codes, map, replicate, refl}
 use Rattle.std.specs.List.{flat_map, list_all}
 use lib.Pointwise.{pointwise}
 use Rattle.sector_disk.specs.Disk.{Image, Disk, written, settled}
@@ -8,7 +8,8 @@ use Rattle.sector_disk.specs.Stop.{stopped}
 use Rattle.sector_disk.specs.declared.memory.Fate.{Fate}
 use Rattle.sector_disk.specs.declared.memory.Fate.TheVariants.{Lost, Kept, Torn}
 use Rattle.journal.specs.Layout.{label_of}
-use Rattle.journal.specs.Images.{block_of}
+use Rattle.sha2.specs.Sha256.{sha256, first_words, schedule, rounds, compress, hash_after, digest_bytes}
+use Rattle.journal.specs.Images.{block_of, is_damaged}
 
 pub data DiskCall : Type 0 where
   Write : ℕ → List ℕ → DiskCall
@@ -155,3 +156,28 @@ one_sync_for_homes_and_gate = refl
 
 first_sync_left_out : keeps_either disk_with_an_unsynced_gate (home_writes ++ Sync ∷ Write 1 closed_gate ∷ Sync ∷ []) ≡ false
 first_sync_left_out = refl
+
+-- ---- no stop leaves a damaged image
+
+-- the record with its digest, which is taken of the slots of two bytes a sector
+abbrev pub signed_record : DiskCall
+signed_record = Write 2 (6 ∷ replicate 479 0 ++
+    126 ∷ 9 ∷ 249 ∷ 45 ∷ 5 ∷ 85 ∷ 206 ∷ 89 ∷ 212 ∷ 78 ∷ 254 ∷ 231 ∷ 215 ∷ 38 ∷ 111 ∷ 76 ∷
+    54 ∷ 121 ∷ 4 ∷ 197 ∷ 124 ∷ 195 ∷ 194 ∷ 106 ∷ 76 ∷ 187 ∷ 50 ∷ 195 ∷ 138 ∷ 246 ∷ 120 ∷ 7 ∷ [])
+
+abbrev pub leaves_whole : Disk → List DiskCall → Bool
+leaves_whole disk calls = at_each_stop every_way (λ image. not (is_damaged 32 image)) disk calls
+
+whole_through_a_save : leaves_whole disk_at_rest (slot_writes ++ signed_record ∷ Sync ∷ Write 1 open_gate ∷ Sync ∷ Write 69 (65 ∷ 65 ∷ []) ∷ Sync ∷ Write 1 closed_gate ∷ Sync ∷ []) ≡ true
+unfolding sha256 first_words schedule rounds compress hash_after digest_bytes
+whole_through_a_save = refl
+
+-- with one sync for record and gate, the record may be torn under an open gate
+torn_record : leaves_whole disk_at_rest (slot_writes ++ signed_record ∷ Write 1 open_gate ∷ []) ≡ false
+unfolding sha256 first_words schedule rounds compress hash_after digest_bytes
+torn_record = refl
+
+-- a slot that is written under an open gate damages the image
+slot_under_an_open_gate : leaves_whole disk_at_rest (slot_writes ++ signed_record ∷ Sync ∷ Write 1 open_gate ∷ Sync ∷ Write 5 (67 ∷ 67 ∷ []) ∷ []) ≡ false
+unfolding sha256 first_words schedule rounds compress hash_after digest_bytes
+slot_under_an_open_gate = refl

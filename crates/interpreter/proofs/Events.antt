@@ -1,0 +1,224 @@
+-- What the machine's events mean for what is left of a line.
+use Rattle.std.proofs.Common.{◌≡◌, ℕ, zero, suc, ◌+◌, ◌*◌, ◌<◌, ◌≤◌, List, [], ◌∷◌, Option, Some, None, Result, Ok, Err, refl, sym, ap, subst, ◌∙◌, arith}
+use Rattle.dictionary.specs.Words.{Kind, Primitive, Colon, Created, Constant, Vocabulary, entry}
+use Rattle.compiler.specs.Definition.{Body}
+use Rattle.std.specs.Prelude.{Bool, true, false, nat_lt, length}
+use Rattle.cell_machine.specs.Limits.{data_cells, return_units}
+use Rattle.cell_machine.specs.Fault.{StackFull, ReturnStack, Quits}
+use Rattle.cell_machine.specs.Tree.{Prints, AbortsWith, Trees, End, Lit, Call, Text, If, Until, While, Loop, Leave, Exit, Compile, append}
+use Rattle.cell_machine.specs.declared.event.Op.{Op}
+use Rattle.cell_machine.specs.declared.event.Op.TheVariants as op
+use Rattle.cell_machine.specs.declared.event.Event.TheVariants as event
+use Rattle.stacks.specs.declared.return_stack.Entry.{Entry}
+use Rattle.lexicon.specs.Falling.{fall_of, Paid}
+use Rattle.interpreter.specs.Falls.{IsFree}
+use Rattle.cell_machine.specs.Words.{Service, system_word, service_of}
+use Rattle.cell_machine.specs.Frames.{Core, Around, Level, Due, Word, Next, Goes, Asked, Finished, Stopped, around_of, need, push, on_next}
+use Rattle.cell_machine.specs.Value.{Ends, Serve, body_value}
+use Rattle.cell_machine.specs.Effects.{Item}
+use Rattle.cell_machine.specs.Frames.{Turning, Frame, Once, Load, Print, AbortWith, Add, Give, in_body, step, step_end, step_trees, step_leave, nothing_aside}
+use Rattle.cell_machine.proofs.Rules.{need-rel, charge-rel, push-rel, test-rel, do_word-rel, do_loop-rel, end_loop-rel, leave_loop-rel, nothing_aside-rel, do_text-rel}
+use Rattle.interpreter.specs.declared.fault.Stop.{Stop}
+use Rattle.interpreter.specs.declared.interpreting.Turn.{Turn}
+use Rattle.interpreter.specs.declared.interpreting.Turn.TheVariants.{GoesOn, Over}
+use Rattle.cell_machine.specs.Calling.{Meaning, Outside, GivesCell, RunsBody, RunsPart, with_body, call, or_call, calling_step, calling_steps}
+use Rattle.cell_machine.specs.Served.{by_meaning, ServesAsMeant}
+use Rattle.cell_machine.proofs.Keeps.{step_keeps}
+use Rattle.cell_machine.proofs.Served.{calling_keeps}
+use Rattle.cell_machine.proofs.Same.{body_value-same}
+use Rattle.interpreter.specs.State.{World, Part, ForthWord, needing}
+use Rattle.interpreter.specs.Text.{serve, text, back, due_word, user_kind, user_word}
+use Rattle.interpreter.specs.Law.{left, next}
+use Rattle.lexicon.specs.declared.Lexicon.{Lexicon}
+use Rattle.lexicon.specs.Language.{Language}
+use Rattle.lexicon.specs.Stands.{Stands as Means}
+use Rattle.lexicon.specs.Laws.{ServicesAreOutside}
+use Rattle.lexicon.specs.Running.{meanings, meaning_of, word_meaning, AsksFor}
+use Rattle.interpreter.specs.Lexicon.{language_of, IsDue}
+use Rattle.interpreter.specs.Turns.{IsAtText, GoesDown}
+use Rattle.interpreter.proofs.Frugal.{serve-frugal}
+use Rattle.interpreter.proofs.Same.{serve_agrees}
+
+-- the event asks for a service
+pub due_of : (l : Lexicon) (x : Language) (o : Op) (found : Next) (levels : List Level) (c : Core) → AsksFor l x o found levels c → (due : Due) × (IsDue l x o due × (found ≡ Asked due levels c))
+due_of l x (op.Word w) found levels c h = (_, ((refl, h.1), h.0))
+due_of l x (op.Text place) found levels c h = (_, ((h.0, (h.1.0, refl)), h.1.1))
+due_of l x (op.AbortText place) found levels c h = (_, ((h.0, (h.1.0, refl)), h.1.1))
+due_of l x (op.Compile w) found levels c h = (_, ((h.0, refl), h.1))
+due_of l x (op.Does place) found levels c h = (_, ((h.0, h.1, (h.2.0, refl)), h.2.1))
+
+-- no event gives steps back, and a service goes down
+pub paid_least : (o : Op) (b a : ℕ) → Paid (event.Service o) b a → a ≤ b
+paid_least (op.Word w) b a h = omega (arith, h)
+paid_least (op.Text place) b a h = omega (arith, h)
+paid_least (op.AbortText place) b a h = omega (arith, h)
+paid_least (op.Compile w) b a h = omega (arith, h)
+paid_least (op.Does place) b a h = h
+
+least_fall : (s : ℕ) (es : List Entry) → s * 257 ≤ fall_of s es
+least_fall s es = omega arith
+
+most_fall : (s : ℕ) (es : List Entry) → fall_of s es ≤ s * 257 + 256
+most_fall s es = omega arith
+
+paid_falls : (s0 s1 s2 : ℕ) (es0 es2 : List Entry) → s1 < s0 → s2 ≤ s1 → fall_of s2 es2 < fall_of s0 es0
+paid_falls s0 s1 s2 es0 es2 h k =
+    let a = most_fall s2 es2 in let b = least_fall s0 es0 in let e : s2 + 1 ≤ s0 = omega (arith, h, k) in let m : (s2 + 1) * 257 ≤ s0 * 257 = omega (arith, e) in omega (arith, a, b, m)
+
+pub service_falls : (o : Op) (s0 s1 s2 : ℕ) (es0 es1 es2 : List Entry) → fall_of s1 es1 < fall_of s0 es0 → Paid (event.Service o) s0 s1 → IsFree o (fall_of s2 es2 ≤ fall_of s1 es1) → s2 ≤ s1 → fall_of s2 es2 < fall_of s0 es0
+service_falls (op.Word w) s0 s1 s2 es0 es1 es2 falls paid free le = paid_falls s0 s1 s2 es0 es2 paid le
+service_falls (op.Text place) s0 s1 s2 es0 es1 es2 falls paid free le = paid_falls s0 s1 s2 es0 es2 paid le
+service_falls (op.AbortText place) s0 s1 s2 es0 es1 es2 falls paid free le = paid_falls s0 s1 s2 es0 es2 paid le
+service_falls (op.Compile w) s0 s1 s2 es0 es1 es2 falls paid free le = paid_falls s0 s1 s2 es0 es2 paid le
+service_falls (op.Does place) s0 s1 s2 es0 es1 es2 falls paid free le = omega (arith, falls, free)
+
+-- the services do each word as it is meant
+module _ (n w : ℕ) (a : Around) (c : Core) (x : World) (small : c.steps ≤ n) where
+  abbrev inner : Serve World
+  inner a due c x = serve n a due c x
+
+  abbrev all : Serve World
+  all a due c x = serve (suc n) a due c x
+
+  body_same : (owner : ℕ) (parts : List Trees) (d : Core) → d.steps ≤ n → body_value (suc n) inner a owner parts d x ≡ body_value (suc n) all a owner parts d x
+  body_same owner parts d less =
+      body_value-same n (suc n) (suc n) inner all (λ a due c x. serve-frugal n a due c x) (serve_agrees n) a owner parts d x less (omega arith) (omega arith)
+
+  body_meant : (room : Bool) (parts : List Trees) → needing room ReturnStack c x (λ c. body_value (suc n) inner a w parts c x) ≡ need room ReturnStack c (λ e c. Ends e c x) (λ c. body_value (suc n) all a w parts c x)
+  body_meant true parts = body_same w parts c small
+  body_meant false parts = refl
+
+  part_pushed : (cell : Bool) (d owner : ℕ) (parts : List Trees)
+      → need cell StackFull c (λ e c. Ends e c x) (λ c. body_value (suc n) inner a owner parts (record c { stack = d ∷ c.stack }) x)
+      ≡ need cell StackFull c (λ e c. Ends e c x) (λ c. body_value (suc n) all a owner parts (record c { stack = d ∷ c.stack }) x)
+  part_pushed true d owner parts = body_same owner parts (record c { stack = d ∷ c.stack }) small
+  part_pushed false d owner parts = refl
+
+  part_meant : (unit : Bool) (d owner : ℕ) (parts : List Trees)
+      → needing unit ReturnStack c x (λ c. push d c (λ e c. Ends e c x) (λ c. body_value (suc n) inner a owner parts c x))
+      ≡ need unit ReturnStack c (λ e c. Ends e c x) (λ c. push d c (λ e c. Ends e c x) (λ c. body_value (suc n) all a owner parts c x))
+  part_meant true d owner parts = part_pushed (nat_lt (length c.stack) data_cells) d owner parts
+  part_meant false d owner parts = refl
+
+  kind_meant : (k : Kind Body Part) → user_kind (suc n) inner w k a c x ≡ all a (Word w) c x → user_kind (suc n) inner w k a c x ≡ by_meaning (suc n) all (meaning_of k) w a c x
+  kind_meant Primitive e = e
+  kind_meant (Colon body) e = body_meant (nat_lt a.units return_units) body.parts
+  kind_meant (Created d None) e = refl
+  kind_meant (Created d (Some p)) e = part_meant (nat_lt a.units return_units) d p.owner p.parts
+  kind_meant (Constant k) e = refl
+  kind_meant Vocabulary e = e
+
+  word_meant : (o : Option ForthWord) → user_word (suc n) inner w o a c x ≡ all a (Word w) c x → user_word (suc n) inner w o a c x ≡ by_meaning (suc n) all (word_meaning o) w a c x
+  word_meant None e = e
+  word_meant (Some word) e = kind_meant word.kind e
+
+  due_meant : (s : Option Service) → service_of (system_word w) ≡ s → ((s : Service) → service_of (system_word w) ≡ Some s → meanings (language_of x) w ≡ Outside)
+      → due_word (suc n) inner w s a c x ≡ by_meaning (suc n) all (meanings (language_of x) w) w a c x
+  due_meant (Some s) is system =
+      ap (λ o. due_word (suc n) inner w o a c x) (sym is) ∙ ap (λ m. by_meaning (suc n) all m w a c x) (sym (system s is))
+  due_meant None is system = word_meant (entry x.words w) (ap (λ o. due_word (suc n) inner w o a c x) (sym is))
+
+pub serves_as_meant : (n : ℕ) (x : World) → ((w : ℕ) (s : Service) → service_of (system_word w) ≡ Some s → meanings (language_of x) w ≡ Outside)
+    → ServesAsMeant n (λ a due c x. serve n a due c x) (meanings (language_of x)) x
+serves_as_meant zero x system = λ a w c h. absurd (omega (arith, h))
+serves_as_meant (suc n) x system = λ a w c h. due_meant n w a c x (omega (arith, h)) (service_of (system_word w)) refl (system w)
+
+-- frame steps that call too keep the value of what is left
+pub left_calls : ServicesAreOutside → (n : ℕ) (l : Lexicon) (x : World) (k : ℕ) (levels : List Level) (c : Core) → Means l (language_of x) → c.steps < n → left n levels c x ≡ next n (calling_steps (meanings (language_of x)) k levels c) x
+left_calls outside n l x k levels c means h =
+    calling_keeps n (λ a due c x. serve n a due c x) (λ a c x. text n (λ a due c x. serve n a due c x) n a c x) back (meanings (language_of x)) x
+    (step_keeps n (λ a due c x. serve n a due c x) (λ a due c x. serve-frugal n a due c x) (λ a c x. text n (λ a due c x. serve n a due c x) n a c x) back)
+    (serves_as_meant n x (λ w s is. outside l (language_of x) means w s is)) k levels c h
+
+-- ---- where nothing is left to do above the text
+
+-- no call and no word by itself ends there
+abbrev EndsAtText : Next → Type 0
+EndsAtText (Finished levels c) = IsAtText levels
+EndsAtText _ = Unit {0}
+
+module _ (owner : ℕ) (later : List Trees) (levels : List Level) where
+  leave_at_text : (loops : List Turning) (own : List Item) (c : Core) → EndsAtText (step_leave owner loops later own levels c)
+  leave_at_text [] own c = tt
+  leave_at_text (t ∷ loops) own c = tt
+
+step_end-ends : (owner : ℕ) (loops : List Turning) (later : List Trees) (own : List Item) (levels : List Level) (c : Core) → EndsAtText (step_end owner loops later own levels c)
+step_end-ends owner (t ∷ loops) later own levels c =
+    end_loop-rel (λ (r : Next) (s : Next). EndsAtText r) c.steps Stopped Stopped (λ e d h. tt) t.kind own c
+    (λ own c. Goes (Frame owner t.body (t ∷ loops) later own ∷ levels) c) (λ own c. Goes (Frame owner t.following loops later own ∷ levels) c) (λ own c. Stopped Quits c) (λ own c. Stopped Quits c) (omega arith) (λ o d hd. tt) (λ o d hd. tt)
+step_end-ends owner [] [] own levels c =
+    nothing_aside-rel (λ (r : Next) (s : Next). EndsAtText r) c.steps Stopped Stopped (λ e d h. tt) own c (λ c. Goes levels c) (λ c. Stopped Quits c) (omega arith) tt
+step_end-ends owner [] (part ∷ parts) own levels c =
+    nothing_aside-rel (λ (r : Next) (s : Next). EndsAtText r) c.steps Stopped Stopped (λ e d h. tt) own c (λ c. Asked (Give owner (part ∷ parts)) levels c) (λ c. Stopped Quits c) (omega arith) tt
+
+step_trees-ends : (owner : ℕ) (t : Trees) (loops : List Turning) (later : List Trees) (own : List Item) (levels : List Level) (c : Core) → EndsAtText (step_trees owner t loops later own levels c)
+step_trees-ends owner End loops later own levels c = step_end-ends owner loops later own levels c
+step_trees-ends owner (Lit n rest) loops later own levels c =
+    charge-rel (λ (r : Next) (s : Next). EndsAtText r) c.steps Stopped Stopped (λ e d h. tt) 1 c (λ c. push n c Stopped (λ c. Goes (Frame owner rest loops later own ∷ levels) c)) (λ c. Stopped Quits c) (omega arith) (λ d hd.
+    push-rel (λ (r : Next) (s : Next). EndsAtText r) c.steps Stopped Stopped (λ e d h. tt) n d (λ c. Goes (Frame owner rest loops later own ∷ levels) c) (λ c. Stopped Quits c) (omega arith) (λ e he. tt))
+step_trees-ends owner (Call w rest) loops later own levels c =
+    do_word-rel (λ (r : Next) (s : Next). EndsAtText r) c.steps Stopped Stopped (λ e d h. tt) w (in_body owner (around_of levels)).units own c (λ own c. Goes (Frame owner rest loops later own ∷ levels) c) (λ c. Asked (Word w) (Frame owner rest loops later own ∷ levels) c) (λ own c. Stopped Quits c) (λ c. Stopped Quits c) (omega arith) (λ o d hd. tt) (λ d hd. tt)
+step_trees-ends owner (Text Prints s rest) loops later own levels c =
+    do_text-rel (λ (r : Next) (s : Next). EndsAtText r) c.steps Stopped Stopped (λ e d h. tt) Prints c (λ c. Goes (Frame owner rest loops later own ∷ levels) c) (λ c. Asked (Print s) (Frame owner rest loops later own ∷ levels) c) (λ c. Stopped Quits c) (λ c. Stopped Quits c) (omega arith) (λ d hd. tt) (λ d hd. tt)
+step_trees-ends owner (Text AbortsWith s rest) loops later own levels c =
+    do_text-rel (λ (r : Next) (s : Next). EndsAtText r) c.steps Stopped Stopped (λ e d h. tt) AbortsWith c (λ c. Goes (Frame owner rest loops later own ∷ levels) c) (λ c. Asked (AbortWith s) (Frame owner rest loops later own ∷ levels) c) (λ c. Stopped Quits c) (λ c. Stopped Quits c) (omega arith) (λ d hd. tt) (λ d hd. tt)
+step_trees-ends owner (If b1 b2 rest) loops later own levels c =
+    test-rel (λ (r : Next) (s : Next). EndsAtText r) c.steps Stopped Stopped (λ e d h. tt) c (λ c. Goes (Frame owner (append b1 rest) loops later own ∷ levels) c) (λ c. Goes (Frame owner (append b2 rest) loops later own ∷ levels) c) (λ c. Stopped Quits c) (λ c. Stopped Quits c) (omega arith) (λ d hd. tt) (λ d hd. tt)
+step_trees-ends owner (Until body rest) loops later own levels c = tt
+step_trees-ends owner (While head body rest) loops later own levels c = tt
+step_trees-ends owner (Loop kind body rest) loops later own levels c =
+    do_loop-rel (λ (r : Next) (s : Next). EndsAtText r) c.steps Stopped Stopped (λ e d h. tt) (in_body owner (around_of levels)).units own c (λ own c. Goes (Frame owner body (record { kind = kind; body = body; following = rest } ∷ loops) later own ∷ levels) c) (λ own c. Stopped Quits c) (omega arith) (λ l i d hd. tt)
+step_trees-ends owner (Leave rest) loops later own levels c =
+    leave_loop-rel (λ (r : Next) (s : Next). EndsAtText r) c.steps Stopped Stopped (λ e d h. tt) own c (λ own c. step_leave owner loops later own levels c) (λ own c. Stopped Quits c) (omega arith) (λ o d hd. leave_at_text owner later levels loops o d)
+step_trees-ends owner (Exit rest) loops later own levels c =
+    charge-rel (λ (r : Next) (s : Next). EndsAtText r) c.steps Stopped Stopped (λ e d h. tt) 1 c (λ c. nothing_aside own c Stopped (λ c. Goes levels c)) (λ c. Stopped Quits c) (omega arith) (λ d hd.
+    nothing_aside-rel (λ (r : Next) (s : Next). EndsAtText r) c.steps Stopped Stopped (λ e d h. tt) own d (λ c. Goes levels c) (λ c. Stopped Quits c) (omega arith) tt)
+step_trees-ends owner (Compile w rest) loops later own levels c =
+    charge-rel (λ (r : Next) (s : Next). EndsAtText r) c.steps Stopped Stopped (λ e d h. tt) 1 c (λ c. Asked (Add w) (Frame owner rest loops later own ∷ levels) c) (λ c. Stopped Quits c) (omega arith) (λ d hd. tt)
+
+step-ends : (levels : List Level) (c : Core) → EndsAtText (step levels c)
+step-ends [] c = tt
+step-ends (Frame owner t loops later own ∷ levels) c = step_trees-ends owner t loops later own levels c
+step-ends (Once w ∷ levels) c =
+    do_word-rel (λ (r : Next) (s : Next). EndsAtText r) c.steps Stopped Stopped (λ e d h. tt) w (around_of levels).units [] c (λ own c. Goes levels c) (λ c. Asked (Word w) levels c) (λ own c. Stopped Quits c) (λ c. Stopped Quits c) (omega arith) (λ o d hd. tt) (λ d hd. tt)
+step-ends (Load blk to_in ∷ levels) c = tt
+
+call_ends : (m : Meaning) (w : ℕ) (levels : List Level) (c : Core) → EndsAtText (call m w levels c)
+call_ends Outside w levels c = tt
+call_ends (GivesCell v) w levels c = push-rel (λ (r : Next) (s : Next). EndsAtText r) c.steps Stopped Stopped (λ e d h. tt) v c (λ c. Goes levels c) (λ c. Stopped Quits c) (omega arith) (λ d hd. tt)
+call_ends (RunsBody parts) w levels c =
+    need-rel (λ (r : Next) (s : Next). EndsAtText r) c.steps Stopped Stopped (λ e d h. tt) (nat_lt (around_of levels).units return_units) ReturnStack c (λ c. Goes (with_body w parts levels) c) (λ c. Stopped Quits c) (omega arith) tt
+call_ends (RunsPart owner d parts) w levels c =
+    need-rel (λ (r : Next) (s : Next). EndsAtText r) c.steps Stopped Stopped (λ e d h. tt) (nat_lt (around_of levels).units return_units) ReturnStack c (λ c. push d c Stopped (λ c. Goes (with_body owner parts levels) c)) (λ c. Stopped Quits c) (omega arith)
+    (push-rel (λ (r : Next) (s : Next). EndsAtText r) c.steps Stopped Stopped (λ e d h. tt) d c (λ c. Goes (with_body owner parts levels) c) (λ c. Stopped Quits c) (omega arith) (λ d hd. tt))
+
+or_call_ends : (words : ℕ → Meaning) (n : Next) → EndsAtText n → EndsAtText (or_call words n)
+or_call_ends words (Goes levels c) h = tt
+or_call_ends words (Asked (Word w) levels c) h = call_ends (words w) w levels c
+or_call_ends words (Asked (Print s) levels c) h = tt
+or_call_ends words (Asked (AbortWith s) levels c) h = tt
+or_call_ends words (Asked (Add w) levels c) h = tt
+or_call_ends words (Asked (Give owner parts) levels c) h = tt
+or_call_ends words (Finished levels c) h = h
+or_call_ends words (Stopped e c) h = tt
+
+on_next_ends : (words : ℕ → Meaning) (k : ℕ) (n : Next) → EndsAtText n → ((levels : List Level) (c : Core) → EndsAtText (calling_steps words k levels c)) → EndsAtText (on_next n (λ levels c. calling_steps words k levels c))
+on_next_ends words k (Goes levels c) h later = later levels c
+on_next_ends words k (Asked due levels c) h later = tt
+on_next_ends words k (Finished levels c) h later = h
+on_next_ends words k (Stopped e c) h later = tt
+
+steps_end : (words : ℕ → Meaning) (k : ℕ) (levels : List Level) (c : Core) → EndsAtText (calling_steps words k levels c)
+steps_end words zero levels c = tt
+steps_end words (suc k) levels c =
+    on_next_ends words k (calling_step words levels c) (or_call_ends words (step levels c) (step-ends levels c)) (λ levels c. steps_end words k levels c)
+
+-- the machine finds nothing more to do only where a text goes on
+pub finished_at_text : (words : ℕ → Meaning) (k : ℕ) (levels after : List Level) (c d : Core) → calling_steps words k levels c ≡ Finished after d → IsAtText after
+finished_at_text words k levels after c d is = subst EndsAtText is (steps_end words k levels c)
+
+-- where what comes of a turn goes down, it goes down
+pub down_if : (result : Result Turn Stop) (before after : ℕ) → after < before → GoesDown result before after
+down_if (Ok GoesOn) before after h = h
+down_if (Ok Over) before after h = tt
+down_if (Err s) before after h = tt

@@ -1,0 +1,107 @@
+-- Parts of a line.
+use Rattle.std.proofs.Common.{◌≡◌, ℕ, ◌≤◌, Bool, true, false, List, [], Option, IsTrue, Result, Ok, Err, refl, sym, ap, subst, ◌∙◌, arith}
+use Rattle.std.proofs.KnownBytes.{Consumes-nil, Appends-nil}
+use Rattle.sector_disk.specs.Disk.{Image, MayLeave}
+use Rattle.sector_disk.specs.declared.device.SectorDevice.{Ghosts}
+use Rattle.journal.specs.Maps.{Maps}
+use Rattle.journal.specs.declared.store.Store.{Store}
+use Rattle.journal.specs.Store.{StandsFor, device_of}
+use Rattle.block_words.proofs.Runs.{keeps_store}
+use Rattle.block_words.specs.Parts.{store_of}
+use Rattle.cell_machine.specs.Frames.{Core, Level}
+use Rattle.cell_machine.specs.Fault.{Faults}
+use Rattle.cell_machine.specs.Value.{Outcome, Did, Ends}
+use Rattle.interpreter.specs.declared.terminal.Terminal.{Ghosts as TerminalGhosts}
+use Rattle.interpreter.specs.declared.fault.Fault.{Fault}
+use Rattle.interpreter.specs.declared.fault.Stop.{Stop}
+use Rattle.interpreter.specs.declared.fault.Stop.TheVariants as stop
+use Rattle.interpreter.specs.declared.forth.Forth.{Forth}
+use Rattle.interpreter.specs.Deeds.{Deed, nothing, before, after}
+use Rattle.interpreter.specs.State.{World, Run, with_run}
+use Rattle.interpreter.specs.Stops.{fault_of}
+use Rattle.interpreter.specs.Standing.{core, device, Rests, Stands, StandsAfter}
+use Rattle.interpreter.specs.Serving.{Comes, Heard, Printed, MapsKept, Gives, Altered, Ran, stopped}
+use Rattle.block_words.specs.declared.Blocks.{Blocks}
+use Rattle.interpreter.specs.Promise.{HasRisenBy}
+use Rattle.interpreter.specs.Law.{run_after, Grows}
+use Rattle.interpreter.proofs.Deeds.{before-nothing, after-nothing}
+
+-- ---- what comes of the line before it may be said otherwise
+
+pub comes_as : (start start' : Run → Outcome World) (deed : Deed) (result : Result (Unit {0}) Stop) (c : Core) (x : World) → ((r : Run) → start' r ≡ start r) → Comes start deed result c x → Comes start' deed result c x
+comes_as start start' deed (Ok v) c x same h = λ r fits. same (before deed r) ∙ h r fits
+comes_as start start' deed (Err stop.Io) c x same h = record {
+  core = h.core;
+  like = h.like;
+  breaks = λ r fits none. let b = h.breaks r fits none in record { run = b.run; ends = same (before deed r) ∙ b.ends; input = b.input; saves = b.saves };
+  grows = λ r fits never. subst (λ o. Grows (after deed r) (run_after o)) (sym (same (before deed r))) (h.grows r fits never);
+  input = λ r fits never none. subst (λ o. (run_after o).input ≡ []) (sym (same (before deed r))) (h.input r fits never none);
+  answers = λ r fits never none. subst (λ o. (run_after o).answers ≡ []) (sym (same (before deed r))) (h.answers r fits never none);
+  failures = λ r fits never none. subst (λ o. (run_after o).failures ≡ (after deed r).failures) (sym (same (before deed r))) (h.failures r fits never none);
+}
+comes_as start start' deed (Err stop.Quit) c x same h = record { core = h.core; like = h.like; ends = λ r fits. same (before deed r) ∙ h.ends r fits }
+comes_as start start' deed (Err stop.Abort) c x same h = record { core = h.core; like = h.like; ends = λ r fits. same (before deed r) ∙ h.ends r fits }
+comes_as start start' deed (Err (stop.Fault f)) c x same h = record { core = h.core; like = h.like; ends = λ r fits. same (before deed r) ∙ h.ends r fits }
+
+-- ---- nothing seen by terminal and device
+
+abbrev pub OnlyNow : {D : Type 0} → Ghosts D → Type 0
+OnlyNow {D} G = (d : D) (c : Image) → G.left_since d (G.time d) c → MayLeave (G.disk d) c
+
+pub maps_same : {D : Type 0} (G : Ghosts D) → OnlyNow G → (store : Store D G) (m : Maps) → StandsFor store m → MapsKept G m m store.device store.device []
+maps_same G only_now store m stands = record { kept = keeps_store G store m only_now stands; shuts = λ h. h; none = λ h. refl; last = λ h. refl }
+
+pub heard_nothing : {T : Type 0} (H : TerminalGhosts T) (result : Result (Unit {0}) Stop) (flag : Bool) (t : T) → Printed result (H.output t) (H.output t) [] → Heard H result nothing flag flag t t
+heard_nothing H result flag t printed =
+    record { given = Consumes-nil (H.input t); at_end = λ was no. absurd (let e : false ≡ true = no in cc); met = refl; no_more = λ h. (refl, refl); printed = printed }
+
+pub printed_nothing : (result : Result (Unit {0}) Fault) (o : Option (List ℕ)) → Printed (stopped result) o o []
+printed_nothing (Ok v) o = Appends-nil o
+printed_nothing (Err f) o = Appends-nil o
+
+pub comes_quiet : (start : Run → Outcome World) (result : Result (Unit {0}) Fault) (c : Core) (x : World) → Gives start result c x → Comes start nothing (stopped result) c x
+comes_quiet start (Ok v) c x g = λ r fits. ap start (before-nothing r) ∙ g r ∙ ap (λ r. Did c (with_run r x)) (sym (after-nothing r))
+comes_quiet start (Err f) c x g =
+    record { core = g.0; like = g.1; ends = λ r fits. ap start (before-nothing r) ∙ g.2 r ∙ ap (λ r. Ends (Faults (fault_of f)) g.0 (with_run r x)) (sym (after-nothing r)) }
+
+-- ---- services of the smaller kinds
+
+pub stands_stopped : {D : Type 0} {G : Ghosts D} (result : Result (Unit {0}) Fault) (forth : Forth D G) (levels : List Level) (x : World) → StandsAfter result forth levels x → StandsAfter (stopped result) forth levels x
+stands_stopped (Ok v) forth levels x s = s
+stands_stopped (Err f) forth levels x s = s
+
+rests : {D : Type 0} {G : Ghosts D} {A E : Type 0} (result : Result A E) (forth : Forth D G) (levels : List Level) (x : World) → StandsAfter result forth levels x → Rests forth x
+rests (Ok v) forth levels x s = s.rests
+rests (Err f) forth levels x s = s
+
+module _ {D T : Type 0} (G : Ghosts D) (H : TerminalGhosts T) where
+  -- one that reaches neither
+  pub quiet : OnlyNow G → {start : Run → Outcome World} {result : Result (Unit {0}) Fault} (old new : Forth D G) {levels : List Level} {x : World} (t : T)
+      → Stands old levels x → new.blocks ≡ old.blocks → new.at_end ≡ old.at_end → Altered start result old new levels x → Ran H start (stopped result) old new t t levels x
+  quiet only_now {start} {result} old new {levels} {x} t stands blocks at_end h = record {
+    deed = nothing;
+    world = h.world;
+    stands = stands_stopped result new levels h.world h.stands;
+    steps = h.steps;
+    comes = λ model. comes_quiet start result (core new) h.world h.gives;
+    heard = subst (λ f. Heard H (stopped result) nothing old.at_end f t t) (sym at_end) (heard_nothing H (stopped result) old.at_end t (printed_nothing result (H.output t)));
+    cause = ap (λ (b : Blocks D G). G.failures (device_of (store_of b))) blocks;
+    keeps = λ model.
+        subst (λ (b : Blocks D G). MapsKept G x.maps h.world.maps (device old) (device_of (store_of b)) []) (sym blocks)
+        (subst (λ m. MapsKept G x.maps m (device old) (device old) []) (sym h.maps) (maps_same G only_now (store_of old.blocks) x.maps (stands.rests.maps model)));
+  }
+
+module _ {D T : Type 0} {G : Ghosts D} (H : TerminalGhosts T) where
+  pub ran_as : {start : Run → Outcome World} (start' : Run → Outcome World) {result : Result (Unit {0}) Stop} {mid new : Forth D G} (old : Forth D G) {t t' : T} {levels : List Level} {x : World}
+      → ((r : Run) → start' r ≡ start r) → mid.steps ≤ old.steps → mid.blocks ≡ old.blocks → mid.at_end ≡ old.at_end
+      → Ran H start result mid new t t' levels x → Ran H start' result old new t t' levels x
+  ran_as {start} start' {result} {mid} {new} old {t} {t'} {levels} {x} same less blocks at_end h = record {
+    deed = h.deed;
+    world = h.world;
+    stands = h.stands;
+    steps = omega (arith, h.steps, less);
+    comes = λ model. comes_as start start' h.deed result (core new) h.world same (h.comes (subst (λ (b : Blocks D G). IsTrue (G.keeps_model (device_of (store_of b)))) (sym blocks) model));
+    heard = subst (λ f. Heard H result h.deed f new.at_end t t') at_end h.heard;
+    cause = subst (λ (b : Blocks D G). HasRisenBy h.deed.failures (G.failures (device_of (store_of b))) (G.failures (device new))) blocks h.cause;
+    keeps = λ model. subst (λ (b : Blocks D G). MapsKept G x.maps h.world.maps (device_of (store_of b)) (device new) h.deed.saves) blocks (h.keeps (subst (λ (b : Blocks D G). IsTrue (G.keeps_model (device_of (store_of b)))) (sym blocks) model));
+  }

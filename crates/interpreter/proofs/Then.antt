@@ -1,0 +1,150 @@
+-- One part of a line after another.
+use Rattle.std.proofs.Common.{◌≡◌, ◌⊎◌, ℕ, ◌≤◌, Bool, true, false, List, [], ◌∷◌, ◌++◌, Option, Some, Result, Ok, Err, refl, sym, ap, subst, ◌∙◌, inl, inr, append_assoc}
+use Rattle.std.specs.Prelude.{◌||◌}
+use Rattle.std.specs.Io.KnownBytes.{Appends}
+use Rattle.std.proofs.KnownBytes.{Consumes-trans, Appends-trans}
+use Rattle.sector_disk.specs.Disk.{Image, MayLeave}
+use Rattle.sector_disk.specs.Moments.{Elapses}
+use Rattle.sector_disk.specs.declared.device.SectorDevice.{Ghosts}
+use Rattle.journal.specs.Maps.{Maps}
+use Rattle.block_words.specs.Words.{Save}
+use Rattle.block_words.specs.Kept.{last_map}
+use Rattle.block_words.proofs.Then.{keeps_then}
+use Rattle.cell_machine.specs.Fault.{Ending}
+use Rattle.cell_machine.specs.Frames.{Core}
+use Rattle.cell_machine.specs.Value.{Outcome, Did, Ends}
+use Rattle.interpreter.specs.declared.terminal.Terminal.{Ghosts as TerminalGhosts}
+use Rattle.interpreter.specs.declared.fault.Stop.{Stop}
+use Rattle.interpreter.specs.declared.fault.Stop.TheVariants as stop
+use Rattle.interpreter.specs.Deeds.{Deed, then, before, after, Fits}
+use Rattle.interpreter.specs.Law.{run_after, Grows}
+use Rattle.interpreter.specs.State.{World, Run, with_run}
+use Rattle.interpreter.specs.Stops.{ending_of}
+use Rattle.interpreter.specs.Serving.{Left, Broke, BreaksOff, Comes, Heard, Printed, MapsKept}
+use Rattle.interpreter.proofs.Deeds.{before-then, after-then, or-assoc}
+
+-- ---- what comes of the line
+
+pub or-true : (a : Bool) → (a || true) ≡ true
+or-true true = refl
+or-true false = refl
+
+or-none : (a : Bool) → (a || false) ≡ a
+or-none true = refl
+or-none false = refl
+
+or-left : (a b : Bool) → a ≡ true → (a || b) ≡ true
+or-left a b is = ap (λ v. v || b) is
+
+or-right : (a b : Bool) → b ≡ true → (a || b) ≡ true
+or-right a b is = ap (λ v. a || v) is ∙ or-true a
+
+or-cases : (a b : Bool) → (a || b) ≡ true → (a ≡ true) ⊎ (b ≡ true)
+or-cases true b is = inl refl
+or-cases false b is = inr is
+
+module _ {R : Type 0} (start start2 : Run → R) (d e : Deed) (first : (r : Run) → Fits d r → start (before d r) ≡ start2 (after d r)) (none : d.met ≡ true → e.given ≡ []) where
+  pub fits_second : (r : Run) → Fits (then d e) r → Fits e r
+  fits_second r fits met = fits (or-left e.met d.met met)
+
+  pub fits_first : (r : Run) → Fits (then d e) r → Fits d (before e r)
+  fits_first r fits met = ap (λ l. l ++ r.input) (none met) ∙ fits (or-right e.met d.met met)
+
+  -- before both, it comes to what comes between them
+  pub both_come : (r : Run) → Fits (then d e) r → start (before (then d e) r) ≡ start2 (before e (after d r))
+  both_come r fits = ap start (before-then d e r) ∙ first (before e r) (fits_first r fits)
+
+module _ (start start2 : Run → Outcome World) (d e : Deed) (first : (r : Run) → Fits d r → start (before d r) ≡ start2 (after d r)) (none : d.met ≡ true → e.given ≡ []) where
+  abbrev seconds : (r : Run) → Fits (then d e) r → Fits e r
+  seconds r fits = fits_second start start2 d e first none r fits
+
+  abbrev comes_of : (r : Run) → Fits (then d e) r → start (before (then d e) r) ≡ start2 (before e (after d r))
+  comes_of r fits = both_come start start2 d e first none r fits
+
+  left_then : (i : Ending) (c : Core) (x : World) → Left start2 e i c x → Left start (then d e) i c x
+  left_then i c x h = record {
+    core = h.core;
+    like = h.like;
+    ends = λ r fits. comes_of r fits ∙ h.ends (after d r) (seconds r fits) ∙ ap (λ r. Ends i h.core (with_run r x)) (sym (after-then d e r));
+  }
+
+  broke_then : (c : Core) (x : World) → Broke start2 e c x → Broke start (then d e) c x
+  broke_then c x h = record {
+    core = h.core;
+    like = h.like;
+    breaks = λ r fits none.
+        let b : BreaksOff start2 e h.core x (after d r) = h.breaks (after d r) (seconds r fits) none in
+        record { run = b.run; ends = comes_of r fits ∙ b.ends; input = b.input; saves = b.saves ∙ append_assoc r.saves d.saves e.saves };
+    grows = λ r fits never.
+        subst (λ o. Grows (after (then d e) r) (run_after o)) (sym (comes_of r fits))
+        (subst (λ f. Grows f (run_after (start2 (before e (after d r))))) (sym (after-then d e r)) (h.grows (after d r) (seconds r fits) never));
+    input = λ r fits never none. subst (λ o. (run_after o).input ≡ []) (sym (comes_of r fits)) (h.input (after d r) (seconds r fits) never none);
+    answers = λ r fits never none. subst (λ o. (run_after o).answers ≡ []) (sym (comes_of r fits)) (h.answers (after d r) (seconds r fits) never none);
+    failures = λ r fits never none.
+        subst (λ o. (run_after o).failures ≡ (after (then d e) r).failures) (sym (comes_of r fits))
+        (subst (λ f. (run_after (start2 (before e (after d r)))).failures ≡ f.failures) (sym (after-then d e r)) (h.failures (after d r) (seconds r fits) never none));
+  }
+
+  pub comes_then : (result : Result (Unit {0}) Stop) (c : Core) (x : World) → Comes start2 e result c x → Comes start (then d e) result c x
+  comes_then (Ok v) c x h = λ r fits. comes_of r fits ∙ h (after d r) (seconds r fits) ∙ ap (λ r. Did c (with_run r x)) (sym (after-then d e r))
+  comes_then (Err stop.Io) c x h = broke_then c x h
+  comes_then (Err stop.Quit) c x h = left_then (ending_of stop.Quit) c x h
+  comes_then (Err stop.Abort) c x h = left_then (ending_of stop.Abort) c x h
+  comes_then (Err (stop.Fault f)) c x h = left_then (ending_of (stop.Fault f)) c x h
+
+-- ---- what the terminal saw
+
+end_still : (a b : Option (List ℕ)) → b ≡ a → a ≡ Some [] → b ≡ Some []
+end_still a b same h = same ∙ h
+
+printed_then : (result : Result (Unit {0}) Stop) (a b c : Option (List ℕ)) (bs cs : List ℕ) → Appends a b bs → Printed result b c cs → Printed result a c (bs ++ cs)
+printed_then (Ok v) a b c bs cs p q = Appends-trans a b c bs cs p q
+printed_then (Err stop.Io) a b c bs cs p q =
+    (bs ++ q.0, (q.1.0, ap (λ l. bs ++ l) q.1.1 ∙ sym (append_assoc bs q.0 q.1.0)), Appends-trans a b c bs q.0 p q.2)
+printed_then (Err stop.Quit) a b c bs cs p q = Appends-trans a b c bs cs p q
+printed_then (Err stop.Abort) a b c bs cs p q = Appends-trans a b c bs cs p q
+printed_then (Err (stop.Fault f)) a b c bs cs p q = Appends-trans a b c bs cs p q
+
+module _ {T : Type 0} (H : TerminalGhosts T) where
+  pub heard_none : {d e : Deed} {result : Result (Unit {0}) Stop} {f g h : Bool} {t u v : T} → Heard H (Ok tt) d f g t u → Heard H result e g h u v → d.met ≡ true → e.given ≡ []
+  heard_none {d} {e} {result} {f} {g} {h} {t} {u} {v} first second met = (second.no_more (first.met ∙ or-left d.met f met)).0
+
+  pub heard_then : {d e : Deed} {result : Result (Unit {0}) Stop} {f g h : Bool} {t u v : T} → Heard H (Ok tt) d f g t u → Heard H result e g h u v → Heard H result (then d e) f h t v
+  heard_then {d} {e} {result} {f} {g} {h} {t} {u} {v} first second = record {
+    given = Consumes-trans (H.input t) (H.input u) (H.input v) d.given e.given first.given second.given;
+    at_end = λ was met. by_first was met d.met refl;
+    met = second.met ∙ ap (λ b. e.met || b) first.met ∙ sym (or-assoc d.met e.met f);
+    no_more = λ was.
+        let one = first.no_more was in
+        let two = second.no_more (first.met ∙ or-right d.met f was) in
+        (ap (λ l. l ++ e.given) one.0 ∙ two.0, two.1 ∙ one.1);
+    printed = printed_then result (H.output t) (H.output u) (H.output v) d.printed e.printed first.printed second.printed;
+  }
+    where
+      by_first : f ≡ false → (e.met || d.met) ≡ true → (b : Bool) → d.met ≡ b → H.input v ≡ Some []
+      by_first was met true is =
+          end_still (H.input u) (H.input v) (second.no_more (first.met ∙ or-left d.met f is)).1 (first.at_end was is)
+      by_first was met false is =
+          second.at_end (first.met ∙ ap (λ b. b || f) is ∙ was) (sym (ap (λ b. e.met || b) is ∙ or-none e.met) ∙ met)
+
+-- ---- what the device saw
+
+module _ {D : Type 0} (G : Ghosts D) (counts_now : (d : D) (t : ℕ) (c : Image) → t ≤ G.time d → MayLeave (G.disk d) c → G.left_since d t c)
+    (widens : (d : D) (s t : ℕ) (c : Image) → s ≤ t → G.left_since d t c → G.left_since d s c)
+    (only_now : (d : D) (c : Image) → G.left_since d (G.time d) c → MayLeave (G.disk d) c) where
+  last_append : (map : List (List ℕ)) (made more : List Save) → last_map map (made ++ more) ≡ last_map (last_map map made) more
+  last_append map [] more = refl
+  last_append map (s ∷ made) more = last_append s.map made more
+
+  pub maps_then : (m m' m'' : Maps) (old mid new : D) (made more : List Save) → Elapses G.time G.left_since old mid → Elapses G.time G.left_since mid new
+      → MapsKept G m m' old mid made → MapsKept G m' m'' mid new more → MapsKept G m m'' old new (made ++ more)
+  maps_then m m' m'' old mid new made more on on_then first second = record {
+    kept = keeps_then G counts_now widens only_now m.closed m'.closed old mid new m.saved m'.saved made more on on_then first.shuts first.last second.none first.kept second.kept;
+    shuts = λ h. second.shuts (first.shuts h);
+    none = λ h. ap (λ l. l ++ more) (first.none h) ∙ second.none (first.shuts h);
+    last = λ h. second.last h ∙ after_both m'.closed refl h;
+  }
+    where
+      after_both : (t : Bool) → m'.closed ≡ t → m''.closed ≡ false → last_map m'.saved more ≡ last_map m.saved (made ++ more)
+      after_both true is h = absurd (let no : true ≡ false = sym (second.shuts is) ∙ h in cc)
+      after_both false is h = ap (λ l. last_map l more) (first.last is) ∙ sym (last_append m.saved made more)

@@ -1,0 +1,157 @@
+-- Turns of a line's loop, one after another.
+use Rattle.std.proofs.Common.{◌≡◌, ℕ, ◌≤◌, IsTrue, true, List, [], Result, Ok, Err, refl, sym, ap, subst, ◌∙◌, arith}
+use Rattle.sector_disk.specs.Disk.{Image, MayLeave}
+use Rattle.sector_disk.specs.Counting.{HasRisen}
+use Rattle.sector_disk.specs.declared.device.SectorDevice.{Ghosts}
+use Rattle.sector_disk.proofs.Moments.{elapses_refl, elapses_then}
+use Rattle.block_words.specs.Parts.{store_of}
+use Rattle.cell_machine.specs.Frames.{Core, Level}
+use Rattle.cell_machine.specs.Value.{Outcome, Did, Ends}
+use Rattle.interpreter.specs.declared.terminal.Terminal.{Ghosts as TerminalGhosts}
+use Rattle.interpreter.specs.declared.fault.Stop.{Stop}
+use Rattle.interpreter.specs.declared.fault.Stop.TheVariants as stop
+use Rattle.interpreter.specs.declared.interpreting.Turn.{Turn}
+use Rattle.interpreter.specs.declared.interpreting.Turn.TheVariants.{GoesOn, Over}
+use Rattle.interpreter.specs.declared.forth.Forth.{Forth}
+use Rattle.interpreter.specs.Deeds.{Deed, nothing, then, before, after, Fits}
+use Rattle.interpreter.specs.Law.{left}
+use Rattle.interpreter.specs.State.{World, Run, with_run}
+use Rattle.cell_machine.specs.Fault.{Ending}
+use Rattle.block_words.specs.declared.Blocks.{Blocks}
+use Rattle.journal.specs.Store.{device_of}
+use Rattle.interpreter.specs.Promise.{HasRisenBy}
+use Rattle.interpreter.specs.Standing.{core, device, Rests, Stands}
+use Rattle.interpreter.specs.Serving.{Comes, Left, IsLike, Heard, Printed, MapsKept, Lasts, WhereBroke, Ran}
+use Rattle.interpreter.specs.Turns.{seen, TurnComes, Turned, LastsTurn}
+use Rattle.interpreter.proofs.Deeds.{before-nothing, after-nothing, after-then}
+use Rattle.interpreter.proofs.Running.{OnlyNow, comes_as, maps_same, heard_nothing}
+use Rattle.block_words.proofs.Counted.{risen_then}
+use Rattle.interpreter.proofs.Then.{fits_second, both_come, comes_then, heard_none, heard_then, maps_then}
+use Rattle.std.proofs.KnownBytes.{Appends-nil}
+
+-- ---- at any device and terminal
+
+broke_then : (result : Result (Unit {0}) Stop) (a b c : ℕ) → b ≡ a → WhereBroke result (HasRisen b c) (c ≡ b) → WhereBroke result (HasRisen a c) (c ≡ a)
+broke_then (Ok v) a b c same h = h ∙ same
+broke_then (Err stop.Io) a b c same h = subst (λ n. HasRisen n c) same h
+broke_then (Err stop.Quit) a b c same h = h ∙ same
+broke_then (Err stop.Abort) a b c same h = h ∙ same
+broke_then (Err (stop.Fault f)) a b c same h = h ∙ same
+
+module _ {D T : Type 0} (G : Ghosts D) (H : TerminalGhosts T) (widens : (d : D) (s t : ℕ) (c : Image) → s ≤ t → G.left_since d t c → G.left_since d s c) where
+  pub lasts_then : {result : Result (Unit {0}) Stop} {a b c : D} {t u v : T} → Lasts G H (Ok tt) a b t u → Lasts G H result b c u v → Lasts G H result a c t v
+  lasts_then {result} {a} {b} {c} {t} {u} {v} first second = record {
+    time = elapses_then G.time G.left_since a b c (widens c) first.time second.time;
+    model = second.model ∙ first.model;
+    device_failures = omega (arith, first.device_failures, second.device_failures);
+    terminal_failures = broke_then result (H.failures t) (H.failures u) (H.failures v) first.terminal_failures second.terminal_failures;
+    no_more = omega (arith, first.no_more, second.no_more);
+    same = second.same ∙ first.same;
+  }
+
+pub lasts_nothing : {D T : Type 0} (G : Ghosts D) (H : TerminalGhosts T) (d : D) (t : T) → Lasts G H (Ok tt) d d t t
+lasts_nothing G H d t =
+    record { time = elapses_refl G.time G.left_since d; model = refl; device_failures = omega arith; terminal_failures = refl; no_more = omega arith; same = refl }
+
+-- ---- turns
+
+turn_comes_then : (n : ℕ) (start start2 : Run → Outcome World) (d e : Deed) (first : (r : Run) → Fits d r → start (before d r) ≡ start2 (after d r)) (none : d.met ≡ true → e.given ≡ [])
+    (result : Result Turn Stop) (levels : List Level) (c : Core) (x : World) → TurnComes n start2 e result levels c x → TurnComes n start (then d e) result levels c x
+turn_comes_then n start start2 d e first none (Ok GoesOn) levels c x h = λ r fits.
+    both_come start start2 d e first none r fits ∙ h (after d r) (fits_second start start2 d e first none r fits) ∙ ap (λ r. left n levels c (with_run r x)) (sym (after-then d e r))
+turn_comes_then n start start2 d e first none (Ok Over) levels c x h = λ r fits.
+    both_come start start2 d e first none r fits ∙ h (after d r) (fits_second start start2 d e first none r fits) ∙ ap (λ r. Did c (with_run r x)) (sym (after-then d e r))
+turn_comes_then n start start2 d e first none (Err s) levels c x h = comes_then start start2 d e first none (Err s) c x h
+
+module _ {D T : Type 0} (G : Ghosts D) (H : TerminalGhosts T) (counts_now : (d : D) (t : ℕ) (c : Image) → t ≤ G.time d → MayLeave (G.disk d) c → G.left_since d t c)
+    (widens : (d : D) (s t : ℕ) (c : Image) → s ≤ t → G.left_since d t c → G.left_since d s c) (only_now : OnlyNow G) (n : ℕ) where
+  -- nothing was done yet
+  pub turned_nothing : (forth : Forth D G) (levels : List Level) (x : World) (t : T) → Stands forth levels x → Turned H n (λ r. left n levels (core forth) (with_run r x)) (Ok GoesOn) forth forth t t x
+  turned_nothing forth levels x t stands = record {
+    deed = nothing;
+    levels = levels;
+    world = x;
+    stands = stands;
+    steps = omega arith;
+    comes = λ model r fits.
+        ap (λ r. left n levels (core forth) (with_run r x)) (before-nothing r) ∙ ap (λ r. left n levels (core forth) (with_run r x)) (sym (after-nothing r));
+    heard = heard_nothing H (Ok tt) forth.at_end t (Appends-nil (H.output t));
+    cause = refl;
+    keeps = λ model. maps_same G only_now (store_of forth.blocks) x.maps (stands.rests.maps model);
+  }
+
+  -- some turns, and one more
+  pub turned_then : {start : Run → Outcome World} {result : Result Turn Stop} {old mid new : Forth D G} {t u v : T} {x : World}
+      → LastsTurn G H (Ok GoesOn) (device old) (device mid) t u → LastsTurn G H result (device mid) (device new) u v
+      → (first : Turned H n start (Ok GoesOn) old mid t u x)
+      → Turned H n (λ r. left n first.levels (core mid) (with_run r first.world)) result mid new u v first.world
+      → Turned H n start result old new t v x
+  turned_then {start} {result} {old} {mid} {new} {t} {u} {v} {x} on on_then first second = record {
+    deed = then first.deed second.deed;
+    levels = second.levels;
+    world = second.world;
+    stands = second.stands;
+    steps = omega (arith, first.steps, second.steps);
+    comes = λ model.
+        turn_comes_then n start (λ r. left n first.levels (core mid) (with_run r first.world)) first.deed second.deed (first.comes model) (heard_none H first.heard second.heard) result second.levels (core new) second.world
+        (second.comes (subst IsTrue (sym on.model) model));
+    heard = heard_then H first.heard second.heard;
+    cause = risen_then first.deed.failures second.deed.failures (G.failures (device old)) (G.failures (device mid)) (G.failures (device new)) first.cause second.cause;
+    keeps = λ model.
+        maps_then G counts_now widens only_now x.maps first.world.maps second.world.maps (device old) (device mid) (device new) first.deed.saves second.deed.saves on.time on_then.time
+        (first.keeps model) (second.keeps (subst IsTrue (sym on.model) model));
+  }
+
+-- turns up to the end of the line's text, or to what ends the line
+module _ {D T : Type 0} {G : Ghosts D} (H : TerminalGhosts T) (n : ℕ) where
+  pub over_ran : {start : Run → Outcome World} {old new : Forth D G} {t u : T} {x : World} → Turned H n start (Ok Over) old new t u x → Ran H start (Ok tt) old new t u [] x
+  over_ran h = record { deed = h.deed; world = h.world; stands = h.stands; steps = h.steps; comes = h.comes; heard = h.heard; cause = h.cause; keeps = h.keeps }
+
+  pub stopped_ran : {start : Run → Outcome World} {s : Stop} {old new : Forth D G} {t u : T} {x : World} → Turned H n start (Err s) old new t u x → Ran H start (Err s) old new t u [] x
+  stopped_ran h = record { deed = h.deed; world = h.world; stands = h.stands; steps = h.steps; comes = h.comes; heard = h.heard; cause = h.cause; keeps = h.keeps }
+
+-- what comes of the line before it may be said otherwise
+turn_comes_as : (n : ℕ) (start start' : Run → Outcome World) (deed : Deed) (result : Result Turn Stop) (levels : List Level) (c : Core) (x : World) → ((r : Run) → start' r ≡ start r) → TurnComes n start deed result levels c x → TurnComes n start' deed result levels c x
+turn_comes_as n start start' deed (Ok GoesOn) levels c x same h = λ r fits. same (before deed r) ∙ h r fits
+turn_comes_as n start start' deed (Ok Over) levels c x same h = λ r fits. same (before deed r) ∙ h r fits
+turn_comes_as n start start' deed (Err s) levels c x same h = comes_as start start' deed (Err s) c x same h
+
+module _ {D T : Type 0} {G : Ghosts D} (H : TerminalGhosts T) (n : ℕ) where
+  pub turned_as : {start : Run → Outcome World} (start' : Run → Outcome World) {result : Result Turn Stop} {mid new : Forth D G} (old : Forth D G) {t u : T} {x : World}
+      → ((r : Run) → start' r ≡ start r) → mid.steps ≤ old.steps → mid.blocks ≡ old.blocks → mid.at_end ≡ old.at_end
+      → Turned H n start result mid new t u x → Turned H n start' result old new t u x
+  turned_as {start} start' {result} {mid} {new} old {t} {u} {x} same less blocks at_end h = record {
+    deed = h.deed;
+    levels = h.levels;
+    world = h.world;
+    stands = h.stands;
+    steps = omega (arith, h.steps, less);
+    comes = λ model. turn_comes_as n start start' h.deed result h.levels (core new) h.world same (h.comes (subst (λ (b : Blocks D G). IsTrue (G.keeps_model (device_of (store_of b)))) (sym blocks) model));
+    heard = subst (λ f. Heard H (seen result) h.deed f new.at_end t u) at_end h.heard;
+    cause = subst (λ (b : Blocks D G). HasRisenBy h.deed.failures (G.failures (device_of (store_of b))) (G.failures (device new))) blocks h.cause;
+    keeps = λ model. subst (λ (b : Blocks D G). MapsKept G x.maps h.world.maps (device_of (store_of b)) (device new) h.deed.saves) blocks (h.keeps (subst (λ (b : Blocks D G). IsTrue (G.keeps_model (device_of (store_of b)))) (sym blocks) model));
+  }
+
+-- the machine ends the line
+module _ {D T : Type 0} (G : Ghosts D) (H : TerminalGhosts T) (only_now : OnlyNow G) (n : ℕ) where
+  pub turned_left : {start : Run → Outcome World} (s : Stop) (old new : Forth D G) (t : T) {x : World}
+      → Rests new x → new.blocks ≡ old.blocks → new.at_end ≡ old.at_end → new.steps ≤ old.steps
+      → Comes start nothing (Err s) (core new) x → Printed (Err s) (H.output t) (H.output t) [] → Turned H n start (Err s) old new t t x
+  turned_left {start} s old new t {x} rests blocks at_end less comes printed = record {
+    deed = nothing;
+    levels = [];
+    world = x;
+    stands = rests;
+    steps = less;
+    comes = λ model. comes;
+    heard = subst (λ f. Heard H (Err s) nothing old.at_end f t t) (sym at_end) (heard_nothing H (Err s) old.at_end t printed);
+    cause = ap (λ (b : Blocks D G). G.failures (device_of (store_of b))) blocks;
+    keeps = λ model.
+        subst (λ (b : Blocks D G). MapsKept G x.maps x.maps (device_of (store_of b)) (device new) []) blocks
+        (maps_same G only_now (store_of new.blocks) x.maps (rests.maps (subst (λ (b : Blocks D G). IsTrue (G.keeps_model (device_of (store_of b)))) (sym blocks) model)));
+  }
+
+-- it ends it so, in each run
+pub left_so : (start : Run → Outcome World) (e : Ending) (said c : Core) (x : World) → IsLike e said c → ((r : Run) → start r ≡ Ends e said (with_run r x)) → Left start nothing e c x
+left_so start e said c x like ends =
+    record { core = said; like = like; ends = λ r fits. ap start (before-nothing r) ∙ ends r ∙ ap (λ r. Ends e said (with_run r x)) (sym (after-nothing r)) }

@@ -1,0 +1,39 @@
+use Rattle.std.proofs.Common.{◌≡◌, ◌-◌, ◌<◌, ◌≤◌, ℕ, refl, sym, ◌∙◌, arith}
+use Rattle.std.specs.Prelude.{nat_lt, if◌then◌else◌, replicate}
+use Rattle.cell_machine.specs.Words.{Blanks}
+use Rattle.interpreter.specs.State.{with_run}
+use Rattle.interpreter.specs.Terminals.{print, on_terminal}
+use Rattle.interpreter.specs.Standing.{core}
+use Rattle.interpreter.proofs.Short.{popping-none, popping-one, paying-no, paying-yes}
+use Rattle.interpreter.proofs.Running.{ran_as}
+use Rattle.interpreter.proofs.Popping.{ran_refused}
+use Rattle.interpreter.proofs.forth.Forth.blanks.Goals as goal
+
+pub returns-then-self-from-clause-serves : goal.returns-then-self-from-clause-serves
+returns-then-self-from-clause-serves g c = λ levels x stands.
+    let old = c.args.self.now in
+    let mid = record old { stack = c.pop.new.self } in
+    let n : ℕ = if nat_lt c.in-Ok.cell 32768 then c.in-Ok.cell else 0 in
+    let few : old.steps < n = omega (arith, c.if-self-from.true, c.from.ensures, c.count_of-count.ensures) in
+    ran_refused g.D.SectorDevice g.T.Terminal g.met.D.SectorDevice.only_now old mid c.args.terminal.now stands refl (core mid) refl
+    (λ r. popping-one (core old) (with_run r x) _ _ _ c.in-Ok.ensures.ok ∙ paying-no n (core mid) (with_run r x) _ few)
+
+pub returns-else-self-from-clause-serves : goal.returns-else-self-from-clause-serves
+returns-else-self-from-clause-serves g c = λ levels x stands.
+    let old = c.args.self.now in
+    let mid = record old { stack = c.pop.new.self } in
+    let n : ℕ = if nat_lt c.in-Ok.cell 32768 then c.in-Ok.cell else 0 in
+    let is : c.count_of-count.result ≡ n = c.count_of-count.ensures in
+    let paid : c.from-in-Ok.result ≡ n = c.from-in-Ok.ensures ∙ is in
+    let enough : n ≤ old.steps = omega (arith, c.if-self-from.false, c.from.ensures, is) in
+    ran_as g.T.Terminal (λ r. on_terminal Blanks (core old) (with_run r x)) old
+    (λ r. popping-one (core old) (with_run r x) _ _ _ c.in-Ok.ensures.ok
+    ∙ paying-yes n (core mid) (with_run r x) _ enough
+    ∙ (λ t. print (replicate (sym is t) 32) (record (core mid) { steps = old.steps - sym paid t }) (with_run r x)))
+    (omega arith) refl refl (c.print_blanks.ensures.serves levels x stands)
+
+pub returns-in-Err-clause-serves : goal.returns-in-Err-clause-serves
+returns-in-Err-clause-serves g c = λ levels x stands.
+    let old = c.args.self.now in
+    ran_refused g.D.SectorDevice g.T.Terminal g.met.D.SectorDevice.only_now old (record old { stack = c.pop.new.self }) c.args.terminal.now stands refl (core old) refl
+    (λ r. popping-none (core old) (with_run r x) _ c.in-Err.ensures.empty)

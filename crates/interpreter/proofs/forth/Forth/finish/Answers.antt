@@ -1,0 +1,18 @@
+use Rattle.std.proofs.Common.{◌≡◌, ◌∙◌, true, false, refl, sym, ap}
+use Rattle.interpreter.specs.State.{with_run}
+use Rattle.interpreter.specs.Lines.{end_of_line}
+use Rattle.interpreter.specs.Text.{compiling}
+use Rattle.data_space.specs.Space.{cell_at}
+use Rattle.std.specs.Prelude.{not, ◌==◌}
+use Rattle.interpreter.proofs.Lining.{lined_as}
+use Rattle.interpreter.proofs.forth.Forth.finish.Goals as goal
+
+pub returns-then-is_compiling-clause-lined : goal.returns-then-is_compiling-clause-lined
+returns-then-is_compiling-clause-lined g c = λ d x likely rests.
+    let is : compiling d ≡ true = ap (λ s. not (cell_at s 18 == 0)) likely.space ∙ sym c.is_compiling.ensures ∙ c.if-is_compiling.true in
+    lined_as g.T.Terminal _ c.say.result c.args.self.now x (λ r. ap (λ b. end_of_line b d (with_run r x)) is) refl refl refl (c.say.ensures.lined d x likely rests)
+
+pub returns-else-is_compiling-clause-lined : goal.returns-else-is_compiling-clause-lined
+returns-else-is_compiling-clause-lined g c = λ d x likely rests.
+    let is : compiling d ≡ false = ap (λ s. not (cell_at s 18 == 0)) likely.space ∙ sym c.is_compiling.ensures ∙ c.if-is_compiling.false in
+    lined_as g.T.Terminal _ c.say-else-is_compiling.result c.args.self.now x (λ r. ap (λ b. end_of_line b d (with_run r x)) is) refl refl refl (c.say-else-is_compiling.ensures.lined d x likely rests)

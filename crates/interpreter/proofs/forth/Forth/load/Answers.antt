@@ -1,0 +1,87 @@
+use Rattle.std.proofs.Common.{◌≡◌, ◌∙◌, ◌+◌, ◌<◌, ◌≤◌, suc, ◌∷◌, true, false, refl, sym, ap, subst, arith}
+use Rattle.std.proofs.lemmas.Grind.{common_steps}
+use Rattle.stacks.specs.declared.return_stack.Entry.TheVariants as entry
+use Rattle.stacks.specs.Stacks.{units}
+use Rattle.data_space.specs.Space.{cell_at, with_cell}
+use Rattle.cell_machine.specs.Frames.{Load, around_of}
+use Rattle.cell_machine.specs.Value.{and_then}
+use Rattle.lexicon.specs.Stands.{IsLeft}
+use Rattle.interpreter.specs.State.{with_run}
+use Rattle.interpreter.specs.Law.{left}
+use Rattle.interpreter.specs.Lexicon.{language_of}
+use Rattle.interpreter.specs.Standing.{core}
+use Rattle.interpreter.proofs.Altering.{refused}
+use Rattle.interpreter.proofs.Entering.{not_entered}
+use Rattle.interpreter.proofs.Short.{popping-none}
+use Rattle.interpreter.proofs.Loading.{units_left, loads_left, left_loaded, no_block, too_deep, no_units, loads_text}
+use Rattle.interpreter.proofs.forth.Forth.load.Goals as goal
+
+pub returns-in_default-clause-entered : goal.returns-in_default-clause-entered
+returns-in_default-clause-entered g c = λ m levels x less stands.
+    not_entered (suc m)
+    (refused _ stands (core c.args.self.now) refl (λ r. ap (λ o. and_then o (λ c x. left (suc m) levels c x)) (popping-none (core c.args.self.now) (with_run r x) _ c.in_default.ensures.empty)) (omega arith))
+
+pub returns-then-block-eq0-clause-entered : goal.returns-then-block-eq0-clause-entered
+returns-then-block-eq0-clause-entered g c = λ m levels x less stands.
+    not_entered (suc m)
+    (refused _ stands (record (core c.args.self.now) { stack = c.pop.new.self }) refl
+    (λ r. no_block m levels (core c.args.self.now) (with_run r x) c.in-Ok.block c.pop.new.self c.in-Ok.ensures.ok c.if-block-eq0.true) (omega arith))
+
+pub returns-then-loads-ge-MOST_LOADS-clause-entered :
+    goal.returns-then-loads-ge-MOST_LOADS-clause-entered
+returns-then-loads-ge-MOST_LOADS-clause-entered g c = λ m levels x less stands.
+    let same = loads_left c.args.self.now.lexicon (language_of x) c.args.self.now.machine c.args.self.now.returns levels c.requires.idle stands.left in
+    let deep : 8 ≤ (around_of levels).loads = omega (arith, same, c.loads.ensures, c.if-loads-ge-MOST_LOADS.true) in
+    not_entered (suc m)
+    (refused _ stands (record (core c.args.self.now) { stack = c.pop.new.self }) refl
+    (λ r. too_deep m levels (core c.args.self.now) (with_run r x) c.in-Ok.block c.pop.new.self c.in-Ok.ensures.ok c.if-block-eq0.false deep) (omega arith))
+
+pub returns-in_default-push-clause-entered : goal.returns-in_default-push-clause-entered
+returns-in_default-push-clause-entered g c = λ m levels x less stands.
+    let same = loads_left c.args.self.now.lexicon (language_of x) c.args.self.now.machine c.args.self.now.returns levels c.requires.idle stands.left in
+    let few : (around_of levels).loads < 8 = omega (arith, same, c.loads.ensures, c.if-loads-ge-MOST_LOADS.false) in
+    let all = units_left c.args.self.now.lexicon (language_of x) c.args.self.now.machine c.args.self.now.returns levels c.requires.idle stands.left in
+    let full : units c.args.self.now.returns + 2 ≤ 256 → ⊥ = λ room. (let e : false ≡ true = c.in_default-push.ensures.room.1 room in cc) in
+    let many : 256 < (around_of levels).units + 2 = omega (arith, all, full) in
+    record {
+      levels = levels;
+      world = x;
+      stands = stands.rests;
+      goes = (
+        record (core c.args.self.now) { stack = c.pop.new.self },
+        refl,
+        λ r. no_units m levels (core c.args.self.now) (with_run r x) c.in-Ok.block c.pop.new.self c.in-Ok.ensures.ok c.if-block-eq0.false few many,
+      );
+      maps = refl;
+      steps = omega arith;
+    }
+
+pub returns-clause-entered : goal.returns-clause-entered
+returns-clause-entered g c = λ m levels x less stands.
+    let same = loads_left c.args.self.now.lexicon (language_of x) c.args.self.now.machine c.args.self.now.returns levels c.requires.idle stands.left in
+    let few : (around_of levels).loads < 8 = omega (arith, same, c.loads.ensures, c.if-loads-ge-MOST_LOADS.false) in
+    let all = units_left c.args.self.now.lexicon (language_of x) c.args.self.now.machine c.args.self.now.returns levels c.requires.idle stands.left in
+    let old = core c.args.self.now in
+    let room : units c.args.self.now.returns + 2 ≤ 256 = c.in-Ok-push.ensures.room.0 refl in
+    let fits : (around_of levels).units + 2 ≤ 256 = omega (arith, all, room) in
+    let blk = cell_at old.space 22 in
+    let to_in = cell_at old.space 20 in
+    let pushed : c.push.new.self ≡ entry.Load blk to_in ∷ c.args.self.now.returns =
+    c.in-Ok-push.ensures.ok ∙ ap (λ b. entry.Load b c.cell_of-2.result ∷ c.args.self.now.returns) c.cell_of.ensures ∙ ap (λ t. entry.Load blk t ∷ c.args.self.now.returns) c.cell_of-2.ensures in
+    let first : c.set_cell.new.self ≡ with_cell old.space 22 c.in-Ok.block = grind (arith, common_steps, c.set_cell.ensures.after, c.set_cell.ensures.within) in
+    let second : c.set_cell-2.new.self ≡ with_cell c.set_cell.new.self 20 0 = grind (arith, common_steps, c.set_cell-2.ensures.after, c.set_cell-2.ensures.within) in
+    record {
+      levels = Load blk to_in ∷ levels;
+      world = x;
+      stands = record {
+        rests = stands.rests;
+        left =
+            subst (λ es. IsLeft c.args.self.now.lexicon (language_of x) c.args.self.now.machine es (Load blk to_in ∷ levels)) (sym pushed)
+            (left_loaded c.args.self.now.lexicon (language_of x) c.args.self.now.machine c.args.self.now.returns levels blk to_in c.requires.idle stands.left);
+      };
+      goes = λ r.
+          loads_text m levels old (with_run r x) c.in-Ok.block c.pop.new.self c.in-Ok.ensures.ok c.if-block-eq0.false few fits less
+          ∙ ap (λ s. left (suc m) (Load blk to_in ∷ levels) (record old { stack = c.pop.new.self; space = s }) (with_run r x)) (sym (second ∙ ap (λ s. with_cell s 20 0) first));
+      maps = refl;
+      steps = omega arith;
+    }

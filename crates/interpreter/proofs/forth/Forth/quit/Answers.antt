@@ -1,0 +1,9 @@
+use Rattle.std.proofs.Common.{◌∙◌, refl, sym}
+use Rattle.interpreter.specs.Lines.{at_rest, dropped}
+use Rattle.interpreter.proofs.Lining.{lined_as}
+use Rattle.interpreter.proofs.forth.Forth.quit.Goals as goal
+
+pub returns-clause-lined : goal.returns-clause-lined
+returns-clause-lined g c = λ d x likely rests.
+    lined_as g.T.Terminal _ c.say.result c.args.self.now x (λ r. refl) c.close.ensures.spares.device c.close.ensures.spares.at_end refl
+    (c.say.ensures.lined (at_rest d) (dropped x) (record { stack = likely.stack ∙ sym c.close.ensures.stack; space = (c.close.ensures.space d (record { space = likely.space })).space }) (c.close.ensures.closes x rests))

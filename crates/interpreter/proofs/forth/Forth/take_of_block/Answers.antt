@@ -1,0 +1,63 @@
+use Rattle.std.proofs.Common.{◌≡◌, ◌-◌, ℕ, List, [], Ok, Err, refl, ap, sym, ◌∙◌, arith, length, drop}
+use Rattle.std.proofs.lemmas.Grind.{common_steps}
+use Rattle.data_space.specs.Space.{with_cell}
+use Rattle.block_words.specs.Words.{source}
+use Rattle.cell_machine.specs.Fault.{Faults}
+use Rattle.cell_machine.specs.Value.{Ends}
+use Rattle.interpreter.specs.State.{with_run}
+use Rattle.interpreter.specs.Deeds.{after}
+use Rattle.interpreter.specs.Standing.{core}
+use Rattle.interpreter.specs.Taken.{IsTaken, after_cut, cut_of}
+use Rattle.interpreter.proofs.Called.{called, failed, tells_left, comes_of, rests_on, stands_on, world, deed}
+use Rattle.interpreter.proofs.Taking.{cuts, from_block, cuts_kept}
+use Rattle.interpreter.proofs.forth.Forth.take_of_block.Goals as goal
+
+pub returns-in-Ok-clause-hands : goal.returns-in-Ok-clause-hands
+returns-in-Ok-clause-hands g c = λ levels x stands.
+    let old = c.args.self.now in
+    let h = called g.D.SectorDevice (source c.args.block) (Ok c.source.new.out) (λ m. []) old.blocks c.source.new.self old.space old.space
+    c.in-Ok.ensures.runs (λ m shut. refl) (tells_left {A = Unit {0}} (Ok tt) c.source.new.out _ _ c.in-Ok.ensures.asks.failures) c.in-Ok.ensures.asks.continues.model stands.rests in
+    let wrote : c.set_cell.new.self ≡ with_cell old.space 20 c.keep-count.result.1 = grind (arith, common_steps, c.set_cell.ensures.after, c.set_cell.ensures.within) in
+    let kept : IsTaken c.args.cut c.args.delimiter c.source.new.out c.keep-count.result.0 c.keep-count.new.kept old.space c.set_cell.new.self = record {
+      taken = c.keep-count.ensures.taken ∙ ap (λ n. cut_of c.args.cut c.args.delimiter (drop n c.source.new.out)) c.cell_of-to_in.ensures;
+      moved = wrote ∙ ap (λ n. with_cell old.space 20 n) (c.keep-count.ensures.moved ∙ ap (λ n. length c.source.new.out - length (after_cut c.args.cut c.args.delimiter (drop n c.source.new.out))) c.cell_of-to_in.ensures);
+    } in
+    record {
+      answers = h.answers;
+      failures = 0;
+      saves = h.saves;
+      world = world h;
+      stands = stands_on h stands;
+      steps = omega arith;
+      at_end = refl;
+      hands = λ model r go.
+          from_block c.args.cut c.args.delimiter go c.args.block (core old) _ c.requires.block c.requires.loaded
+          ∙ comes_of h model r (core old) (cuts c.args.cut c.args.delimiter go)
+          ∙ cuts_kept c.args.cut c.args.delimiter go c.source.new.out _ _ _ (core old) _ kept;
+      cause = h.cause;
+      keeps = h.keeps;
+    }
+
+pub returns-in-Err-clause-hands : goal.returns-in-Err-clause-hands
+returns-in-Err-clause-hands g c = λ levels x stands.
+    let old = c.args.self.now in
+    let h = called g.D.SectorDevice (source c.args.block) (Err c.in-Err.fault) (λ m. []) old.blocks c.source.new.self old.space old.space
+    c.in-Err.ensures.runs (λ m shut. refl) (tells_left {A = Unit {0}} (Err c.in-Err.fault) c.source.new.out _ _ c.in-Err.ensures.asks.failures) c.in-Err.ensures.asks.continues.model stands.rests in
+    record {
+      answers = h.answers;
+      failures = failed {A = List ℕ} (Err c.in-Err.fault);
+      saves = h.saves;
+      world = world h;
+      stands = rests_on h stands.rests;
+      steps = omega arith;
+      at_end = refl;
+      hands = λ model. (
+        core old,
+        refl,
+        λ r go. from_block c.args.cut c.args.delimiter go c.args.block (core old) _ c.requires.block c.requires.loaded
+            ∙ comes_of h model r (core old) (cuts c.args.cut c.args.delimiter go)
+            ∙ ap (λ f. Ends (Faults f) (core old) (with_run (after (deed h) r) (world h))) (sym c.block_fault.ensures),
+      );
+      cause = h.cause;
+      keeps = h.keeps;
+    }

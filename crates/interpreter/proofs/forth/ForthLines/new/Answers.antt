@@ -1,0 +1,39 @@
+use Rattle.std.proofs.Common.{◌≡◌, ◌∙◌, IsTrue, refl, sym, ap, subst, arith}
+use Rattle.std.proofs.lemmas.Grind.{common_steps}
+use Rattle.data_space.specs.Space.{with_cell}
+use Rattle.journal.specs.Store.{StandsFor, device_of}
+use Rattle.interpreter.specs.Lines.{new_world}
+use Rattle.interpreter.proofs.forth.ForthLines.new.Goals as goal
+
+pub returns-clause-sound : goal.returns-clause-sound
+returns-clause-sound g c = λ m gives.
+    let e = c.in_ok-new-2.ensures.store in (
+      new_world m,
+      record {
+        meant = c.in_ok-new.ensures;
+        held_end = refl;
+        held = refl;
+        buffers = sym c.in_ok-new-2.ensures.buffers;
+        maps = λ model. subst (λ s. StandsFor {D = g.row.D.Denot} {G = g.D.SectorDevice} s m) (sym e) (gives c.into-store.result c.into-store.ensures (subst (λ s. IsTrue (g.D.SectorDevice.keeps_model (device_of s))) e model));
+      },
+    )
+
+pub returns-clause-opens : goal.returns-clause-opens
+returns-clause-opens g c = λ m gives.
+    let e = c.in_ok-new-2.ensures.store in
+    let stands = gives c.into-store.result c.into-store.ensures in
+    let wrote : c.set_cell.new.self ≡ with_cell c.in_ok-space.space 16 10 = grind (arith, common_steps, c.set_cell.ensures.after, c.set_cell.ensures.within) in
+    record {
+      waits = record {
+        budget = refl;
+        likely = record { stack = sym c.new-2.ensures; space = ap (λ l. with_cell l 16 10) (sym c.in_ok-space.ensures.zero) ∙ sym wrote };
+        rests = record {
+          meant = c.in_ok-new.ensures;
+          held_end = refl;
+          held = refl;
+          buffers = sym c.in_ok-new-2.ensures.buffers;
+          maps = λ model. subst (λ s. StandsFor {D = g.row.D.Denot} {G = g.D.SectorDevice} s m) (sym e) stands;
+        };
+      };
+      model = subst (λ s. IsTrue (g.D.SectorDevice.keeps_model (device_of s))) (sym e) stands.model;
+    }

@@ -1,0 +1,198 @@
+-- What each service promises: what comes of the line's value where it is done, and what terminal and device saw of it.
+use Rattle.std.specs.Prelude.{◌≡◌, ℕ, ◌≤◌, Bool, true, false, ◌||◌, List, [], ◌++◌, Option, Some, None, Result, Ok, Err}
+use Rattle.std.specs.Io.KnownBytes.{Appends, Consumes}
+use Rattle.sector_disk.specs.Counting.{HasRisen}
+use Rattle.sector_disk.specs.Moments.{Elapses}
+use Rattle.sector_disk.specs.declared.device.SectorDevice.{Ghosts}
+use Rattle.journal.specs.Maps.{Maps}
+use Rattle.block_words.specs.Words.{Answer, Save}
+use Rattle.block_words.specs.Kept.{last_map}
+use Rattle.block_words.specs.Calls.{CallKeeps}
+use Rattle.cell_machine.specs.Fault.{Ending, Quits, Breaks, Faults}
+use Rattle.cell_machine.specs.Frames.{Core, Around, Level, around_of}
+use Rattle.cell_machine.specs.Value.{Outcome, Did, Ends}
+use Rattle.interpreter.specs.declared.terminal.Terminal.{Ghosts as TerminalGhosts}
+use Rattle.interpreter.specs.declared.fault.Fault.{Fault}
+use Rattle.interpreter.specs.declared.fault.Stop.{Stop}
+use Rattle.interpreter.specs.declared.fault.Stop.TheVariants as stop
+use Rattle.interpreter.specs.declared.forth.Forth.{Forth}
+use Rattle.interpreter.specs.Stops.{fault_of, ending_of}
+use Rattle.interpreter.specs.Deeds.{Deed, before, after, Fits, asking}
+use Rattle.interpreter.specs.Law.{run_after, Grows}
+use Rattle.interpreter.specs.Promise.{HasRisenBy}
+use Rattle.interpreter.specs.State.{World, Run, with_run}
+use Rattle.interpreter.specs.Standing.{core, device, HasModel, Stands, StandsAfter}
+use Rattle.interpreter.specs.Terminal.{AppendsSome}
+
+-- ---- what comes of it
+
+-- Where the line ends, the data stack may be any, since it is cleared: but QUIT leaves it.
+abbrev pub IsLike : Ending → (said is : Core) → Type 0
+IsLike Quits said is = said ≡ is
+IsLike _ said is = said.space ≡ is.space
+
+-- The line ends so. Start is what comes of the line in a run.
+pub record Left (start : Run → Outcome World) (deed : Deed) (e : Ending) (c : Core) (x : World) : Type 0 where
+  pub core : Core
+  pub like : IsLike e core c
+  pub ends : (r : Run) → Fits deed r → start (before deed r) ≡ Ends e core (with_run (after deed r) x)
+
+-- a run that the terminal breaks off
+pub record BreaksOff (start : Run → Outcome World) (deed : Deed) (said : Core) (x : World) (r : Run) : Type 0 where
+  pub run : Run
+  pub ends : start (before deed r) ≡ Ends Breaks said (with_run run x)
+  pub input : run.input ≡ r.input
+  pub saves : run.saves ≡ r.saves ++ deed.saves
+
+-- The terminal fails at the last call: what it was given to print counts as printed. With one that doesn't fail, output and
+-- saves go on from there, without input none comes, and without answers no more failure.
+pub record Broke (start : Run → Outcome World) (deed : Deed) (c : Core) (x : World) : Type 0 where
+  pub core : Core
+  pub like : core.space ≡ c.space
+  pub breaks : (r : Run) → Fits deed r → r.terminal ≡ Some 0 → BreaksOff start deed core x r
+  pub grows : (r : Run) → Fits deed r → r.terminal ≡ None → Grows (after deed r) (run_after (start (before deed r)))
+  pub input : (r : Run) → Fits deed r → r.terminal ≡ None → r.input ≡ [] → (run_after (start (before deed r))).input ≡ []
+  pub answers : (r : Run) → Fits deed r → r.terminal ≡ None → r.answers ≡ [] → (run_after (start (before deed r))).answers ≡ []
+  pub failures : (r : Run) → Fits deed r → r.terminal ≡ None → r.answers ≡ [] → (run_after (start (before deed r))).failures ≡ (after deed r).failures
+
+-- what comes of the line, by how the code left it
+abbrev pub Comes : (start : Run → Outcome World) → Deed → Result (Unit {0}) Stop → Core → World → Type 0
+Comes start deed (Ok _) c x = (r : Run) → Fits deed r → start (before deed r) ≡ Did c (with_run (after deed r) x)
+Comes start deed (Err stop.Io) c x = Broke start deed c x
+Comes start deed (Err s) c x = Left start deed (ending_of s) c x
+
+-- a result of what reaches no terminal
+abbrev pub stopped : {A : Type 0} → Result A Fault → Result A Stop
+stopped (Ok v) = Ok v
+stopped (Err f) = Err (stop.Fault f)
+
+-- a value is handed to what follows, or the line ends
+abbrev pub Hands : {B : Type 0} → (start : Run → (B → Core → World → Outcome World) → Outcome World) → Deed → Result B Fault → Core → World → Type 0
+Hands {B} start deed (Ok v) c x = (r : Run) (go : B → Core → World → Outcome World) → start (before deed r) go ≡ go v c (with_run (after deed r) x)
+Hands {B} start deed (Err f) c x =
+    (said : Core) × (said.space ≡ c.space)
+    × ((r : Run) (go : B → Core → World → Outcome World) → start (before deed r) go ≡ Ends (Faults (fault_of f)) said (with_run (after deed r) x))
+
+-- ---- what terminal and device saw
+
+-- all was printed, or a beginning of it where the terminal failed
+abbrev pub Printed : Result (Unit {0}) Stop → Option (List ℕ) → Option (List ℕ) → List ℕ → Type 0
+Printed (Err stop.Io) output printed bytes = AppendsSome output printed bytes
+Printed _ output printed bytes = Appends output printed bytes
+
+-- Once the line met the end of the input, nothing more is asked of the terminal.
+pub record Heard {T : Type 0} (H : TerminalGhosts T) (result : Result (Unit {0}) Stop) (deed : Deed) (was is : Bool) (old new : T) : Type 0 where
+  pub given : Consumes (H.input old) (H.input new) deed.given
+  pub at_end : was ≡ false → deed.met ≡ true → H.input new ≡ Some []
+  pub met : is ≡ (deed.met || was)
+  pub no_more : was ≡ true → (deed.given ≡ []) × (H.input new ≡ H.input old)
+  pub printed : Printed result (H.output old) (H.output new) deed.printed
+
+-- what a stop may have left since these maps were those of an open store
+pub record MapsKept {D : Type 0} (G : Ghosts D) (m m' : Maps) (old new : D) (made : List Save) : Type 0 where
+  pub kept : CallKeeps G m.closed old new m.saved made
+  pub shuts : m.closed ≡ true → m'.closed ≡ true
+  pub none : m.closed ≡ true → made ≡ []
+  pub last : m'.closed ≡ false → m'.saved ≡ last_map m.saved made
+
+-- P where the terminal failed, else Q
+abbrev pub WhereBroke : Result (Unit {0}) Stop → Type 0 → Type 0 → Type 0
+WhereBroke (Err stop.Io) P Q = P
+WhereBroke _ P Q = Q
+
+-- at any device and terminal
+pub record Lasts {D T : Type 0} (G : Ghosts D) (H : TerminalGhosts T) (result : Result (Unit {0}) Stop) (old new : D) (terminal terminal' : T) : Type 0 where
+  pub time : Elapses G.time G.left_since old new
+  pub model : G.keeps_model new ≡ G.keeps_model old
+  pub device_failures : G.failures old ≤ G.failures new
+  pub terminal_failures : WhereBroke result (HasRisen (H.failures terminal) (H.failures terminal')) (H.failures terminal' ≡ H.failures terminal)
+  pub no_more : H.may_give terminal' ≤ H.may_give terminal
+  pub same : H.identity terminal' ≡ H.identity terminal
+
+-- at any device, where no terminal is reached
+pub record LastsAlone {D : Type 0} (G : Ghosts D) (old new : D) : Type 0 where
+  pub time : Elapses G.time G.left_since old new
+  pub model : G.keeps_model new ≡ G.keeps_model old
+  pub failures : G.failures old ≤ G.failures new
+
+-- ---- the promises
+
+-- what comes of a word where neither terminal nor device is reached
+abbrev pub Gives : (start : Run → Outcome World) → Result (Unit {0}) Fault → Core → World → Type 0
+Gives start (Ok _) c x = (r : Run) → start r ≡ Did c (with_run r x)
+Gives start (Err f) c x = (said : Core) × (said.space ≡ c.space) × ((r : Run) → start r ≡ Ends (Faults (fault_of f)) said (with_run r x))
+
+module _ {D : Type 0} {G : Ghosts D} where
+  -- A part of a line that reaches neither terminal nor device. Start is what comes of the line before it.
+  pub record Altered (start : Run → Outcome World) (result : Result (Unit {0}) Fault) (old new : Forth D G) (levels : List Level) (x : World) : Type 0 where
+    pub world : World
+    pub stands : StandsAfter result new levels world
+    pub gives : Gives start result (core new) world
+    pub maps : world.maps ≡ x.maps
+    pub steps : new.steps ≤ old.steps
+
+  -- a service that reaches neither terminal nor device
+  abbrev pub Alters : (does : Around → Core → World → Outcome World) → (result : Result (Unit {0}) Fault) → (old new : Forth D G) → Type 0
+  Alters does result old new =
+      (levels : List Level) (x : World) → Stands old levels x
+      → Altered (λ r. does (around_of levels) (core old) (with_run r x)) result old new levels x
+
+  -- A part of a line that may reach the device, and no terminal.
+  pub record Consulted (start : Run → Outcome World) (result : Result (Unit {0}) Fault) (old new : Forth D G) (levels : List Level) (x : World) : Type 0 where
+    pub answers : List Answer
+    pub failures : ℕ
+    pub saves : List Save
+    pub world : World
+    pub stands : StandsAfter result new levels world
+    pub steps : new.steps ≤ old.steps
+    pub at_end : new.at_end ≡ old.at_end
+    pub comes : HasModel old → Comes start (asking answers failures saves) (stopped result) (core new) world
+    pub cause : HasRisenBy failures (G.failures (device old)) (G.failures (device new))
+    pub keeps : HasModel old → MapsKept G x.maps world.maps (device old) (device new) saves
+
+  abbrev pub Consults : (does : Around → Core → World → Outcome World) → (result : Result (Unit {0}) Fault) → (old new : Forth D G) → Type 0
+  Consults does result old new =
+      (levels : List Level) (x : World) → Stands old levels x
+      → Consulted (λ r. does (around_of levels) (core old) (with_run r x)) result old new levels x
+
+  -- The same of what gives a value to the rest of the line, as a taking from the stream does.
+  pub record Handed {B : Type 0} (start : Run → (B → Core → World → Outcome World) → Outcome World) (result : Result B Fault) (old new : Forth D G) (levels : List Level) (x : World) : Type 0 where
+    pub answers : List Answer
+    pub failures : ℕ
+    pub saves : List Save
+    pub world : World
+    pub stands : StandsAfter result new levels world
+    pub steps : new.steps ≤ old.steps
+    pub at_end : new.at_end ≡ old.at_end
+    pub hands : HasModel old → Hands start (asking answers failures saves) result (core new) world
+    pub cause : HasRisenBy failures (G.failures (device old)) (G.failures (device new))
+    pub keeps : HasModel old → MapsKept G x.maps world.maps (device old) (device new) saves
+
+  abbrev pub HandsOn : {B : Type 0} → (takes : Core → World → (B → Core → World → Outcome World) → Outcome World) → (result : Result B Fault) → (old new : Forth D G) → Type 0
+  HandsOn {B} takes result old new =
+      (levels : List Level) (x : World) → Stands old levels x
+      → Handed (λ r go. takes (core old) (with_run r x) go) result old new levels x
+
+  -- it leaves these alone at any device
+  pub record Spares (old new : Forth D G) : Type 0 where
+    pub device : new.blocks ≡ old.blocks
+    pub at_end : new.at_end ≡ old.at_end
+    pub budget : new.budget ≡ old.budget
+
+module _ {D T : Type 0} {G : Ghosts D} (H : TerminalGhosts T) where
+  -- A part of a line, from what the system stands for: what comes of the line before it, and after it.
+  pub record Ran (start : Run → Outcome World) (result : Result (Unit {0}) Stop) (old new : Forth D G) (terminal terminal' : T) (levels : List Level) (x : World) : Type 0 where
+    pub deed : Deed
+    pub world : World
+    pub stands : StandsAfter result new levels world
+    pub steps : new.steps ≤ old.steps
+    pub comes : HasModel old → Comes start deed result (core new) world
+    pub heard : Heard H result deed old.at_end new.at_end terminal terminal'
+    pub cause : HasRisenBy deed.failures (G.failures (device old)) (G.failures (device new))
+    pub keeps : HasModel old → MapsKept G x.maps world.maps (device old) (device new) deed.saves
+
+  -- a service
+  abbrev pub Serves : (does : Around → Core → World → Outcome World) → (result : Result (Unit {0}) Stop) → (old new : Forth D G) → (terminal terminal' : T) → Type 0
+  Serves does result old new terminal terminal' =
+      (levels : List Level) (x : World) → Stands old levels x
+      → Ran (λ r. does (around_of levels) (core old) (with_run r x)) result old new terminal terminal' levels x

@@ -1,0 +1,60 @@
+-- What a system stands for within a line.
+use Rattle.std.specs.Prelude.{◌≡◌, List, IsTrue, Result, Ok, Err}
+use Rattle.sector_disk.specs.declared.device.SectorDevice.{Ghosts}
+use Rattle.journal.specs.Store.{StandsFor, device_of}
+use Rattle.block_words.specs.Parts.{store_of, buffers_of}
+use Rattle.cell_machine.specs.Frames.{Core, Level}
+use Rattle.interpreter.specs.State.{World}
+use Rattle.lexicon.specs.Stands.{Stands as Means, IsLeft}
+use Rattle.interpreter.specs.Lexicon.{language_of}
+use Rattle.stacks.specs.declared.return_stack.Entry.{Entry}
+use Rattle.block_words.specs.declared.Blocks.{Blocks}
+use Rattle.cell_machine.specs.Events.{Doing}
+use Rattle.lexicon.specs.declared.Lexicon.{Lexicon}
+use Rattle.interpreter.specs.declared.forth.Picture.{Picture}
+use Rattle.interpreter.specs.declared.forth.Forth.{Forth}
+
+module _ {D : Type 0} {G : Ghosts D} where
+  abbrev pub device : Forth D G → D
+  device forth = device_of (store_of forth.blocks)
+
+  -- the device keeps the disk model
+  abbrev pub HasModel : Forth D G → Type 0
+  HasModel forth = IsTrue (G.keeps_model (device forth))
+
+  -- data stack, data space and the steps that are left
+  abbrev pub core : Forth D G → Core
+  core forth = record { stack = forth.stack; space = forth.space; steps = forth.steps }
+
+  -- The rest of the state, in any run. Over a device that doesn't keep the disk model the maps may be any.
+  pub record RestsIn (lexicon : Lexicon) (picture : Picture) (blocks : Blocks D G) (x : World) : Type 0 where
+    pub meant : Means lexicon (language_of x)
+    pub held_end : x.held_end ≡ picture.end
+    pub held : x.held ≡ picture.held
+    pub buffers : x.buffers ≡ buffers_of blocks
+    pub maps : IsTrue (G.keeps_model (device_of (store_of blocks))) → StandsFor (store_of blocks) x.maps
+
+  -- and what is left to do
+  pub record StandsIn (lexicon : Lexicon) (machine : Doing) (returns : List Entry) (picture : Picture) (blocks : Blocks D G) (levels : List Level) (x : World) : Type 0 where
+    pub rests : RestsIn lexicon picture blocks x
+    pub left : IsLeft lexicon (language_of x) machine returns levels
+
+  -- the world, as it is while nothing is said of what is left to do
+  abbrev pub Rests : Forth D G → World → Type 0
+  Rests forth x = RestsIn forth.lexicon forth.picture forth.blocks x
+
+  abbrev pub Stands : Forth D G → List Level → World → Type 0
+  Stands forth levels x = StandsIn forth.lexicon forth.machine forth.returns forth.picture forth.blocks levels x
+
+  -- where the line ended nothing is known of what was left to do
+  abbrev pub StandsAfter : {A E : Type 0} → Result A E → Forth D G → List Level → World → Type 0
+  StandsAfter (Ok _) forth levels x = Stands forth levels x
+  StandsAfter (Err _) forth levels x = Rests forth x
+
+  -- something stands there to go on with
+  abbrev pub IsSound : Forth D G → Type 0
+  IsSound forth = (levels : List Level) × (x : World) × Stands forth levels x
+
+  -- the same between two lines
+  abbrev pub IsAtRest : Forth D G → Type 0
+  IsAtRest forth = (x : World) × Rests forth x

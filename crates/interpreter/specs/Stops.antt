@@ -1,0 +1,43 @@
+-- The stops of the code, as the endings of the definitions.
+use Rattle.cell_machine.specs.Fault as fault
+use Rattle.cell_machine.specs.Fault.{Ending, Faults, Quits, Aborts, Breaks}
+use Rattle.interpreter.specs.declared.fault.Fault.{Fault}
+use Rattle.interpreter.specs.declared.fault.Fault.TheVariants as found
+use Rattle.interpreter.specs.declared.fault.Stop.{Stop}
+use Rattle.interpreter.specs.declared.fault.Stop.TheVariants as stop
+
+abbrev pub fault_of : Fault → fault.Fault
+fault_of found.Undefined = fault.Fault.Undefined
+fault_of found.StackEmpty = fault.Fault.StackEmpty
+fault_of found.StackFull = fault.Fault.StackFull
+fault_of found.ReturnStack = fault.Fault.ReturnStack
+fault_of found.Address = fault.Fault.Address
+fault_of found.Division = fault.Fault.Division
+fault_of found.Base = fault.Fault.Base
+fault_of found.Number = fault.Fault.Number
+fault_of found.Name = fault.Fault.Name
+fault_of found.CompileOnly = fault.Fault.CompileOnly
+fault_of found.NoDefinition = fault.Fault.NoDefinition
+fault_of found.Unbalanced = fault.Fault.Unbalanced
+fault_of found.DefinitionOpen = fault.Fault.DefinitionOpen
+fault_of found.Token = fault.Fault.Token
+fault_of found.Protected = fault.Fault.Protected
+fault_of found.DictionaryFull = fault.Fault.DictionaryFull
+fault_of found.CodeFull = fault.Fault.CodeFull
+fault_of found.DataSpace = fault.Fault.DataSpace
+fault_of found.Hold = fault.Fault.Hold
+fault_of found.NoBlock = fault.Fault.NoBlock
+fault_of found.NoBuffer = fault.Fault.NoBuffer
+fault_of found.LoadDepth = fault.Fault.LoadDepth
+fault_of found.Steps = fault.Fault.Steps
+fault_of found.Device = fault.Fault.Device
+fault_of found.Closed = fault.Fault.Closed
+fault_of found.Memory = fault.Fault.Memory
+fault_of found.LineLength = fault.Fault.LineLength
+fault_of found.EndOfInput = fault.Fault.EndOfInput
+
+abbrev pub ending_of : Stop → Ending
+ending_of (stop.Fault f) = Faults (fault_of f)
+ending_of stop.Quit = Quits
+ending_of stop.Abort = Aborts
+ending_of stop.Io = Breaks

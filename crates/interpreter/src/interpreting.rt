@@ -1,0 +1,105 @@
+//! The text interpreter: a line's loop over what the machine asks for and what the stream holds.
+ghost use Rattle.std.specs.Prelude.{◌≡◌};
+ghost use Rattle.cell_machine.specs.Events.{fault_of as machine_fault_of};
+ghost use Rattle.interpreter.specs.Stops.{fault_of};
+
+use crate::fault::{Fault, Stop};
+use crate::forth::Forth;
+use crate::terminal::Terminal;
+use cell_machine::event::{Event, MachineFault};
+use lexicon::laws::services;
+use sector_disk::SectorDevice;
+
+/// What a turn of the loop leaves to do.
+#[derive(Clone, Copy, Debug, PartialEq, Eq)]
+pub enum Turn {
+    /// What the machine's place and the return stack say, and then the text.
+    GoesOn,
+    /// The line's text is at its end.
+    Over,
+}
+
+/// The fault that the machine found.
+fn machine_fault(fault: MachineFault) -> Fault
+    ensures { fault_of result ≡ machine_fault_of fault }
+{
+    match fault {
+        MachineFault::StackEmpty => Fault::StackEmpty,
+        MachineFault::StackFull => Fault::StackFull,
+        MachineFault::ReturnStack => Fault::ReturnStack,
+        MachineFault::Address => Fault::Address,
+        MachineFault::Division => Fault::Division,
+        MachineFault::Steps => Fault::Steps,
+    }
+}
+
+impl<D: SectorDevice> Forth<D> {
+    ghost use Rattle.std.specs.Prelude.{◌≡◌, ◌<◌, ◌≤◌, ℕ, List, [], None};
+    ghost use Rattle.cell_machine.specs.Frames.{Level};
+    ghost use Rattle.interpreter.specs.Law.{left};
+    ghost use Rattle.interpreter.specs.State.{World, with_run};
+    ghost use Rattle.interpreter.specs.Standing.{core, device, Stands, IsSound};
+    ghost use Rattle.interpreter.specs.Serving.{Ran, Lasts};
+    ghost use Rattle.interpreter.specs.Turns.{Turned, LastsTurn, weight, GoesDown, IsAtText};
+
+    /// What is left to do in the machine, up to what it asks for; and that, or a word of the text.
+    pub(crate) fn turn<T: Terminal>(&mut self, terminal: &mut T) -> Result<Turn, Stop>
+        requires sound { IsSound self.old }
+        ensures turned { (n : ℕ) (levels : List Level) (x : World) → self.old.steps < n → Stands self.old levels x
+            → Turned T.Terminal n (λ r. left n levels (core self.old) (with_run r x)) result self.old self.new terminal.old terminal.new x }
+        ensures down { GoesDown result (weight self.old) (weight self.new) }
+        ensures lasts { LastsTurn D.SectorDevice T.Terminal result (device self.old) (device self.new) terminal.old terminal.new }
+        ensures budget { self.new.budget ≡ self.old.budget }
+    {
+        services();
+        let event = self.lexicon.resume(
+            &mut self.machine,
+            &mut self.stack,
+            &mut self.returns,
+            &mut self.space,
+            &mut self.steps,
+        );
+        match event {
+            Event::Done => self.read(terminal),
+            Event::Service(op) => self.serve(op, terminal),
+            Event::Fault(fault) => Err(Stop::Fault(machine_fault(fault))),
+            Event::Quit => Err(Stop::Quit),
+            Event::Abort => Err(Stop::Abort),
+        }
+    }
+
+    /// A word of the text, or its end: then the load that it belongs to is over, or the line's text is. It reaches no
+    /// terminal.
+    pub(crate) fn read<T: Terminal>(&mut self, terminal: &mut T) -> Result<Turn, Stop>
+        requires sound { IsSound self.old }
+        requires idle { self.old.machine.pending ≡ None }
+        ensures turned { (n : ℕ) (levels : List Level) (x : World) → self.old.steps < n → Stands self.old levels x → IsAtText levels
+            → Turned T.Terminal n (λ r. left n levels (core self.old) (with_run r x)) result self.old self.new terminal.old terminal.new x }
+        ensures down { GoesDown result (weight self.old) (weight self.new) }
+        ensures lasts { LastsTurn D.SectorDevice T.Terminal result (device self.old) (device self.new) terminal.old terminal.new }
+        ensures budget { self.new.budget ≡ self.old.budget }
+    {
+        let _ = terminal;
+        match self.advance() {
+            Ok(turn) => Ok(turn),
+            Err(fault) => Err(Stop::Fault(fault)),
+        }
+    }
+
+    /// All that is left to do, and the text to its end.
+    pub(crate) fn interpret<T: Terminal>(&mut self, terminal: &mut T) -> Result<(), Stop>
+        requires sound { IsSound self.old }
+        ensures ran { (n : ℕ) (levels : List Level) (x : World) → self.old.steps < n → Stands self.old levels x
+            → Ran T.Terminal (λ r. left n levels (core self.old) (with_run r x)) result self.old self.new terminal.old terminal.new [] x }
+        ensures lasts { Lasts D.SectorDevice T.Terminal result (device self.old) (device self.new) terminal.old terminal.new }
+        ensures budget { self.new.budget ≡ self.old.budget }
+    {
+        'turns: loop {
+            match self.turn(terminal) {
+                Ok(Turn::GoesOn) => {}
+                Ok(Turn::Over) => return Ok(()),
+                Err(stop) => return Err(stop),
+            }
+        }
+    }
+}

@@ -1,0 +1,220 @@
+//! A line and its reply.
+ghost use Rattle.std.specs.Prelude.{◌≡◌, ◌++◌, ◌∷◌, [], ◌≤◌, ◌+◌, length, codes};
+ghost use Rattle.arrayvec.specs.ArrayVec.{array_vec_len};
+ghost use Rattle.interpreter.specs.FaultNames.{fault_name};
+ghost use Rattle.interpreter.specs.Stops.{fault_of};
+
+use crate::fault::{Fault, Stop};
+use crate::forth::Forth;
+use crate::system_cells::{BLK, STATE, TIB, TIB_COUNT, TO_IN};
+use crate::terminal::{IoFault, Terminal};
+use arrayvec::ArrayVec;
+use cell_machine::machine::Machine;
+use sector_disk::SectorDevice;
+
+/// The most bytes of a line.
+const LINE_LIMIT: usize = 1024;
+
+/// How a reply ends after a fault.
+fn fault_text(fault: Fault) -> ArrayVec<u8, 32>
+    ensures { result.items ≡ codes " ? " ++ (fault_name (fault_of fault) ++ 10 ∷ []) }
+{
+    let mut text = ArrayVec::new();
+    append(&mut text, b" ? ");
+    append(&mut text, fault.name().as_bytes());
+    append(&mut text, b"\n");
+    text
+}
+
+fn append(text: &mut ArrayVec<u8, 32>, bytes: &[u8])
+    requires { array_vec_len text.old + length bytes.now ≤ 32 }
+    ensures { text.new.items ≡ text.old.items ++ bytes.now }
+{
+    let _ = text.try_extend_from_slice(bytes);
+}
+
+/// How a line ends.
+#[derive(Clone, Copy, Debug, PartialEq, Eq)]
+pub enum LineEnd {
+    /// The reply ended in ` ok`.
+    Interpreting,
+    /// A definition is compiled.
+    Compiling,
+    /// `QUIT`, `ABORT` or a true `ABORT"`.
+    Quit,
+    /// The reply ended in the fault's name.
+    Fault(Fault),
+    /// The terminal failed, and the reply may be cut anywhere.
+    Io,
+}
+
+impl<D: SectorDevice> Forth<D> {
+    ghost use Rattle.std.specs.Prelude.{ℕ, List, [], false};
+    ghost use Rattle.cell_machine.specs.Frames.{Core};
+    ghost use Rattle.cell_machine.specs.Fault.{Quits, Aborts};
+    ghost use Rattle.cell_machine.specs.Value.{Ends};
+    ghost use Rattle.interpreter.specs.Terminals.{print};
+    ghost use Rattle.interpreter.specs.Text.{compiling};
+    ghost use Rattle.interpreter.specs.Lines.{replied, ended, after_fault, end_of_line, at_rest, dropped, with_empty_stack, with_line, line};
+    ghost use Rattle.interpreter.specs.State.{World, Forth as Abstract, with_run};
+    ghost use Rattle.interpreter.specs.Standing.{core, device, Rests, IsAtRest, Stands};
+    ghost use Rattle.interpreter.specs.Lining.{Lined, LastsLine, line_end, IsLikely, HasSpace, Waits, IsSystem, is_broken};
+    ghost use Rattle.block_words.specs.Words.{Save};
+    ghost use Rattle.interpreter.specs.Promise.{Answers, Keeps};
+    ghost use Rattle.interpreter.specs.Serving.{Spares};
+
+    /// STATE and BLK are 0, and no definition is open.
+    fn close(&mut self)
+        ensures closes { (x : World) → Rests self.old x → Rests self.new (dropped x) }
+        ensures space { (c : Core) → HasSpace c self.old → HasSpace (at_rest c) self.new }
+        ensures stack { self.new.stack ≡ self.old.stack }
+        ensures spares { Spares self.old self.new }
+        ensures budget { self.new.budget ≡ self.old.budget }
+    {
+        self.space.set_cell(STATE, 0);
+        self.space.set_cell(BLK, 0);
+        self.lexicon.abandon();
+    }
+
+    /// The same, and the data stack is empty.
+    fn abandon(&mut self)
+        ensures closes { (x : World) → Rests self.old x → Rests self.new (dropped x) }
+        ensures likely { (c : Core) → HasSpace c self.old → IsLikely (with_empty_stack (at_rest c)) self.new }
+        ensures spares { Spares self.old self.new }
+        ensures budget { self.new.budget ≡ self.old.budget }
+    {
+        self.close();
+        self.stack.clear();
+    }
+
+    /// Prints the end of the reply.
+    fn say<T: Terminal>(&mut self, bytes: &[u8], end: LineEnd, terminal: &mut T) -> LineEnd
+        requires { is_broken end ≡ false }
+        ensures lined { (c : Core) (x : World) → IsLikely c self.old → Rests self.old x
+            → Lined T.Terminal (λ r. replied (line_end end) (print bytes.now c (with_run r x))) result self.old.at_end self.old self.new terminal.old terminal.new x }
+        ensures lasts { LastsLine D.SectorDevice T.Terminal result (device self.old) (device self.new) terminal.old terminal.new }
+        ensures budget { self.new.budget ≡ self.old.budget }
+    {
+        match terminal.emit(bytes) {
+            Ok(()) => end,
+            Err(IoFault) => {
+                self.abandon();
+                LineEnd::Io
+            }
+        }
+    }
+
+    /// The end of a line that a fault stopped.
+    fn fail<T: Terminal>(&mut self, fault: Fault, terminal: &mut T) -> LineEnd
+        ensures lined { (c : Core) (x : World) → HasSpace c self.old → Rests self.old x
+            → Lined T.Terminal (λ r. after_fault (fault_of fault) c (with_run r x)) result self.old.at_end self.old self.new terminal.old terminal.new x }
+        ensures lasts { LastsLine D.SectorDevice T.Terminal result (device self.old) (device self.new) terminal.old terminal.new }
+        ensures budget { self.new.budget ≡ self.old.budget }
+    {
+        self.abandon();
+        let text = fault_text(fault);
+        self.say(text.as_slice(), LineEnd::Fault(fault), terminal)
+    }
+
+    /// The end of a line that `QUIT` left: the data stack stays.
+    fn quit<T: Terminal>(&mut self, terminal: &mut T) -> LineEnd
+        ensures lined { (c : Core) (x : World) → IsLikely c self.old → Rests self.old x
+            → Lined T.Terminal (λ r. ended (Ends Quits c (with_run r x))) result self.old.at_end self.old self.new terminal.old terminal.new x }
+        ensures lasts { LastsLine D.SectorDevice T.Terminal result (device self.old) (device self.new) terminal.old terminal.new }
+        ensures budget { self.new.budget ≡ self.old.budget }
+    {
+        self.close();
+        self.say(b"\n", LineEnd::Quit, terminal)
+    }
+
+    /// The end of a line that `ABORT` left.
+    fn abort<T: Terminal>(&mut self, terminal: &mut T) -> LineEnd
+        ensures lined { (c : Core) (x : World) → HasSpace c self.old → Rests self.old x
+            → Lined T.Terminal (λ r. ended (Ends Aborts c (with_run r x))) result self.old.at_end self.old self.new terminal.old terminal.new x }
+        ensures lasts { LastsLine D.SectorDevice T.Terminal result (device self.old) (device self.new) terminal.old terminal.new }
+        ensures budget { self.new.budget ≡ self.old.budget }
+    {
+        self.abandon();
+        self.say(b"\n", LineEnd::Quit, terminal)
+    }
+
+    /// Is a definition compiled?
+    pub(crate) fn is_compiling(&self) -> bool
+        ensures { result ≡ compiling (core self.now) }
+    {
+        self.space.cell(STATE) != Some(0)
+    }
+
+    /// The end of a line whose text came to its end.
+    fn finish<T: Terminal>(&mut self, terminal: &mut T) -> LineEnd
+        ensures lined { (c : Core) (x : World) → IsLikely c self.old → Rests self.old x
+            → Lined T.Terminal (λ r. end_of_line (compiling c) c (with_run r x)) result self.old.at_end self.old self.new terminal.old terminal.new x }
+        ensures lasts { LastsLine D.SectorDevice T.Terminal result (device self.old) (device self.new) terminal.old terminal.new }
+        ensures budget { self.new.budget ≡ self.old.budget }
+    {
+        if self.is_compiling() {
+            self.say(b"\n", LineEnd::Compiling, terminal)
+        } else {
+            self.say(b" ok\n", LineEnd::Interpreting, terminal)
+        }
+    }
+
+    /// Puts the line into the text input buffer.
+    fn take_line(&mut self, text: &[u8])
+        requires short { length text.now ≤ 1024 }
+        ensures stands { (x : World) → Rests self.old x → Stands self.new [] x }
+        ensures taken { (c : Core) → IsLikely c self.old → core self.new ≡ with_line text.now self.old.budget c }
+        ensures steps { self.new.steps ≡ self.old.budget }
+        ensures device { self.new.blocks ≡ self.old.blocks }
+        ensures at_end { self.new.at_end ≡ self.old.at_end }
+        ensures budget { self.new.budget ≡ self.old.budget }
+    {
+        self.machine = Machine::new();
+        self.returns.clear();
+        self.steps = self.budget;
+        self.space.set_bytes(TIB, text);
+        self.space.set_cell(TIB_COUNT, text.len() as u16);
+        self.space.set_cell(TO_IN, 0);
+        self.space.set_cell(BLK, 0);
+    }
+
+    /// Interprets a line of text, and writes the whole reply to the terminal.
+    pub(crate) fn promised<T: Terminal>(&mut self, text: &[u8], terminal: &mut T) -> LineEnd
+        requires sound { IsAtRest self.old }
+        ensures sound { IsAtRest self.new }
+        ensures runs { (opening : Abstract) → IsSystem self.old opening
+            → (closing : Abstract) × (made : List Save) × IsSystem self.new closing
+            × Answers (line_end result) opening text.now closing
+            (T.input terminal.old) (T.input terminal.new) (T.output terminal.old) (T.output terminal.new)
+            (D.failures (device self.old)) (D.failures (device self.new)) made
+            × Keeps D.SectorDevice opening closing (device self.old) (device self.new) made }
+        ensures lasts { LastsLine D.SectorDevice T.Terminal result (device self.old) (device self.new) terminal.old terminal.new }
+    {
+        self.line(text, terminal)
+    }
+
+    /// The same, run by run.
+    fn line<T: Terminal>(&mut self, text: &[u8], terminal: &mut T) -> LineEnd
+        requires sound { IsAtRest self.old }
+        ensures lined { (opening : Abstract) → Waits opening self.old
+            → Lined T.Terminal (λ r. line opening text.now r) result false self.old self.new terminal.old terminal.new opening.world }
+        ensures lasts { LastsLine D.SectorDevice T.Terminal result (device self.old) (device self.new) terminal.old terminal.new }
+        ensures budget { self.new.budget ≡ self.old.budget }
+    {
+        self.at_end = false;
+        if text.len() > LINE_LIMIT {
+            return self.fail(Fault::LineLength, terminal);
+        }
+        self.take_line(text);
+        match self.interpret(terminal) {
+            Ok(()) => self.finish(terminal),
+            Err(Stop::Fault(fault)) => self.fail(fault, terminal),
+            Err(Stop::Quit) => self.quit(terminal),
+            Err(Stop::Abort) => self.abort(terminal),
+            Err(Stop::Io) => {
+                self.abandon();
+                LineEnd::Io
+            }
+        }
+    }
+}

@@ -1,0 +1,15 @@
+//! The services that the machine asks for, by families.
+mod compiling_words;
+mod entering;
+pub(crate) mod looking;
+mod naming_words;
+mod operands;
+mod parse_words;
+mod picture_words;
+mod reading;
+mod reading_words;
+mod serving;
+pub mod table;
+pub(crate) mod taking;
+mod terminal_words;
+mod words_on_blocks;

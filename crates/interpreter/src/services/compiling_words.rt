@@ -1,0 +1,227 @@
+//! Words on the open definition.
+ghost use Rattle.std.specs.Prelude.{◌≡◌, ◌≤◌, ◌<◌, ℕ, List, take, Ok};
+ghost use Rattle.interpreter.specs.Stops.{fault_of};
+ghost use Rattle.compiler.specs.Promise.{fault_of as compile_fault_of};
+ghost use Rattle.lexicon.specs.Promise.{fault_of as refusal_fault_of};
+
+use crate::fault::Fault;
+use crate::forth::Forth;
+use crate::system_cells::STATE;
+use lexicon::{CompileRefusal, Refusal, Structure, TextKind};
+use sector_disk::SectorDevice;
+
+/// Why the open definition refused something, as the line says it.
+pub(crate) fn compile_fault(refusal: CompileRefusal) -> Fault
+    ensures { fault_of result ≡ compile_fault_of refusal }
+{
+    match refusal {
+        CompileRefusal::NoDefinition => Fault::NoDefinition,
+        CompileRefusal::DefinitionOpen => Fault::DefinitionOpen,
+        CompileRefusal::Unbalanced => Fault::Unbalanced,
+        CompileRefusal::CodeFull => Fault::CodeFull,
+    }
+}
+
+/// Why the lexicon refused something, as the line says it.
+pub(crate) fn lexicon_fault(refusal: Refusal) -> Fault
+    ensures { fault_of result ≡ refusal_fault_of refusal }
+{
+    match refusal {
+        Refusal::DefinitionOpen => Fault::DefinitionOpen,
+        Refusal::Name => Fault::Name,
+        Refusal::DictionaryFull => Fault::DictionaryFull,
+        Refusal::Protected => Fault::Protected,
+        Refusal::Token => Fault::Token,
+    }
+}
+
+impl<D: SectorDevice> Forth<D> {
+    ghost use Rattle.cell_machine.specs.Words.{Literal, Semicolon, Colon, CompileTick, BracketCompile};
+    ghost use Rattle.cell_machine.specs.Layout.{most_tokens};
+    ghost use Rattle.compiler.specs.Definition.{add_literal, add_text};
+    ghost use Rattle.compiler.specs.Promise.{kind_of};
+    ghost use Rattle.lexicon.specs.Adding.{MayBeAdded};
+    ghost use Rattle.interpreter.specs.Compiling.{begun};
+    ghost use Rattle.interpreter.specs.Compiling.{on_compile, changing, compile_word, compile_text};
+    ghost use Rattle.interpreter.specs.Compiled.{structure_word};
+    ghost use Rattle.cell_machine.specs.Tree.{Trees};
+    ghost use Rattle.cell_machine.specs.Frames.{Level};
+    ghost use Rattle.interpreter.specs.State.{World, with_run};
+    ghost use Rattle.interpreter.specs.Lexicon.{language_of};
+    ghost use Rattle.interpreter.specs.Naming.{give_part};
+    ghost use Rattle.interpreter.specs.Standing.{core, device, Stands};
+    ghost use Rattle.interpreter.specs.Serving.{Alters, Altered, Spares, Consults, LastsAlone};
+    ghost use Rattle.lexicon.specs.Stands.{IsSound, IsPart};
+
+    /// A structure word, or `DOES>`.
+    pub(crate) fn structure(&mut self, structure: Structure) -> Result<(), Fault>
+        requires sound { IsSound self.old.lexicon }
+        ensures alters { Alters (λ a c x. on_compile (structure_word structure) c x) result self.old self.new }
+        ensures spares { Spares self.old self.new }
+    {
+        match self.lexicon.add_structure(structure) {
+            Ok(()) => Ok(()),
+            Err(refusal) => Err(compile_fault(refusal)),
+        }
+    }
+
+    /// A literal in the open definition.
+    pub(crate) fn add_literal(&mut self, cell: u16) -> Result<(), Fault>
+        requires sound { IsSound self.old.lexicon }
+        ensures alters { Alters (λ a c x. changing (λ used. add_literal used cell) c x) result self.old self.new }
+        ensures spares { Spares self.old self.new }
+    {
+        match self.lexicon.literal(cell) {
+            Ok(()) => Ok(()),
+            Err(refusal) => Err(compile_fault(refusal)),
+        }
+    }
+
+    /// A word in the open definition, as `COMPILE` adds it when it runs.
+    pub(crate) fn add_word(&mut self, token: u16) -> Result<(), Fault>
+        requires sound { IsSound self.old.lexicon }
+        requires from { 0 < token }
+        requires most { token ≤ most_tokens }
+        ensures alters { Alters (λ a c x. compile_word token c x) result self.old self.new }
+        ensures spares { Spares self.old self.new }
+    {
+        match self.lexicon.compile(token) {
+            Ok(()) => Ok(()),
+            Err(refusal) => Err(compile_fault(refusal)),
+        }
+    }
+
+    /// `LITERAL`.
+    pub(crate) fn literal(&mut self) -> Result<(), Fault>
+        requires sound { IsSound self.old.lexicon }
+        ensures alters { Alters (λ a c x. on_compile Literal c x) result self.old self.new }
+        ensures spares { Spares self.old self.new }
+    {
+        if !self.lexicon.is_open() {
+            return Err(Fault::NoDefinition);
+        }
+        match self.stack.pop() {
+            Ok(cell) => self.add_literal(cell),
+            Err(_) => Err(Fault::StackEmpty),
+        }
+    }
+
+    /// `;`.
+    pub(crate) fn semicolon(&mut self) -> Result<(), Fault>
+        requires sound { IsSound self.old.lexicon }
+        ensures alters { Alters (λ a c x. on_compile Semicolon c x) result self.old self.new }
+        ensures spares { Spares self.old self.new }
+    {
+        match self.lexicon.finish() {
+            Ok(()) => {
+                self.space.set_cell(STATE, 0);
+                Ok(())
+            }
+            Err(refusal) => Err(compile_fault(refusal)),
+        }
+    }
+
+    /// Gives the most recent word the part at a place, as `DOES>` does where its word runs.
+    pub(crate) fn give_part(&mut self, place: u16) -> Result<(), Fault>
+        requires sound { IsSound self.old.lexicon }
+        ensures alters { (owner : ℕ) (parts : List Trees) (levels : List Level) (x : World) → Stands self.old levels x → IsPart self.old.lexicon (language_of x) place owner parts
+            → Altered (λ r. give_part (record { owner = owner; parts = parts }) (core self.old) (with_run r x)) result self.old self.new levels x }
+        ensures spares { Spares self.old self.new }
+        ensures steps { self.new.steps ≡ self.old.steps }
+        ensures returns { self.new.returns ≡ self.old.returns }
+    {
+        match self.lexicon.give_part(place) {
+            Ok(()) => Ok(()),
+            Err(refusal) => Err(lexicon_fault(refusal)),
+        }
+    }
+
+    /// Begins a definition of the name that was taken.
+    fn begin(&mut self, count: usize)
+        requires sound { IsSound self.old.lexicon }
+        requires within { count ≤ 1024 }
+        requires fits { MayBeAdded self.old.lexicon (take count self.old.text) }
+        ensures alters { Alters (λ a c x. begun (take count self.old.text) c x) (Ok tt) self.old self.new }
+        ensures spares { Spares self.old self.new }
+    {
+        let _ = self.lexicon.begin(&self.text[..count]);
+        self.space.set_cell(STATE, 65535);
+    }
+
+    /// `:`.
+    pub(crate) fn colon(&mut self) -> Result<(), Fault>
+        requires sound { IsSound self.old.lexicon }
+        ensures consults { Consults (λ a c x. on_compile Colon c x) result self.old self.new }
+        ensures lasts { LastsAlone D.SectorDevice (device self.old) (device self.new) }
+        ensures budget { self.new.budget ≡ self.old.budget }
+    {
+        match self.take_new_word() {
+            Ok(count) => {
+                self.begin(count);
+                Ok(())
+            }
+            Err(fault) => Err(fault),
+        }
+    }
+
+    /// `[']`.
+    pub(crate) fn compile_tick(&mut self) -> Result<(), Fault>
+        requires sound { IsSound self.old.lexicon }
+        ensures consults { Consults (λ a c x. on_compile CompileTick c x) result self.old self.new }
+        ensures lasts { LastsAlone D.SectorDevice (device self.old) (device self.new) }
+        ensures budget { self.new.budget ≡ self.old.budget }
+    {
+        if !self.lexicon.is_open() {
+            return Err(Fault::NoDefinition);
+        }
+        match self.take_token() {
+            Ok(token) => self.add_literal(token),
+            Err(fault) => Err(fault),
+        }
+    }
+
+    /// `[COMPILE]`.
+    pub(crate) fn bracket_compile(&mut self) -> Result<(), Fault>
+        requires sound { IsSound self.old.lexicon }
+        ensures consults { Consults (λ a c x. on_compile BracketCompile c x) result self.old self.new }
+        ensures lasts { LastsAlone D.SectorDevice (device self.old) (device self.new) }
+        ensures budget { self.new.budget ≡ self.old.budget }
+    {
+        if !self.lexicon.is_open() {
+            return Err(Fault::NoDefinition);
+        }
+        match self.take_token() {
+            Ok(token) => self.add_word(token),
+            Err(fault) => Err(fault),
+        }
+    }
+
+    /// The text that was taken, in the open definition.
+    fn add_text(&mut self, kind: TextKind, count: usize) -> Result<(), Fault>
+        requires sound { IsSound self.old.lexicon }
+        requires within { count ≤ 1024 }
+        ensures alters { Alters (λ a c x. changing (λ used. add_text used (kind_of kind) (take count self.old.text)) c x) result self.old self.new }
+        ensures spares { Spares self.old self.new }
+    {
+        match self.lexicon.add_text(kind, &self.text[..count]) {
+            Ok(()) => Ok(()),
+            Err(refusal) => Err(compile_fault(refusal)),
+        }
+    }
+
+    /// `."` and `ABORT"`, which take their texts up to a quotation mark.
+    pub(crate) fn compile_text(&mut self, kind: TextKind) -> Result<(), Fault>
+        requires sound { IsSound self.old.lexicon }
+        ensures consults { Consults (λ a c x. compile_text (kind_of kind) c x) result self.old self.new }
+        ensures lasts { LastsAlone D.SectorDevice (device self.old) (device self.new) }
+        ensures budget { self.new.budget ≡ self.old.budget }
+    {
+        if !self.lexicon.is_open() {
+            return Err(Fault::NoDefinition);
+        }
+        match self.take_text(b'"') {
+            Ok(count) => self.add_text(kind, count),
+            Err(fault) => Err(fault),
+        }
+    }
+}

@@ -1,0 +1,78 @@
+//! Words that take a word or a text from the stream.
+ghost use Rattle.std.specs.Prelude.{◌≡◌, ◌≤◌, length, take};
+ghost use Rattle.data_space.specs.Space.{with_bytes};
+ghost use Rattle.interpreter.specs.State.{pushing};
+ghost use Rattle.interpreter.specs.Text.{counted};
+
+use crate::fault::{Fault, Stop};
+use crate::forth::Forth;
+use crate::terminal::Terminal;
+use sector_disk::SectorDevice;
+
+/// How many bytes of a word are kept at most, since their count is a byte.
+const LONGEST: usize = 255;
+
+impl<D: SectorDevice> Forth<D> {
+    ghost use Rattle.cell_machine.specs.Words.{Comment, ParseWord, PrintText};
+    ghost use Rattle.interpreter.specs.Text.{on_parse};
+    ghost use Rattle.interpreter.specs.Standing.{device, IsSound};
+    ghost use Rattle.lexicon.specs.Stands.{IsSound as IsSoundIn};
+    ghost use Rattle.interpreter.specs.Serving.{Alters, Spares, Consults, LastsAlone, Serves, Lasts};
+
+    /// `WORD`.
+    pub(crate) fn word(&mut self) -> Result<(), Fault>
+        requires sound { IsSound self.old }
+        ensures consults { Consults (λ a c x. on_parse ParseWord c x) result self.old self.new }
+        ensures lasts { LastsAlone D.SectorDevice (device self.old) (device self.new) }
+        ensures budget { self.new.budget ≡ self.old.budget }
+    {
+        match self.stack.pop() {
+            Ok(cell) => match self.take_word((cell % 256) as u8) {
+                Ok(count) => self.build_word(count),
+                Err(fault) => Err(fault),
+            },
+            Err(_) => Err(Fault::StackEmpty),
+        }
+    }
+
+    /// Builds the word that was taken last at `HERE`: its count, its bytes and a blank. Leaves its address.
+    fn build_word(&mut self, count: usize) -> Result<(), Fault>
+        requires sound { IsSoundIn self.old.lexicon }
+        requires within { count ≤ 1024 }
+        requires whole { length (take count self.old.text) ≡ count }
+        ensures alters { Alters (λ a c x. pushing x.here (record c { space = with_bytes c.space x.here (counted (take count self.old.text)) }) x) result self.old self.new }
+        ensures spares { Spares self.old self.new }
+    {
+        let here = self.lexicon.here();
+        let kept = count.min(LONGEST) as u16;
+        self.space.set_byte(here, kept as u8);
+        self.space
+            .set_bytes(here + 1, &self.text[..usize::from(kept)]);
+        self.space.set_byte(here + 1 + kept, b' ');
+        self.push(here)
+    }
+
+    /// `(`.
+    pub(crate) fn comment(&mut self) -> Result<(), Fault>
+        ensures consults { Consults (λ a c x. on_parse Comment c x) result self.old self.new }
+        ensures lasts { LastsAlone D.SectorDevice (device self.old) (device self.new) }
+        ensures budget { self.new.budget ≡ self.old.budget }
+    {
+        match self.take_text(b')') {
+            Ok(_) => Ok(()),
+            Err(fault) => Err(fault),
+        }
+    }
+
+    /// `.(`.
+    pub(crate) fn print_text<T: Terminal>(&mut self, terminal: &mut T) -> Result<(), Stop>
+        ensures serves { Serves T.Terminal (λ a c x. on_parse PrintText c x) result self.old self.new terminal.old terminal.new }
+        ensures lasts { Lasts D.SectorDevice T.Terminal result (device self.old) (device self.new) terminal.old terminal.new }
+        ensures budget { self.new.budget ≡ self.old.budget }
+    {
+        match self.take_text(b')') {
+            Ok(count) => self.print(&self.text[..count], terminal),
+            Err(fault) => Err(Stop::Fault(fault)),
+        }
+    }
+}

@@ -1,0 +1,147 @@
+//! Words that read the input after the line.
+ghost use Rattle.std.specs.Prelude.{◌≡◌, ◌≤◌, ◌<◌, ◌+◌, ◌-◌, ◌∷◌, [], ◌++◌, length, List, ℕ, Some, None, Ok, Err, IfOk, OnSome, OnErr, if◌then◌else◌};
+ghost use Rattle.data_space.specs.Space.{with_cell};
+
+use crate::fault::{Fault, Stop};
+use crate::forth::Forth;
+use crate::system_cells::SPAN;
+use crate::terminal::{IoFault, Terminal};
+use sector_disk::SectorDevice;
+
+/// A reading: how many bytes were stored, and how many more may be.
+#[derive(Clone, Copy, Debug, PartialEq, Eq)]
+pub(crate) struct Room {
+    count: u16,
+    left: u16,
+}
+
+impl<D: SectorDevice> Forth<D> {
+    ghost use Rattle.interpreter.specs.Terminals.{expect_of, on_terminal};
+    ghost use Rattle.cell_machine.specs.Words.{Expect, Key};
+    ghost use Rattle.interpreter.specs.Standing.{device};
+    ghost use Rattle.interpreter.specs.Serving.{Serves, Heard, Lasts};
+    ghost use Rattle.interpreter.specs.Reading.{io_of, asking_of, StepOf};
+
+    /// The next byte of the input, or `None` at its end, at which the terminal is asked once.
+    fn ask<T: Terminal>(&mut self, terminal: &mut T) -> Result<Option<u8>, IoFault>
+        ensures rest { self.new ≡ record self.old { at_end = self.new.at_end } }
+        ensures heard { Heard T.Terminal (io_of result) (asking_of result) self.old.at_end self.new.at_end terminal.old terminal.new }
+        ensures lasts { Lasts D.SectorDevice T.Terminal (io_of result) (device self.old) (device self.old) terminal.old terminal.new }
+        ensures fewer { IfOk result (λ key. OnSome key (T.may_give terminal.new < T.may_give terminal.old)) }
+    {
+        if self.at_end {
+            return Ok(None);
+        }
+        match terminal.key() {
+            Ok(Some(byte)) => Ok(Some(byte)),
+            Ok(None) => {
+                self.at_end = true;
+                Ok(None)
+            }
+            Err(IoFault) => Err(IoFault),
+        }
+    }
+
+    /// The next step of a reading of `left` bytes to `a`: how many bytes it stored, and how many more may be. `None` at the
+    /// end of the input.
+    fn read_byte<T: Terminal>(
+        &mut self,
+        a: u16,
+        left: u16,
+        terminal: &mut T,
+    ) -> Result<Option<Room>, IoFault>
+        requires some { 0 < left }
+        requires within { a + left ≤ 65536 }
+        ensures step { StepOf T.Terminal a left result self.old self.new terminal.old terminal.new }
+        ensures lasts { Lasts D.SectorDevice T.Terminal (io_of result) (device self.old) (device self.new) terminal.old terminal.new }
+        ensures budget { self.new.budget ≡ self.old.budget }
+    {
+        match self.ask(terminal) {
+            Ok(Some(b'\n')) => Ok(Some(Room { count: 0, left: 0 })),
+            Ok(Some(b'\r')) => Ok(Some(Room { count: 0, left })),
+            Ok(Some(byte)) => {
+                self.space.set_byte(a, byte);
+                Ok(Some(Room {
+                    count: 1,
+                    left: left - 1,
+                }))
+            }
+            Ok(None) => Ok(None),
+            Err(IoFault) => Err(IoFault),
+        }
+    }
+
+    /// Ends a reading of so many bytes, or finds that there was none.
+    fn end_reading(&mut self, count: u16, some: bool) -> Result<(), Stop>
+        ensures result { result ≡ (if some then Ok tt else Err (Stop.Fault Fault.EndOfInput)) }
+        ensures after { self.new ≡ (if some then record self.old { space = with_cell self.old.space 26 count } else self.old) }
+    {
+        if some {
+            self.space.set_cell(SPAN, count);
+            Ok(())
+        } else {
+            Err(Stop::Fault(Fault::EndOfInput))
+        }
+    }
+
+    /// Reads up to `u` bytes to `a`.
+    fn fill<T: Terminal>(&mut self, a: u16, u: u16, terminal: &mut T) -> Result<(), Stop>
+        requires within { a + u ≤ 65536 }
+        ensures serves { Serves T.Terminal (λ _ c x. expect_of x.run.terminal a u c x) result self.old self.new terminal.old terminal.new }
+        ensures lasts { Lasts D.SectorDevice T.Terminal result (device self.old) (device self.new) terminal.old terminal.new }
+        ensures budget { self.new.budget ≡ self.old.budget }
+    {
+        let mut room = Room { count: 0, left: u };
+        let mut some = false;
+        'bytes: while room.left > 0 {
+            match self.read_byte(a + room.count, room.left, terminal) {
+                Ok(Some(step)) => {
+                    room = Room {
+                        count: room.count + step.count,
+                        left: step.left,
+                    };
+                    some = true;
+                }
+                Ok(None) => return self.end_reading(room.count, some),
+                Err(IoFault) => return Err(Stop::Io),
+            }
+        }
+        self.end_reading(room.count, true)
+    }
+
+    /// `EXPECT`.
+    pub(crate) fn expect<T: Terminal>(&mut self, terminal: &mut T) -> Result<(), Stop>
+        ensures serves { Serves T.Terminal (λ a c x. on_terminal Expect c x) result self.old self.new terminal.old terminal.new }
+        ensures lasts { Lasts D.SectorDevice T.Terminal result (device self.old) (device self.new) terminal.old terminal.new }
+        ensures budget { self.new.budget ≡ self.old.budget }
+    {
+        match self.pop_two() {
+            Ok((u, a)) => {
+                if u32::from(a) + u32::from(u) > 65536 {
+                    return Err(Stop::Fault(Fault::Address));
+                }
+                self.fill(a, u, terminal)
+            }
+            Err(fault) => Err(Stop::Fault(fault)),
+        }
+    }
+
+    /// `KEY`.
+    pub(crate) fn key<T: Terminal>(&mut self, terminal: &mut T) -> Result<(), Stop>
+        ensures serves { Serves T.Terminal (λ a c x. on_terminal Key c x) result self.old self.new terminal.old terminal.new }
+        ensures lasts { Lasts D.SectorDevice T.Terminal result (device self.old) (device self.new) terminal.old terminal.new }
+        ensures budget { self.new.budget ≡ self.old.budget }
+    {
+        if self.stack.depth() >= 256 {
+            return Err(Stop::Fault(Fault::StackFull));
+        }
+        match self.ask(terminal) {
+            Ok(Some(byte)) => {
+                self.leave(u16::from(byte));
+                Ok(())
+            }
+            Ok(None) => Err(Stop::Fault(Fault::EndOfInput)),
+            Err(IoFault) => Err(Stop::Io),
+        }
+    }
+}

@@ -1,0 +1,233 @@
+//! The services that the machine asks for, by their kinds.
+ghost use Rattle.std.specs.Prelude.{◌≡◌};
+ghost use Rattle.interpreter.specs.Serving.{stopped};
+ghost use Rattle.interpreter.specs.Turns.{turn_of};
+
+use super::table::{DeviceWord, QuietWord, Service, TerminalWord, service_of};
+use crate::fault::{Fault, Stop};
+use crate::forth::Forth;
+use crate::interpreting::Turn;
+use crate::terminal::Terminal;
+use cell_machine::event::Op;
+use lexicon::TextKind;
+use sector_disk::SectorDevice;
+
+/// The line goes on where the service is done.
+fn goes_on(done: Result<(), Stop>) -> Result<Turn, Stop>
+    ensures { result ≡ turn_of done }
+{
+    match done {
+        Ok(()) => Ok(Turn::GoesOn),
+        Err(stop) => Err(stop),
+    }
+}
+
+/// The same of what reaches no terminal.
+fn goes_on_quietly(done: Result<(), Fault>) -> Result<Turn, Stop>
+    ensures { result ≡ turn_of (stopped done) }
+{
+    match done {
+        Ok(()) => Ok(Turn::GoesOn),
+        Err(fault) => Err(Stop::Fault(fault)),
+    }
+}
+
+impl<D: SectorDevice> Forth<D> {
+    ghost use Rattle.std.specs.Prelude.{ℕ, suc, List, None, ◌<◌, ◌≤◌};
+    ghost use Rattle.cell_machine.specs.Frames.{Level, Due, Word, Core, around_of};
+    ghost use Rattle.cell_machine.specs.Fault.{Aborts};
+    ghost use Rattle.cell_machine.specs.Value.{Serve, Ends, and_then};
+    ghost use Rattle.cell_machine.specs.Calling.{Outside};
+    ghost use Rattle.cell_machine.specs.Layout.{TextAt};
+    ghost use Rattle.dictionary.specs.Words.{entry};
+    ghost use Rattle.lexicon.specs.Running.{meanings};
+    ghost use Rattle.lexicon.specs.Stands.{IsSound as IsSoundLexicon};
+    ghost use Rattle.interpreter.specs.State.{World, with_run};
+    ghost use Rattle.interpreter.specs.Text.{serve, on_service, user_word};
+    ghost use Rattle.interpreter.specs.Terminals.{print};
+    ghost use Rattle.interpreter.specs.Law.{left};
+    ghost use Rattle.interpreter.specs.Lexicon.{language_of, IsDue};
+    ghost use Rattle.interpreter.specs.Falls.{IsFree};
+    ghost use Rattle.interpreter.specs.Services.{quiet_word, device_word, terminal_word, service_in};
+    ghost use Rattle.interpreter.specs.Standing.{core, device, Stands, IsSound};
+    ghost use Rattle.interpreter.specs.Serving.{Alters, Altered, Spares, Consults, LastsAlone, Serves, Lasts};
+    ghost use Rattle.interpreter.specs.Turns.{Turned, LastsTurn, weight};
+
+    /// A word that reaches neither device nor terminal.
+    fn quiet(&mut self, word: QuietWord) -> Result<(), Fault>
+        requires sound { IsSoundLexicon self.old.lexicon }
+        ensures alters { (f : ℕ) (inner : Serve World) → Alters (λ a c x. on_service f inner (quiet_word word) a c x) result self.old self.new }
+        ensures spares { Spares self.old self.new }
+    {
+        match word {
+            QuietWord::BeginPicture => self.begin_picture(),
+            QuietWord::FinishPicture => self.end_picture(),
+            QuietWord::Digit => self.digit(),
+            QuietWord::Digits => self.digits(),
+            QuietWord::HoldByte => self.hold_byte(),
+            QuietWord::Sign => self.sign(),
+            QuietWord::Convert => self.convert(),
+            QuietWord::Here => self.here(),
+            QuietWord::Pad => self.pad(),
+            QuietWord::Comma => self.comma(),
+            QuietWord::Allot => self.allot(),
+            QuietWord::Find => self.find(),
+            QuietWord::ToBody => self.to_body(),
+            QuietWord::Forth => {
+                self.forth();
+                Ok(())
+            }
+            QuietWord::Definitions => {
+                self.definitions();
+                Ok(())
+            }
+            QuietWord::Immediate => self.immediate(),
+            QuietWord::Semicolon => self.semicolon(),
+            QuietWord::Literal => self.literal(),
+            QuietWord::Structure(structure) => self.structure(structure),
+        }
+    }
+
+    /// A word that may reach the device.
+    fn on_device(&mut self, word: DeviceWord) -> Result<(), Fault>
+        requires standing { IsSound self.old }
+        requires sound { IsSoundLexicon self.old.lexicon }
+        ensures consults { (f : ℕ) (inner : Serve World) → Consults (λ a c x. on_service f inner (device_word word) a c x) result self.old self.new }
+        ensures lasts { LastsAlone D.SectorDevice (device self.old) (device self.new) }
+        ensures budget { self.new.budget ≡ self.old.budget }
+    {
+        match word {
+            DeviceWord::ParseWord => self.word(),
+            DeviceWord::Comment => self.comment(),
+            DeviceWord::DotQuote => self.compile_text(TextKind::Prints),
+            DeviceWord::AbortQuote => self.compile_text(TextKind::AbortsWith),
+            DeviceWord::Tick => self.tick(),
+            DeviceWord::Create => self.create(),
+            DeviceWord::Variable => self.variable(),
+            DeviceWord::Constant => self.constant(),
+            DeviceWord::Vocabulary => self.vocabulary(),
+            DeviceWord::Forget => self.forget(),
+            DeviceWord::Colon => self.colon(),
+            DeviceWord::CompileTick => self.compile_tick(),
+            DeviceWord::BracketCompile => self.bracket_compile(),
+            DeviceWord::Block => self.block(),
+            DeviceWord::Buffer => self.buffer(),
+            DeviceWord::Update => self.update(),
+            DeviceWord::SaveBuffers => self.save_buffers(),
+            DeviceWord::Flush => self.flush(),
+        }
+    }
+
+    /// A word that may reach the terminal.
+    fn on_terminal<T: Terminal>(&mut self, word: TerminalWord, terminal: &mut T) -> Result<(), Stop>
+        ensures serves { (f : ℕ) (inner : Serve World) → Serves T.Terminal (λ a c x. on_service f inner (terminal_word word) a c x) result self.old self.new terminal.old terminal.new }
+        ensures lasts { Lasts D.SectorDevice T.Terminal result (device self.old) (device self.new) terminal.old terminal.new }
+        ensures budget { self.new.budget ≡ self.old.budget }
+    {
+        match word {
+            TerminalWord::Emit => self.emit(terminal),
+            TerminalWord::NewLine => self.new_line(terminal),
+            TerminalWord::Blank => self.blank(terminal),
+            TerminalWord::Blanks => self.blanks(terminal),
+            TerminalWord::TypeText => self.type_text(terminal),
+            TerminalWord::Key => self.key(terminal),
+            TerminalWord::Expect => self.expect(terminal),
+            TerminalWord::Dot => self.dot(terminal),
+            TerminalWord::UnsignedDot => self.unsigned_dot(terminal),
+            TerminalWord::PrintText => self.print_text(terminal),
+        }
+    }
+
+    /// A service of the table.
+    fn do_service<T: Terminal>(&mut self, service: Service, terminal: &mut T) -> Result<Turn, Stop>
+        requires standing { IsSound self.old }
+        requires sound { IsSoundLexicon self.old.lexicon }
+        requires idle { self.old.machine.pending ≡ None }
+        ensures turned { (m : ℕ) (levels : List Level) (x : World) → self.old.steps ≤ m → Stands self.old levels x
+            → Turned T.Terminal (suc m) (λ r. and_then (on_service (suc m) (λ a due c x. serve m a due c x) (service_in service) (around_of levels) (core self.old) (with_run r x)) (λ c x. left (suc m) levels c x)) result self.old self.new terminal.old terminal.new x }
+        ensures lasts { LastsTurn D.SectorDevice T.Terminal result (device self.old) (device self.new) terminal.old terminal.new }
+        ensures budget { self.new.budget ≡ self.old.budget }
+    {
+        match service {
+            Service::Quiet(word) => goes_on_quietly(self.quiet(word)),
+            Service::OnDevice(word) => goes_on_quietly(self.on_device(word)),
+            Service::OnTerminal(word) => goes_on(self.on_terminal(word, terminal)),
+            Service::Execute => goes_on_quietly(self.execute()),
+            Service::Load => goes_on_quietly(self.load()),
+        }
+    }
+
+    /// A word that is no service of the table, and that the machine can't call: a vocabulary becomes the first of the search.
+    fn users_word(&mut self, token: u16) -> Result<(), Fault>
+        requires sound { IsSoundLexicon self.old.lexicon }
+        ensures alters { (f : ℕ) (inner : Serve World) (levels : List Level) (x : World) → Stands self.old levels x → meanings (language_of x) token ≡ Outside
+            → Altered (λ r. user_word f inner token (entry x.words token) (around_of levels) (core self.old) (with_run r x)) result self.old self.new levels x }
+        ensures spares { Spares self.old self.new }
+    {
+        if !self.lexicon.is_vocabulary(token) {
+            return Err(Fault::Token);
+        }
+        self.lexicon.set_first(token);
+        Ok(())
+    }
+
+    /// The word of this token.
+    fn do_word<T: Terminal>(&mut self, token: u16, terminal: &mut T) -> Result<Turn, Stop>
+        requires standing { IsSound self.old }
+        requires sound { IsSoundLexicon self.old.lexicon }
+        requires idle { self.old.machine.pending ≡ None }
+        ensures turned { (m : ℕ) (levels : List Level) (x : World) → self.old.steps ≤ m → Stands self.old levels x → meanings (language_of x) token ≡ Outside
+            → Turned T.Terminal (suc m) (λ r. and_then (serve (suc m) (around_of levels) (Word token) (core self.old) (with_run r x)) (λ c x. left (suc m) levels c x)) result self.old self.new terminal.old terminal.new x }
+        ensures lasts { LastsTurn D.SectorDevice T.Terminal result (device self.old) (device self.new) terminal.old terminal.new }
+        ensures budget { self.new.budget ≡ self.old.budget }
+    {
+        match service_of(token) {
+            Some(service) => self.do_service(service, terminal),
+            None => goes_on_quietly(self.users_word(token)),
+        }
+    }
+
+    /// Prints the text that begins at this place.
+    fn print_text_at<T: Terminal>(&mut self, place: u16, terminal: &mut T) -> Result<(), Stop>
+        requires text { (s : List ℕ) × TextAt self.old.lexicon.code place s }
+        ensures serves { (s : List ℕ) → TextAt self.old.lexicon.code place s → Serves T.Terminal (λ a c x. print s c x) result self.old self.new terminal.old terminal.new }
+        ensures lasts { Lasts D.SectorDevice T.Terminal result (device self.old) (device self.new) terminal.old terminal.new }
+        ensures budget { self.new.budget ≡ self.old.budget }
+    {
+        let count = self.lexicon.text(place, &mut self.text);
+        let (text, _) = self.text.split_at(count);
+        self.print(text, terminal)
+    }
+
+    /// The same, and then the line is aborted.
+    fn abort_with<T: Terminal>(&mut self, place: u16, terminal: &mut T) -> Result<(), Stop>
+        requires text { (s : List ℕ) × TextAt self.old.lexicon.code place s }
+        ensures serves { (s : List ℕ) → TextAt self.old.lexicon.code place s → Serves T.Terminal (λ a c x. and_then (print s c x) (λ c x. Ends Aborts c x)) result self.old self.new terminal.old terminal.new }
+        ensures lasts { Lasts D.SectorDevice T.Terminal result (device self.old) (device self.new) terminal.old terminal.new }
+        ensures budget { self.new.budget ≡ self.old.budget }
+    {
+        match self.print_text_at(place, terminal) {
+            Ok(()) => Err(Stop::Abort),
+            Err(stop) => Err(stop),
+        }
+    }
+
+    /// The service that the machine asks for.
+    pub(crate) fn serve<T: Terminal>(&mut self, op: Op, terminal: &mut T) -> Result<Turn, Stop>
+        requires asked { (levels : List Level) × (x : World) × (due : Due) × (Stands self.old levels x × IsDue self.old.lexicon (language_of x) op due) }
+        requires idle { self.old.machine.pending ≡ None }
+        ensures turned { (n : ℕ) (levels : List Level) (x : World) (due : Due) → self.old.steps < n → Stands self.old levels x → IsDue self.old.lexicon (language_of x) op due
+            → Turned T.Terminal n (λ r. and_then (serve n (around_of levels) due (core self.old) (with_run r x)) (λ c x. left n levels c x)) result self.old self.new terminal.old terminal.new x }
+        ensures given { IsFree op (weight self.new ≤ weight self.old) }
+        ensures lasts { LastsTurn D.SectorDevice T.Terminal result (device self.old) (device self.new) terminal.old terminal.new }
+        ensures budget { self.new.budget ≡ self.old.budget }
+    {
+        match op {
+            Op::Word(token) => self.do_word(token, terminal),
+            Op::Text(place) => goes_on(self.print_text_at(place, terminal)),
+            Op::AbortText(place) => goes_on(self.abort_with(place, terminal)),
+            Op::Compile(token) => goes_on_quietly(self.add_word(token)),
+            Op::Does(place) => goes_on_quietly(self.give_part(place)),
+        }
+    }
+}

@@ -1,0 +1,141 @@
+//! Words that print or read.
+ghost use Rattle.std.specs.Prelude.{◌≡◌, ◌≤◌, nat_lt, if◌then◌else◌, replicate, OnOk, OnErr};
+ghost use Rattle.std.specs.Io.KnownBytes.{Appends};
+ghost use Rattle.sector_disk.specs.Counting.{HasRisen};
+ghost use Rattle.interpreter.specs.Terminal.{AppendsSome};
+
+use crate::fault::{Fault, Stop};
+use crate::forth::Forth;
+use crate::terminal::{IoFault, Terminal};
+use sector_disk::SectorDevice;
+
+/// How many blanks go to the terminal in one call.
+const CHUNK: u16 = 64;
+
+/// How many blanks a cell asks for: none where it is negative.
+fn count_of(cell: u16) -> u16
+    ensures { result ≡ (if nat_lt cell 32768 then cell else 0) }
+{
+    if cell < 0x8000 { cell } else { 0 }
+}
+
+/// Gives a terminal so many blanks, a chunk at a time.
+fn emit_blanks<T: Terminal>(count: u16, terminal: &mut T) -> Result<(), IoFault>
+    ensures ok { OnOk result (Appends (T.output terminal.old) (T.output terminal.new) (replicate count 32)) }
+    ensures err { OnErr result (AppendsSome (T.output terminal.old) (T.output terminal.new) (replicate count 32)) }
+    ensures input { T.input terminal.new ≡ T.input terminal.old }
+    ensures no_more { T.may_give terminal.new ≤ T.may_give terminal.old }
+    ensures failed { OnErr result (HasRisen (T.failures terminal.old) (T.failures terminal.new)) }
+    ensures succeeded { OnOk result (T.failures terminal.new ≡ T.failures terminal.old) }
+    ensures same { T.identity terminal.new ≡ T.identity terminal.old }
+{
+    let blanks = [b' '; 64];
+    let mut left = count;
+    while left > CHUNK {
+        match terminal.emit(&blanks) {
+            Ok(()) => left -= CHUNK,
+            Err(fault) => return Err(fault),
+        }
+    }
+    terminal.emit(&blanks[..usize::from(left)])
+}
+
+impl<D: SectorDevice> Forth<D> {
+    ghost use Rattle.std.specs.Prelude.{◌∷◌, [], replicate};
+    ghost use Rattle.cell_machine.specs.Words.{Emit, NewLine, Blank, Blanks, TypeText};
+    ghost use Rattle.interpreter.specs.Terminals.{print, on_terminal};
+    ghost use Rattle.interpreter.specs.Standing.{device};
+    ghost use Rattle.interpreter.specs.Serving.{Serves, Lasts};
+
+    /// Prints these bytes, in one call of the terminal.
+    pub(crate) fn print<T: Terminal>(&self, bytes: &[u8], terminal: &mut T) -> Result<(), Stop>
+        ensures serves { Serves T.Terminal (λ a c x. print bytes.now c x) result self.now self.now terminal.old terminal.new }
+        ensures lasts { Lasts D.SectorDevice T.Terminal result (device self.now) (device self.now) terminal.old terminal.new }
+    {
+        match terminal.emit(bytes) {
+            Ok(()) => Ok(()),
+            Err(IoFault) => Err(Stop::Io),
+        }
+    }
+
+    /// `EMIT`.
+    pub(crate) fn emit<T: Terminal>(&mut self, terminal: &mut T) -> Result<(), Stop>
+        ensures serves { Serves T.Terminal (λ a c x. on_terminal Emit c x) result self.old self.new terminal.old terminal.new }
+        ensures lasts { Lasts D.SectorDevice T.Terminal result (device self.old) (device self.new) terminal.old terminal.new }
+        ensures budget { self.new.budget ≡ self.old.budget }
+    {
+        match self.stack.pop() {
+            Ok(cell) => self.print(&[(cell % 256) as u8], terminal),
+            Err(_) => Err(Stop::Fault(Fault::StackEmpty)),
+        }
+    }
+
+    /// `CR`.
+    pub(crate) fn new_line<T: Terminal>(&mut self, terminal: &mut T) -> Result<(), Stop>
+        ensures serves { Serves T.Terminal (λ a c x. on_terminal NewLine c x) result self.old self.new terminal.old terminal.new }
+        ensures lasts { Lasts D.SectorDevice T.Terminal result (device self.old) (device self.new) terminal.old terminal.new }
+        ensures budget { self.new.budget ≡ self.old.budget }
+    {
+        self.print(b"\n", terminal)
+    }
+
+    /// `SPACE`.
+    pub(crate) fn blank<T: Terminal>(&mut self, terminal: &mut T) -> Result<(), Stop>
+        ensures serves { Serves T.Terminal (λ a c x. on_terminal Blank c x) result self.old self.new terminal.old terminal.new }
+        ensures lasts { Lasts D.SectorDevice T.Terminal result (device self.old) (device self.new) terminal.old terminal.new }
+        ensures budget { self.new.budget ≡ self.old.budget }
+    {
+        self.print(b" ", terminal)
+    }
+
+    /// `SPACES`.
+    pub(crate) fn blanks<T: Terminal>(&mut self, terminal: &mut T) -> Result<(), Stop>
+        ensures serves { Serves T.Terminal (λ a c x. on_terminal Blanks c x) result self.old self.new terminal.old terminal.new }
+        ensures lasts { Lasts D.SectorDevice T.Terminal result (device self.old) (device self.new) terminal.old terminal.new }
+        ensures budget { self.new.budget ≡ self.old.budget }
+    {
+        match self.stack.pop() {
+            Ok(cell) => {
+                let count = count_of(cell);
+                if self.steps < u32::from(count) {
+                    return Err(Stop::Fault(Fault::Steps));
+                }
+                self.steps -= u32::from(count);
+                self.print_blanks(count, terminal)
+            }
+            Err(_) => Err(Stop::Fault(Fault::StackEmpty)),
+        }
+    }
+
+    /// Prints so many blanks.
+    fn print_blanks<T: Terminal>(&self, count: u16, terminal: &mut T) -> Result<(), Stop>
+        ensures serves { Serves T.Terminal (λ a c x. print (replicate count 32) c x) result self.now self.now terminal.old terminal.new }
+        ensures lasts { Lasts D.SectorDevice T.Terminal result (device self.now) (device self.now) terminal.old terminal.new }
+    {
+        match emit_blanks(count, terminal) {
+            Ok(()) => Ok(()),
+            Err(IoFault) => Err(Stop::Io),
+        }
+    }
+
+    /// `TYPE`.
+    pub(crate) fn type_text<T: Terminal>(&mut self, terminal: &mut T) -> Result<(), Stop>
+        ensures serves { Serves T.Terminal (λ a c x. on_terminal TypeText c x) result self.old self.new terminal.old terminal.new }
+        ensures lasts { Lasts D.SectorDevice T.Terminal result (device self.old) (device self.new) terminal.old terminal.new }
+        ensures budget { self.new.budget ≡ self.old.budget }
+    {
+        match self.pop_two() {
+            Ok((u, a)) => {
+                if self.steps < u32::from(u) {
+                    return Err(Stop::Fault(Fault::Steps));
+                }
+                self.steps -= u32::from(u);
+                match self.space.slice(a, u) {
+                    Some(bytes) => self.print(bytes, terminal),
+                    None => Err(Stop::Fault(Fault::Address)),
+                }
+            }
+            Err(fault) => Err(Stop::Fault(fault)),
+        }
+    }
+}

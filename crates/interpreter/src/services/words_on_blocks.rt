@@ -1,0 +1,101 @@
+//! The block words.
+ghost use Rattle.std.specs.Prelude.{◌≡◌};
+ghost use Rattle.interpreter.specs.Stops.{fault_of};
+ghost use Rattle.interpreter.specs.State.{fault_of as block_fault_of};
+
+use crate::fault::Fault;
+use crate::forth::Forth;
+use block_words::BlockFault;
+use sector_disk::SectorDevice;
+
+/// The fault of a word that the blocks refused.
+pub(crate) fn block_fault(fault: BlockFault) -> Fault
+    ensures { fault_of result ≡ block_fault_of fault }
+{
+    match fault {
+        BlockFault::NoBlock => Fault::NoBlock,
+        BlockFault::NoBuffer => Fault::NoBuffer,
+        BlockFault::Device => Fault::Device,
+        BlockFault::Closed => Fault::Closed,
+        BlockFault::Memory => Fault::Memory,
+    }
+}
+
+impl<D: SectorDevice> Forth<D> {
+    ghost use Rattle.cell_machine.specs.Words.{Block, Buffer, Update, SaveBuffers, Flush};
+    ghost use Rattle.interpreter.specs.Blocking.{on_blocks};
+    ghost use Rattle.interpreter.specs.Standing.{device};
+    ghost use Rattle.interpreter.specs.Serving.{Consults, LastsAlone};
+
+    /// `BLOCK`.
+    pub(crate) fn block(&mut self) -> Result<(), Fault>
+        ensures consults { Consults (λ a c x. on_blocks Block c x) result self.old self.new }
+        ensures lasts { LastsAlone D.SectorDevice (device self.old) (device self.new) }
+        ensures budget { self.new.budget ≡ self.old.budget }
+    {
+        match self.stack.pop() {
+            Ok(u) => match self.blocks.block(&mut self.space, u) {
+                Ok(address) => {
+                    self.leave(address);
+                    Ok(())
+                }
+                Err(fault) => Err(block_fault(fault)),
+            },
+            Err(_) => Err(Fault::StackEmpty),
+        }
+    }
+
+    /// `BUFFER`.
+    pub(crate) fn buffer(&mut self) -> Result<(), Fault>
+        ensures consults { Consults (λ a c x. on_blocks Buffer c x) result self.old self.new }
+        ensures lasts { LastsAlone D.SectorDevice (device self.old) (device self.new) }
+        ensures budget { self.new.budget ≡ self.old.budget }
+    {
+        match self.stack.pop() {
+            Ok(u) => match self.blocks.buffer(&mut self.space, u) {
+                Ok(address) => {
+                    self.leave(address);
+                    Ok(())
+                }
+                Err(fault) => Err(block_fault(fault)),
+            },
+            Err(_) => Err(Fault::StackEmpty),
+        }
+    }
+
+    /// `UPDATE`.
+    pub(crate) fn update(&mut self) -> Result<(), Fault>
+        ensures consults { Consults (λ a c x. on_blocks Update c x) result self.old self.new }
+        ensures lasts { LastsAlone D.SectorDevice (device self.old) (device self.new) }
+        ensures budget { self.new.budget ≡ self.old.budget }
+    {
+        match self.blocks.update() {
+            Ok(()) => Ok(()),
+            Err(fault) => Err(block_fault(fault)),
+        }
+    }
+
+    /// `SAVE-BUFFERS`.
+    pub(crate) fn save_buffers(&mut self) -> Result<(), Fault>
+        ensures consults { Consults (λ a c x. on_blocks SaveBuffers c x) result self.old self.new }
+        ensures lasts { LastsAlone D.SectorDevice (device self.old) (device self.new) }
+        ensures budget { self.new.budget ≡ self.old.budget }
+    {
+        match self.blocks.save_buffers(&self.space) {
+            Ok(()) => Ok(()),
+            Err(fault) => Err(block_fault(fault)),
+        }
+    }
+
+    /// `FLUSH`.
+    pub(crate) fn flush(&mut self) -> Result<(), Fault>
+        ensures consults { Consults (λ a c x. on_blocks Flush c x) result self.old self.new }
+        ensures lasts { LastsAlone D.SectorDevice (device self.old) (device self.new) }
+        ensures budget { self.new.budget ≡ self.old.budget }
+    {
+        match self.blocks.flush(&self.space) {
+            Ok(()) => Ok(()),
+            Err(fault) => Err(block_fault(fault)),
+        }
+    }
+}
