@@ -1,17 +1,13 @@
 -- A line that is being read.
-use Rattle.std.proofs.Common.{◌≡◌, ◌≢◌, ◌≤◌, ◌<◌, ◌+◌, ◌-◌, ℕ, zero, suc, inl, inr, Bool, true, false, not, ◌==◌, List, [], ◌∷◌, ◌++◌, length, take, map, Option, refl, ap, sym, ◌∙◌, subst, arith, append-nil, take_all, length-append}
+use Rattle.std.proofs.Common.{◌≡◌, ◌≢◌, ◌≤◌, ◌<◌, ◌+◌, ◌-◌, ℕ, zero, suc, inr, Bool, true, false, not, ◌==◌, List, [], ◌∷◌, ◌++◌, length, take, map, Option, Some, refl, ap, sym, ◌∙◌, subst, arith, append-nil, take_all, length-append}
 use Rattle.std.specs.List.{AllByRecursion}
 use Rattle.std.specs.Bool.{OnTrue}
-use Rattle.std.specs.Io.KnownBytes.{Consumes, IsAtEnd}
+use Rattle.std.specs.Io.KnownBytes.{Consumes}
 use Rattle.std.proofs.KnownBytes.{Consumes-trans}
 use Rattle.std.proofs.lemmas.List.{take-append-le}
 use Rattle.std.proofs.Common.{if◌then◌else◌, length-take}
-use Rattle.std.proofs.lemmas.Bool.{cases_lt}
 use Rattle.std.specs.Io.BufRead.{strip_last, ends_with_byte}
-use Rattle.interpreter.specs.Turn.{Turn}
-use Rattle.interpreter.specs.TwelveLine.{System, Line}
-use Rattle.interpreter.specs.TwelveLaws.{LongLinesHaveOneTurn}
-use Rattle.terminal.specs.Cut.{blank_for_tab, line_text}
+use Rattle.terminal.specs.Cut.{blank_for_tab}
 use Rattle.terminal.specs.Calls.{ReadsLine}
 
 pub record LineSoFar (input left : Option (List ℕ)) (items : List ℕ) : Type 0 where
@@ -59,7 +55,7 @@ on-not_empty items true is k = tt
 on-not_empty [] false is k = absurd (cc)
 on-not_empty (x ∷ xs) false is k = k (omega arith)
 
-pub line-ended : (a c : Option (List ℕ)) (items : List ℕ) → LineSoFar a c items → IsAtEnd c → 0 < length items
+pub line-ended : (a c : Option (List ℕ)) (items : List ℕ) → LineSoFar a c items → c ≡ Some [] → 0 < length items
     → (bytes : List ℕ) × ReadsLine a c bytes × (items ≡ take 1026 (map blank_for_tab bytes))
 line-ended a c items so_far end some =
     (so_far.bytes, record { no_feed = so_far.no_feed; cut = inr (so_far.read, end, some-bytes items so_far.bytes so_far.kept some) }, so_far.kept)
@@ -74,16 +70,5 @@ length-stripped : (t : Bool) (xs : List ℕ) → length xs ≤ length (if t then
 length-stripped true xs = omega (arith, length-take (length xs - 1) xs)
 length-stripped false xs = omega arith
 
-long-stripped : (xs : List ℕ) → 1026 ≤ length xs → 1024 < length (strip_last 13 xs)
+pub long-stripped : (xs : List ℕ) → 1026 ≤ length xs → 1024 < length (strip_last 13 xs)
 long-stripped xs h = omega (arith, length-stripped (ends_with_byte 13 xs) xs)
-
--- the bytes that were kept of a line have its reply
-pub line-of_kept : LongLinesHaveOneTurn → (opening : System) (bytes : List ℕ) (turn : Turn) (closing : System)
-    → Line opening (strip_last 13 (take 1026 (map blank_for_tab bytes))) turn closing → Line opening (line_text bytes) turn closing
-line-of_kept long_lines opening bytes turn closing line =
-    let xs = map blank_for_tab bytes in
-    elim (cases_lt 1026 (length xs)) [
-      | inl long ↦ long_lines opening (strip_last 13 (take 1026 xs)) (strip_last 13 xs) turn closing
-          (long-stripped (take 1026 xs) (omega (arith, length-take 1026 xs))) (long-stripped xs (omega arith)) line
-      | inr short ↦ subst (λ l. Line opening (strip_last 13 l) turn closing) (take_all 1026 xs short) line
-    ]

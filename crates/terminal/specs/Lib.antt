@@ -1,5 +1,9 @@
 pub mod Cut
-pub mod Session
 pub mod Calls
 pub mod Sessions
 pub mod Playing
+pub mod Streams
+pub mod Screen
+pub mod Commands
+pub mod CommandRows
+pub mod InMemory

@@ -1,7 +1,7 @@
 //! Lines, cut from what a terminal gives.
-ghost use Rattle.std.specs.Prelude.{◌≡◌, ◌<◌, ◌≤◌, ℕ, List, [], ◌∷◌, ◌++◌, OnErr, IfOk, map, take};
+ghost use Rattle.std.specs.Prelude.{◌≡◌, ◌<◌, ◌≤◌, ℕ, List, [], ◌∷◌, ◌++◌, OnErr, OnOk, IfOk, Some, map, take};
 ghost use Rattle.std.specs.Bool.{OnTrue, OnFalse};
-ghost use Rattle.std.specs.Io.KnownBytes.{Keeps, Consumes, IsAtEnd};
+ghost use Rattle.std.specs.Io.KnownBytes.{Keeps, Consumes};
 ghost use Rattle.std.specs.Io.BufRead.{strip_last};
 ghost use Rattle.terminal.specs.Cut.{blank_for_tab};
 ghost use Rattle.terminal.specs.Calls.{ReadsLine, ReadsPart};
@@ -26,11 +26,13 @@ pub fn read_line<T: Terminal>(
         OnTrue more (T.may_give terminal.new < T.may_give terminal.old)) }
     ensures end { IfOk result (λ more. OnFalse more
         (Consumes (T.input terminal.old) (T.input terminal.new) []
-        × IsAtEnd (T.input terminal.new))) }
+        × (T.input terminal.new ≡ Some []))) }
     ensures err { OnErr result ((bytes : List ℕ)
         × ReadsPart (T.input terminal.old) (T.input terminal.new) bytes) }
     ensures output { T.output terminal.new ≡ T.output terminal.old }
     ensures same { T.identity terminal.new ≡ T.identity terminal.old }
+    ensures no_more { T.may_give terminal.new ≤ T.may_give terminal.old }
+    ensures none_failed { OnOk result (T.failures terminal.new ≡ T.failures terminal.old) }
 {
     line.clear();
     loop {
@@ -54,8 +56,9 @@ fn keep_byte(line: &mut ArrayVec<u8, LINE_ROOM>, byte: u8)
     }
 }
 
+/// A tab counts as a blank.
 #[inline]
-fn blank_for_tab(byte: u8) -> u8
+pub fn blank_for_tab(byte: u8) -> u8
     ensures { result ≡ blank_for_tab byte }
 {
     if byte == b'\t' { b' ' } else { byte }

@@ -1,5 +1,6 @@
 //! Laws over the definitions alone.
 
+ghost use Rattle.terminal.specs.CommandRows.{CommandsAreRead};
 ghost use Rattle.terminal.specs.Playing.{PlayedIsSession};
 ghost use Rattle.terminal.specs.Sessions.{HasOneSession};
 
@@ -11,4 +12,9 @@ pub fn played()
 /// An input has at most one session without `DEVICE` and `MEMORY`, and so at most one output.
 pub fn one_session()
     ensures { HasOneSession }
+{}
+
+/// Worked command lines are read, or refused, as they should be.
+pub fn commands_are_read()
+    ensures { CommandsAreRead }
 {}

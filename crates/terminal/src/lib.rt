@@ -1,14 +1,24 @@
 //! Runs a Forth system over a reader and a writer.
 #![tactic(auto)]
 
+pub use failure::Failure;
+pub use program::command;
+pub use reading::order;
 pub use run_fault::RunFault;
+pub use serving::run_over;
 pub use session::run;
+pub use starting::start;
 
 mod cut;
+mod failure;
+mod images;
 pub mod laws;
-pub mod promise;
+mod program;
+mod reading;
 mod run_fault;
+mod screen;
+mod serving;
 mod session;
+mod starting;
 mod streams;
-#[cfg(test)]
-mod tests;
+pub mod words;

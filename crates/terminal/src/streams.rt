@@ -1,8 +1,10 @@
 //! A reader and a writer as a terminal.
-ghost use Rattle.std.specs.Prelude.{if◌then◌else◌, ◌≡◌, ◌<◌, ◌≤◌, [], ◌∷◌, IfOk, OnOk, OnErr, Some, None, OnSome};
+ghost use Rattle.std.specs.Prelude.{if◌then◌else◌, false, ◌^◌, ◌-◌, ◌≡◌, ◌<◌, ◌≤◌, [], ◌∷◌, IfOk, OnOk, OnErr, Some, None, OnSome};
+ghost use Rattle.std.specs.Bool.{OnTrue, OnFalse};
 ghost use Rattle.std.specs.Io.KnownBytes.{Keeps, Appends, Consumes, IsAtEnd};
 ghost use Rattle.sector_disk.specs.Counting.{HasRisen};
 ghost use Rattle.interpreter.specs.Terminal.{AppendsSome, given_bytes};
+ghost use Rattle.terminal.specs.Streams.{left_of, bound};
 
 use super::run_fault::RunFault;
 use interpreter::{IoFault, Terminal};
@@ -63,7 +65,7 @@ pub fn flush<W: Write>(writer: &mut W) -> Result<(), IoFault>
     Err(IoFault)
 }
 
-/// The terminal of a run.
+/// The terminal of a run. The end of the input is final: a reader that would give more after it is not asked again.
 #[derive(Drop)]
 pub struct Streams<'a, R, W> {
     reader: &'a mut R,
@@ -71,6 +73,7 @@ pub struct Streams<'a, R, W> {
     may_give: u64,
     failures: u64,
     read_failed: bool,
+    ended: bool,
 }
 
 impl<R: Read, W: Write> Terminal for Streams<'_, R, W> {
@@ -80,20 +83,26 @@ impl<R: Read, W: Write> Terminal for Streams<'_, R, W> {
 
     ghost identity = { λ s. (s.reader.ghost_name, s.writer.ghost_name) };
 
-    ghost input = { λ s. R.remaining s.reader.now };
+    ghost input = { λ s. left_of s.ended (R.remaining s.reader.now) };
 
     ghost output = { λ s. W.contents s.writer.now };
 
-    ghost may_give = { λ s. s.may_give };
+    ghost may_give = { λ s. bound s.ended (R.remaining s.reader.now) s.may_give };
 
     ghost failures = { λ s. s.failures };
 
     fn key(&mut self) -> Result<Option<u8>, IoFault> {
+        if self.ended {
+            return Ok(None);
+        }
         if self.may_give == 0 {
             return Err(self.read_fault());
         }
         match read_byte(self.reader) {
-            Ok(None) => Ok(None),
+            Ok(None) => {
+                self.ended = true;
+                Ok(None)
+            }
             Ok(Some(byte)) => {
                 self.may_give -= 1;
                 Ok(Some(byte))
@@ -116,6 +125,9 @@ impl<'a, R: Read, W: Write> Streams<'a, R, W> {
     pub fn new(reader: &'a mut R, writer: &'a mut W) -> Self
         ensures reader { result.reader ≡ reader.entry }
         ensures writer { result.writer ≡ writer.entry }
+        ensures none_failed { result.failures ≡ 0 }
+        ensures may_give { result.may_give ≡ 2 ^ 64 - 1 }
+        ensures goes_on { result.ended ≡ false }
     {
         Streams {
             reader,
@@ -123,18 +135,30 @@ impl<'a, R: Read, W: Write> Streams<'a, R, W> {
             may_give: u64::MAX,
             failures: 0,
             read_failed: false,
+            ended: false,
         }
     }
 
     /// Passes on what the writer holds back.
     pub fn flush(&mut self) -> Result<(), IoFault>
-        ensures input { R.remaining self.new.reader.now ≡ R.remaining self.old.reader.now }
+        ensures input { left_of self.new.ended (R.remaining self.new.reader.now)
+            ≡ left_of self.old.ended (R.remaining self.old.reader.now) }
         ensures output { Keeps (W.contents self.old.writer.now) (W.contents self.new.writer.now) }
         ensures reader { self.new.reader.ghost_name ≡ self.old.reader.ghost_name }
         ensures writer { self.new.writer.ghost_name ≡ self.old.writer.ghost_name }
-        ensures may_give { self.new.may_give ≡ self.old.may_give }
+        ensures may_give { bound self.new.ended (R.remaining self.new.reader.now) self.new.may_give
+            ≡ bound self.old.ended (R.remaining self.old.reader.now) self.old.may_give }
+        ensures failures { self.new.failures ≡ self.old.failures }
     {
         flush(self.writer)
+    }
+
+    /// Whether a call has failed.
+    pub fn has_failed(&self) -> bool
+        ensures yes { OnTrue result (0 < self.now.failures) }
+        ensures no_call { OnFalse result (self.now.failures ≡ 0) }
+    {
+        self.failures > 0
     }
 
     /// The fault of a run that ends here: `Read` where the reader has failed.
@@ -154,6 +178,7 @@ impl<'a, R: Read, W: Write> Streams<'a, R, W> {
         ensures reader { self.new.reader ≡ self.old.reader }
         ensures writer { self.new.writer ≡ self.old.writer }
         ensures may_give { self.new.may_give ≡ self.old.may_give }
+        ensures ended { self.new.ended ≡ self.old.ended }
     {
         self.failures = self.failures.saturating_add(1);
         self.read_failed = true;

@@ -1,31 +1,55 @@
-use Rattle.std.proofs.Common.{ap, ◌∙◌}
+use Rattle.std.proofs.Common.{[], ◌≡◌, ◌<◌, ap, ◌∙◌}
 use Rattle.std.specs.Io.BufRead.{strip_last}
-use Rattle.terminal.proofs.SessionLemmas.{breaks_off-part}
-use Rattle.terminal.proofs.TurnLemmas.{turn-stopped, turn-replied, turn-unflushed}
+use Rattle.terminal.proofs.OneLine.{was_stopped, was_replied, line_stopped, line_replied, line_unflushed, line_unread}
 use Rattle.terminal.proofs.session.turn.Goals as goal
 
 pub returns-in-Err-clause-err : goal.returns-in-Err-clause-err
-returns-in-Err-clause-err g c = λ input held reads holds.
+returns-in-Err-clause-err g c = λ opening is.
     let part = c.in-Err.ensures.err in
-    breaks_off-part c.each_line_has_a_turn.ensures _ _ _ _ _ part.0 input held reads holds part.1 c.in-Err.ensures.output
+    (opening, [], is, g.met.F.Lines.rests _ opening is, line_unread c.turn.ensures opening _ _ _ _ _ c.in-Err.ensures.output part.0 part.1)
 
-pub returns-in-Io-clause-err : goal.returns-in-Io-clause-err
-returns-in-Io-clause-err g c = λ input held reads holds.
+pub returns-then-has_failed-clause-err : goal.returns-then-has_failed-clause-err
+returns-then-has_failed-clause-err g c = λ opening is.
     let kept = rw c.in-Ok-true.field-0-test at c.in-Ok-true.ensures.line in
-    turn-stopped c.long_lines_have_one_turn.ensures c.line.result _ c.args.forth.now _ _ _ _ _ _ (g.W.Write.contents c.line.new.terminal.writer.now) input held
-    c.read_line.new.line.items c.text.result.now reads holds kept c.in-Ok-true.ensures.output
-    (c.text.ensures ∙ ap (strip_last 13) c.as_slice.ensures.value) c.in-Io.ensures.replied
+    let ran = c.line.ensures.runs opening is in
+    let none = c.in-Ok-true.ensures.none_failed ∙ c.requires.none_failed in
+    let some : 0 < c.line.new.terminal.failures = rw c.if-has_failed.true at c.has_failed.ensures.yes in (
+      ran.0,
+      ran.1,
+      ran.2,
+      ran.4,
+      line_stopped c.long_lines.ensures opening _ _ _ _ _ _ c.read_line.new.line.items c.text.result.now kept (c.text.ensures ∙ ap (strip_last 13) c.as_slice.ensures.value) c.in-Ok-true.ensures.output _ _ ran.1 ran.0 c.fault.result
+          (was_stopped opening c.text.result.now ran.0 _ _ _ _ _ _ ran.1 _ _ (g.F.Lines.ending c.line.result) ran.3 c.line.ensures.terminal_failures none some),
+    )
 
 pub returns-in-Ok-clause-done : goal.returns-in-Ok-clause-done
-returns-in-Ok-clause-done g c = λ input held reads holds.
+returns-in-Ok-clause-done g c = λ opening is.
     let kept = rw c.in-Ok-true.field-0-test at c.in-Ok-true.ensures.line in
-    turn-replied c.long_lines_have_one_turn.ensures c.line.result _ _ _ _ _ _ _ _ _ input held c.read_line.new.line.items c.text.result.now reads holds kept c.in-Ok-true.ensures.output
-    (c.text.ensures ∙ ap (strip_last 13) c.as_slice.ensures.value) _
-    c.in-Interpreting.is c.line.ensures.replied c.in-Ok.ensures.input c.in-Ok.ensures.output
+    let ran = c.line.ensures.runs opening is in
+    let none = c.in-Ok-true.ensures.none_failed ∙ c.requires.none_failed in
+    let still : c.line.new.terminal.failures ≡ 0 = rw c.if-has_failed.false at c.has_failed.ensures.no_call in (
+      ran.0,
+      ran.1,
+      ran.2,
+      ran.4,
+      line_replied c.long_lines.ensures opening _ _ _ _ _ _ c.read_line.new.line.items c.text.result.now kept (c.text.ensures ∙ ap (strip_last 13) c.as_slice.ensures.value) c.in-Ok-true.ensures.output _ _ ran.1 ran.0
+          (g.F.Lines.ending c.line.result)
+          (was_replied opening c.text.result.now ran.0 _ _ _ _ _ _ ran.1 _ _ (g.F.Lines.ending c.line.result) ran.3 c.line.ensures.terminal_failures none still)
+          _ _ c.in-Ok.ensures.input c.in-Ok.ensures.output,
+    )
 
 pub returns-in-Err-flush-clause-err : goal.returns-in-Err-flush-clause-err
-returns-in-Err-flush-clause-err g c = λ input held reads holds.
+returns-in-Err-flush-clause-err g c = λ opening is.
     let kept = rw c.in-Ok-true.field-0-test at c.in-Ok-true.ensures.line in
-    turn-unflushed c.long_lines_have_one_turn.ensures c.line.result _ _ _ _ _ _ _ _ _ input held c.read_line.new.line.items c.text.result.now reads holds kept c.in-Ok-true.ensures.output
-    (c.text.ensures ∙ ap (strip_last 13) c.as_slice.ensures.value) _
-    c.in-Interpreting.is c.line.ensures.replied c.in-Err-flush.ensures.input c.in-Err-flush.ensures.output
+    let ran = c.line.ensures.runs opening is in
+    let none = c.in-Ok-true.ensures.none_failed ∙ c.requires.none_failed in
+    let still : c.line.new.terminal.failures ≡ 0 = rw c.if-has_failed.false at c.has_failed.ensures.no_call in (
+      ran.0,
+      ran.1,
+      ran.2,
+      ran.4,
+      line_unflushed c.long_lines.ensures opening _ _ _ _ _ _ c.read_line.new.line.items c.text.result.now kept (c.text.ensures ∙ ap (strip_last 13) c.as_slice.ensures.value) c.in-Ok-true.ensures.output _ _ ran.1 ran.0
+          (g.F.Lines.ending c.line.result)
+          (was_replied opening c.text.result.now ran.0 _ _ _ _ _ _ ran.1 _ _ (g.F.Lines.ending c.line.result) ran.3 c.line.ensures.terminal_failures none still)
+          _ _ c.in-Err-flush.ensures.input c.in-Err-flush.ensures.output,
+    )

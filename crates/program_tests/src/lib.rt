@@ -1,0 +1,13 @@
+//! Tests of sessions and of the program, over systems of the whole language.
+#![tactic(auto)]
+
+#[cfg(test)]
+mod commands;
+#[cfg(test)]
+mod images;
+#[cfg(test)]
+mod sessions;
+#[cfg(test)]
+mod streams;
+#[cfg(test)]
+mod support;

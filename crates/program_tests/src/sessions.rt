@@ -1,0 +1,230 @@
+//! Sessions over blocks in memory: lines, streams that fail, and when the replies come.
+use super::streams::{Ended, Failing, Fitful, Listener, Narrow, Patient};
+use super::support::{run, transcript};
+use std::cell::Cell;
+use std::process::Abort;
+use std::test::Fail;
+use terminal::{RunFault, laws};
+
+/// Runs the input through a new system, and compares what was written.
+fn check(
+    rt: &(impl Abort + AllocGlobal),
+    steps: u32,
+    input: &[u8],
+    output: &[u8],
+) -> Result<(), Fail>
+    requires { 0 < steps }
+{
+    let mut reader = input;
+    let mut written: Vec<u8> = Vec::new(rt.alloc());
+    run(rt, steps, &mut reader, &mut written)??;
+    assert_eq!(rt; written.as_slice(), output);
+    assert!(rt; reader.is_empty());
+    Ok(())
+}
+
+/// Lines, and their replies.
+const REPLIES: &str = "\
+> 1 2 + .
+3  ok
+> 65535 . 1. . .
+-1 0 1  ok
+> 65536
+ ? NUMBER
+> -.
+ ? UNDEFINED
+> 1 . FOO
+1  ? UNDEFINED
+> 1 2
+ ok
+> . .
+2 1  ok
+> : SQUARE DUP * ;
+ ok
+> 7 SQUARE . 2 SQUARE .
+49 4  ok
+> : COUNTED 0 DO I .
+> LOOP ;
+
+ ok
+> 3 COUNTED
+0 1 2  ok
+> CREATE CELLS 4 ALLOT 5 CELLS ! CELLS @ .
+5  ok
+> 1 BLOCK 1024 65 FILL UPDATE 2 BLOCK DROP 1 BLOCK C@ .
+65  ok
+> 1 LOAD
+ ? UNDEFINED
+> 32 LOAD
+ ? NO BLOCK
+> KEY EMIT
+A ok
+> A1 .
+1  ok
+> : OPENED DO ;
+ ? UNBALANCED
+> .
+ ? STACK EMPTY
+";
+
+#[test]
+fn replies(rt: HostRuntime) -> Result<(), Fail> {
+    let (input, output) = transcript(&rt, REPLIES)?;
+    check(&rt, 1_000_000, input.as_slice(), output.as_slice())
+}
+
+/// Inputs, and what is written, one in a row.
+#[test]
+fn lines_are_cut(rt: HostRuntime) -> Result<(), Fail> {
+    let rows = [
+        ("", ""),
+        ("\n\n", " ok\n ok\n"),
+        ("1 .\r\n", "1  ok\n"),
+        ("1 .\r\r\n", " ? UNDEFINED\n"),
+        ("\t1\t.\t\n", "1  ok\n"),
+        ("1\r.\n", " ? UNDEFINED\n"),
+        ("1\0.\n", " ? UNDEFINED\n"),
+        // A last line may lack its line feed.
+        ("1 .\n2 .", "1  ok\n2  ok\n"),
+        ("1 .\r", "1  ok\n"),
+        ("\r", " ok\n"),
+        ("\r\r", " ? UNDEFINED\n"),
+        (" ", " ok\n"),
+    ];
+    for (input, output) in rows {
+        check(&rt, 1_000_000, input.as_bytes(), output.as_bytes())?;
+    }
+    Ok(())
+}
+
+#[test]
+fn steps(rt: HostRuntime) -> Result<(), Fail> {
+    check(&rt, 3, b"1 .\n", b"1  ok\n")?;
+    check(&rt, 2, b"1 .\n1 1 1\n", b" ? STEPS\n ? STEPS\n")
+}
+
+#[test]
+fn long_lines(rt: HostRuntime) -> Result<(), Fail> {
+    let rows = [
+        (1024, "\n", " ? UNDEFINED\n"),
+        (1024, "\r\n", " ? UNDEFINED\n"),
+        (1024, "\r", " ? UNDEFINED\n"),
+        (1025, "\n", " ? LINE LENGTH\n"),
+        (1024, "\r\r\n", " ? LINE LENGTH\n"),
+        (1024, "\rA\n", " ? LINE LENGTH\n"),
+        (1025, "", " ? LINE LENGTH\n"),
+        // What follows a line that is too long is the next line.
+        (100_000, "\r\n2 .\n", " ? LINE LENGTH\n2  ok\n"),
+    ];
+    for (length, ending, output) in rows {
+        let mut input = Vec::new(rt.alloc());
+        for _ in 0..length {
+            input.push(b'A')?;
+        }
+        input.extend_from_slice(ending.as_bytes())?;
+        check(&rt, 1_000_000, input.as_slice(), output.as_bytes())?;
+    }
+    Ok(())
+}
+
+/// Three lines, and their replies.
+const LINES: [(&[u8], &[u8]); 3] = [
+    (b"7 .\n", b"7  ok\n"),
+    (b"1 . FOO\n", b"1  ? UNDEFINED\n"),
+    (b"\n", b" ok\n"),
+];
+
+/// The lines in one text.
+const INPUT: &[u8] = b"7 .\n1 . FOO\n\n";
+
+/// The replies in one text.
+const OUTPUT: &[u8] = b"7  ok\n1  ? UNDEFINED\n ok\n";
+
+/// How many bytes the replies to the lines have that the input holds whole.
+fn replied_length(input: &[u8]) -> usize {
+    let mut rest = input.len();
+    let mut length = 0usize;
+    for (line, reply) in LINES {
+        if rest < line.len() {
+            break;
+        }
+        rest -= line.len();
+        length = length.wrapping_add(reply.len());
+    }
+    length
+}
+
+/// A reader that gives a byte a call, and one that fails after each byte in turn.
+#[test]
+fn readers(rt: HostRuntime) -> Result<(), Fail> {
+    let mut written: Vec<u8> = Vec::new(rt.alloc());
+    run(&rt, 100, &mut Fitful::new(INPUT, false), &mut written)??;
+    assert_eq!(rt; written.as_slice(), OUTPUT);
+    for length in 0..=INPUT.len() {
+        let mut reader = Fitful::new(&INPUT[..length], true);
+        let mut written: Vec<u8> = Vec::new(rt.alloc());
+        let end = run(&rt, 100, &mut reader, &mut written)?;
+        assert_eq!(rt; end, Err(RunFault::Read), "after {length} bytes");
+        assert_eq!(rt; written.len(), replied_length(&INPUT[..length]));
+        assert!(rt; OUTPUT.starts_with(written.as_slice()));
+    }
+    Ok(())
+}
+
+#[test]
+fn a_writer_that_fails(rt: HostRuntime) -> Result<(), Fail> {
+    for failing in [Failing::TakesNone, Failing::Refuses] {
+        for room in 0..=OUTPUT.len() {
+            let mut writer = Narrow::new(rt.alloc(), room, failing);
+            let end = run(&rt, 100, &mut &*INPUT, &mut writer)?;
+            assert_eq!(rt;
+                end.is_ok(),
+                room == OUTPUT.len(),
+                "with room for {room} bytes"
+            );
+            assert!(rt; end != Err(RunFault::Read));
+            assert_eq!(rt; writer.written(), &OUTPUT[..room]);
+        }
+    }
+    Ok(())
+}
+
+#[test]
+fn a_writer_that_is_not_flushed(rt: HostRuntime) -> Result<(), Fail> {
+    for (flushes, length) in [(0, 6), (1, 21), (2, 25), (3, 25)] {
+        let mut writer = Narrow::new(rt.alloc(), 1000, Failing::Flushes(flushes));
+        let end = run(&rt, 100, &mut &*INPUT, &mut writer)?;
+        assert_eq!(rt; end.is_ok(), flushes == 3);
+        assert!(rt; end != Err(RunFault::Read));
+        assert_eq!(rt; writer.written(), &OUTPUT[..length]);
+    }
+    Ok(())
+}
+
+/// Each reply stands written and flushed before the next line is read.
+#[test]
+fn replies_come_before_the_next_line(rt: HostRuntime) -> Result<(), Fail> {
+    let flushed = Cell::new(0usize);
+    let mut reader = Patient::new(&LINES, &flushed);
+    let mut writer = Listener::new(&flushed);
+    assert_eq!(rt; run(&rt, 100, &mut reader, &mut writer)?, Ok(()));
+    assert_eq!(rt; flushed.get(), OUTPUT.len());
+    Ok(())
+}
+
+/// A reader that gives more after its end is not asked again: the end is final.
+#[test]
+fn the_end_is_final(rt: HostRuntime) -> Result<(), Fail> {
+    let mut reader = Ended::new(b"7 .\n8 .", b"9 .\n");
+    let mut written: Vec<u8> = Vec::new(rt.alloc());
+    run(&rt, 100, &mut reader, &mut written)??;
+    assert_eq!(rt; written.as_slice(), b"7  ok\n8  ok\n".as_slice());
+    Ok(())
+}
+
+#[test]
+fn laws_are_calls(_rt: HostRuntime) {
+    laws::played();
+    laws::one_session();
+    laws::commands_are_read();
+}

@@ -1,0 +1,136 @@
+//! Calls of the program, and what they leave.
+use interpreter::Forth;
+use recovery::format;
+use sector_disk::{FileDisk, MemoryDisk};
+use std::fs::File;
+use std::io::{Read, Write};
+use std::process::Abort;
+use std::rt::Files;
+use std::test::Fail;
+use std::{fs, io};
+use terminal::{RunFault, run_over};
+
+/// What a call of the program left.
+#[derive(Debug, Drop)]
+pub struct Left {
+    pub status: u8,
+    pub output: Vec<u8>,
+    pub errors: Vec<u8>,
+}
+
+/// The program, over systems of the whole language.
+pub fn command<R: Read, W: Write, E: Write>(
+    rt: &(impl Files<File = File> + AllocGlobal),
+    words: &[&str],
+    input: &mut R,
+    output: &mut W,
+    errors: &mut E,
+) -> u8 {
+    terminal::command::<Forth<FileDisk>, Forth<MemoryDisk>, _, R, W, E>(
+        rt, words, input, output, errors,
+    )
+}
+
+/// Calls the program.
+pub fn call(rt: &(impl Files<File = File> + AllocGlobal), words: &[&str], input: &[u8]) -> Left {
+    let mut input = input;
+    let mut output: Vec<u8> = Vec::new(rt.alloc());
+    let mut errors: Vec<u8> = Vec::new(rt.alloc());
+    let status = command(rt, words, &mut input, &mut output, &mut errors);
+    Left {
+        status,
+        output,
+        errors,
+    }
+}
+
+/// Calls the program, and compares what it left.
+pub fn check(
+    rt: &(impl Files<File = File> + AllocGlobal + Abort),
+    words: &[&str],
+    input: &[u8],
+    status: u8,
+    output: &[u8],
+    errors: &[u8],
+) {
+    let left = call(rt, words, input);
+    assert_eq!(rt; left.errors.as_slice(), errors, "{words:?}");
+    assert_eq!(rt; left.status, status, "{words:?}");
+    assert_eq!(rt; left.output.as_slice(), output, "{words:?}");
+}
+
+/// Makes an empty folder.
+pub fn fresh_folder(rt: &(impl Files + AllocGlobal), folder: &str) -> io::Result<()> {
+    let _ = fs::remove_dir_all(rt, folder);
+    fs::create_dir(rt, folder)
+}
+
+/// Runs lines over 32 blank blocks in memory.
+pub fn run<R: Read, W: Write>(
+    rt: &impl AllocGlobal,
+    steps: u32,
+    reader: &mut R,
+    writer: &mut W,
+) -> Result<Result<(), RunFault>, Fail>
+    requires { 0 < steps }
+{
+    match format(MemoryDisk::new(rt.alloc(), 131)?, 32) {
+        Ok(store) => {
+            let (_, end) = run_over::<MemoryDisk, Forth<MemoryDisk>, R, W>(
+                rt.alloc(),
+                store,
+                steps,
+                reader,
+                writer,
+            )?;
+            Ok(end)
+        }
+        Err((fault, _)) => Err(fault)?,
+    }
+}
+
+/// What the program was given, in the lines that begin with `> `, and what it has to write, in the others.
+pub fn transcript(rt: &impl AllocGlobal, text: &str) -> Result<(Vec<u8>, Vec<u8>), Fail> {
+    let mut input: Vec<u8> = Vec::new(rt.alloc());
+    let mut output: Vec<u8> = Vec::new(rt.alloc());
+    for line in text.lines() {
+        match line.strip_prefix("> ") {
+            Some(given) => {
+                input.extend_from_slice(given.as_bytes())?;
+                input.push(b'\n')?;
+            }
+            None => {
+                output.extend_from_slice(line.as_bytes())?;
+                output.push(b'\n')?;
+            }
+        }
+    }
+    Ok((input, output))
+}
+
+/// Calls the program in a folder, once for each line of a script: the status, the text of the failure if there is one, and after
+/// a colon the words, in which `@` stands for the folder. Nothing is given to it, and it has to print nothing.
+pub fn follow(
+    rt: &(impl Files<File = File> + AllocGlobal + Abort),
+    folder: &str,
+    script: &str,
+) -> Result<(), Fail> {
+    for line in script.lines() {
+        let Some((wanted, words)) = line.split_once(" : ") else {
+            return Err(Fail::from("a line without words"));
+        };
+        let words = words.replace(rt.alloc(), "@", folder)?;
+        let mut list: Vec<&str> = Vec::new(rt.alloc());
+        list.push("forth83")?;
+        for word in words.split_whitespace() {
+            list.push(word)?;
+        }
+        let left = call(rt, list.as_slice(), b"");
+        let errors = str::from_utf8(left.errors.as_slice()).unwrap_or("?");
+        let text = errors.strip_prefix("forth83: ").unwrap_or(errors);
+        let found = format!(in rt.alloc(); "{} {text}", left.status)?;
+        assert_eq!(rt; found.trim_end(), wanted, "{words}");
+        assert!(rt; left.output.is_empty(), "{words}");
+    }
+    Ok(())
+}

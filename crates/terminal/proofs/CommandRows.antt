@@ -1,0 +1,33 @@
+-- The worked command lines compute.
+use Rattle.std.proofs.Common.{refl}
+use Rattle.clap.proofs.OnLiterals.{clap_on_literals}
+use Rattle.terminal.specs.CommandRows.{CommandsAreRead}
+
+pub commands_are_read : CommandsAreRead
+unfolding clap_on_literals
+commands_are_read = record {
+  none = refl;
+  none_fits = refl;
+  makes = refl;
+  makes_fits = refl;
+  makes_first = refl;
+  runs = refl;
+  runs_fits = refl;
+  steps = refl;
+  lists = refl;
+  puts = refl;
+  puts_fits = refl;
+  no_blocks = refl;
+  few_blocks = refl;
+  many_blocks = refl;
+  no_steps = refl;
+  many_steps = refl;
+  no_such_block = refl;
+  last_block = refl;
+  no_file = refl;
+  upgrades = refl;
+  upgrades_fits = refl;
+  no_new_image = refl;
+  unknown = refl;
+  help = refl;
+}

@@ -1,0 +1,33 @@
+use Rattle.std.proofs.Common.{rules}
+use Rattle.std.specs.Prelude.{codes}
+use Rattle.terminal.proofs.Given.{text_given}
+use Rattle.terminal.proofs.reading.order_over_image.Goals as goal
+
+pub returns-in_ok-blocks_of-in-new-clause-given : goal.returns-in_ok-blocks_of-in-new-clause-given
+returns-in_ok-blocks_of-in-new-clause-given c = (
+  search rules,
+  text_given c.args.given.now (codes "IMAGE") c.in_ok-image.image.now c.in_ok-image.ensures,
+  c.in_ok-blocks_of-in-new.ensures.number,
+)
+
+pub returns-in_ok-steps_of-in-run-clause-given : goal.returns-in_ok-steps_of-in-run-clause-given
+returns-in_ok-steps_of-in-run-clause-given c = (
+  search rules,
+  text_given c.args.given.now (codes "IMAGE") c.in_ok-image.image.now c.in_ok-image.ensures,
+  c.in_ok-steps_of-in-run.ensures.number,
+)
+
+pub returns-in_ok-block_of-in-list-clause-given : goal.returns-in_ok-block_of-in-list-clause-given
+returns-in_ok-block_of-in-list-clause-given c = (
+  search rules,
+  text_given c.args.given.now (codes "IMAGE") c.in_ok-image.image.now c.in_ok-image.ensures,
+  c.in_ok-block_of-in-list.ensures,
+)
+
+pub returns-in_ok-get_str-in-put-clause-given : goal.returns-in_ok-get_str-in-put-clause-given
+returns-in_ok-get_str-in-put-clause-given c = (
+  search rules,
+  text_given c.args.given.now (codes "IMAGE") c.in_ok-image.image.now c.in_ok-image.ensures,
+  c.in_ok-block_of-in-put.ensures,
+  text_given c.args.given.now (codes "FILE") c.in_ok-get_str-in-put.field-0.now c.in_ok-get_str-in-put.ensures,
+)

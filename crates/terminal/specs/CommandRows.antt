@@ -1,0 +1,58 @@
+-- Worked command lines, computed from the definition of the command.
+use Rattle.std.specs.Prelude.{◌≡◌, List, [], ◌∷◌, Option, Some, None, codes, option_map}
+use Rattle.clap.specs.Words.{Text, first_of, one_of, subcommand_of, Kinds, fault_of}
+use Rattle.clap.specs.declared.error.kind.ErrorKind.TheVariants as kind
+use Rattle.terminal.specs.Commands.{forth83}
+
+-- the name of the command, the texts under two ids, and the numbers under two
+abbrev pub read : List Text → Option (Text × Option Text × Option Text × Option Text × Option Text × Option Text)
+read words = option_map (λ given. (
+  given.0,
+  first_of (codes "IMAGE") given.1,
+  first_of (codes "FILE") given.1,
+  one_of (codes "blocks") given.1,
+  one_of (codes "steps") given.1,
+  one_of (codes "BLOCK") given.1,
+))
+    (subcommand_of forth83 (codes "forth83" ∷ words))
+
+-- the name of the command, and the texts of the old image and the new one
+abbrev pub read_images : List Text → Option (Text × Option Text × Option Text)
+read_images words = option_map (λ given. (given.0, first_of (codes "OLD") given.1, first_of (codes "NEW") given.1))
+    (subcommand_of forth83 (codes "forth83" ∷ words))
+
+-- which refusals there may be
+abbrev pub refused : List Text → Kinds
+refused words = fault_of forth83 (codes "forth83" ∷ words)
+
+pub record CommandsAreRead : Type 0 where
+  pub none : read [] ≡ None
+  pub none_fits : refused [] ≡ []
+  pub makes : read (codes "new" ∷ codes "A" ∷ codes "--blocks" ∷ codes "32" ∷ [])
+      ≡ Some (codes "new", Some (codes "A"), None, Some (codes "32"), None, None)
+  pub makes_fits : refused (codes "new" ∷ codes "A" ∷ codes "--blocks" ∷ codes "32" ∷ []) ≡ []
+  pub makes_first : read (codes "new" ∷ codes "--blocks=3840" ∷ codes "A" ∷ [])
+      ≡ Some (codes "new", Some (codes "A"), None, Some (codes "3840"), None, None)
+  pub runs : read (codes "run" ∷ codes "A" ∷ [])
+      ≡ Some (codes "run", Some (codes "A"), None, None, Some (codes "1000000"), None)
+  pub runs_fits : refused (codes "run" ∷ codes "A" ∷ []) ≡ []
+  pub steps : read (codes "run" ∷ codes "A" ∷ codes "--steps" ∷ codes "7" ∷ [])
+      ≡ Some (codes "run", Some (codes "A"), None, None, Some (codes "7"), None)
+  pub lists : read (codes "list" ∷ codes "A" ∷ codes "31" ∷ [])
+      ≡ Some (codes "list", Some (codes "A"), None, None, None, Some (codes "31"))
+  pub puts : read (codes "put" ∷ codes "A" ∷ codes "1" ∷ codes "F" ∷ [])
+      ≡ Some (codes "put", Some (codes "A"), Some (codes "F"), None, None, Some (codes "1"))
+  pub puts_fits : refused (codes "put" ∷ codes "A" ∷ codes "1" ∷ codes "F" ∷ []) ≡ []
+  pub no_blocks : refused (codes "new" ∷ codes "A" ∷ []) ≡ kind.MissingRequiredArgument ∷ []
+  pub few_blocks : refused (codes "new" ∷ codes "A" ∷ codes "--blocks" ∷ codes "31" ∷ []) ≡ kind.ValueValidation ∷ []
+  pub many_blocks : refused (codes "new" ∷ codes "A" ∷ codes "--blocks" ∷ codes "3841" ∷ []) ≡ kind.ValueValidation ∷ []
+  pub no_steps : refused (codes "run" ∷ codes "A" ∷ codes "--steps" ∷ codes "0" ∷ []) ≡ kind.ValueValidation ∷ []
+  pub many_steps : refused (codes "run" ∷ codes "A" ∷ codes "--steps" ∷ codes "1000000001" ∷ []) ≡ kind.ValueValidation ∷ []
+  pub no_such_block : refused (codes "list" ∷ codes "A" ∷ codes "70000" ∷ []) ≡ kind.ValueValidation ∷ []
+  pub last_block : refused (codes "list" ∷ codes "A" ∷ codes "65535" ∷ []) ≡ []
+  pub no_file : refused (codes "put" ∷ codes "A" ∷ codes "1" ∷ []) ≡ kind.MissingRequiredArgument ∷ []
+  pub upgrades : read_images (codes "upgrade" ∷ codes "A" ∷ codes "B" ∷ []) ≡ Some (codes "upgrade", Some (codes "A"), Some (codes "B"))
+  pub upgrades_fits : refused (codes "upgrade" ∷ codes "A" ∷ codes "B" ∷ []) ≡ []
+  pub no_new_image : refused (codes "upgrade" ∷ codes "A" ∷ []) ≡ kind.MissingRequiredArgument ∷ []
+  pub unknown : refused (codes "--steps" ∷ codes "5" ∷ []) ≡ kind.UnknownArgument ∷ []
+  pub help : refused (codes "--help" ∷ []) ≡ kind.DisplayHelp ∷ []

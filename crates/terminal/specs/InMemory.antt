@@ -1,0 +1,42 @@
+-- Sessions over blocks in memory: what the program runs where its words give no command.
+use Rattle.std.specs.Prelude.{◌≡◌, ◌⊎◌, ℕ, List, [], Option, None, ⊤}
+use Rattle.clap.specs.Words.{Text, fault_of, subcommand_of}
+use Rattle.clap.specs.declared.error.kind.ErrorKind.{ErrorKind}
+use Rattle.clap.specs.declared.error.kind.ErrorKind.TheVariants.{DisplayHelp, DisplayVersion}
+use Rattle.journal.specs.Maps.{fresh}
+use Rattle.recovery.specs.Formatted.{blank_blocks}
+use Rattle.block_words.specs.Words.{Save}
+use Rattle.interpreter.specs.State.{Forth}
+use Rattle.interpreter.specs.Lines.{new_forth}
+use Rattle.terminal.specs.declared.words.Order.{Order}
+use Rattle.terminal.specs.declared.words.Order.TheVariants.{Memory}
+use Rattle.terminal.specs.declared.run_fault.RunFault.{RunFault}
+use Rattle.terminal.specs.Commands.{forth83}
+use Rattle.terminal.specs.Sessions.{Completes, BreaksOff}
+
+-- the words are no command, and nothing in them is refused
+abbrev pub AsksForNothing : List Text → Type 0
+AsksForNothing words = (subcommand_of forth83 words ≡ None) × (fault_of forth83 words ≡ [])
+
+-- the order that such words give
+abbrev pub IsForMemory : Order → Type 0
+IsForMemory Memory = ⊤
+IsForMemory order = ⊥
+
+-- a new system over 32 blank blocks
+abbrev pub blank_forth : Forth
+blank_forth = new_forth 1000000 (fresh (blank_blocks 32))
+
+-- The whole input was read, and the output of its session was written. No call of the memory fails.
+abbrev pub CompletesInMemory : (left left' written written' : Option (List ℕ)) → Type 0
+CompletesInMemory left left' written written' =
+    (closing : Forth) × (made : List Save) × Completes blank_forth closing left left' written written' 0 0 made
+
+-- The same up to where the reader or the writer failed.
+abbrev pub BreaksInMemory : (left left' written written' : Option (List ℕ)) → Type 0
+BreaksInMemory left left' written written' =
+    (fault : RunFault) × (closing : Forth) × (made : List Save) × BreaksOff fault blank_forth closing left left' written written' 0 0 made
+
+-- help was asked for
+abbrev pub IsHelp : ErrorKind → Type 0
+IsHelp kind = (kind ≡ DisplayHelp) ⊎ (kind ≡ DisplayVersion)

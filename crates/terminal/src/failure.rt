@@ -1,0 +1,109 @@
+//! Why the program didn't do what it was asked.
+ghost use Rattle.std.specs.Prelude.{◌≡◌, ◌≤◌};
+
+use super::run_fault::RunFault;
+use journal::StoreFault;
+use recovery::{OpenFault, UpgradeFault};
+use sector_disk::FileFault;
+use thiserror::Error;
+
+/// Why the program didn't do what it was asked. Its text is what the user reads.
+#[derive(Clone, Copy, Debug, PartialEq, Eq, Error)]
+pub enum Failure {
+    #[error("image: bad size")]
+    BadSize,
+    #[error("image: no label")]
+    NoLabel,
+    #[error("image: other version")]
+    OtherVersion,
+    #[error("image: wrong count")]
+    WrongCount,
+    #[error("image: damaged")]
+    Damaged,
+    #[error("image: device fault")]
+    Device,
+    #[error("image: exists")]
+    Exists,
+    #[error("image: cannot open")]
+    CannotOpen,
+    #[error("image: no block")]
+    NoBlock,
+    #[error("input: cannot read")]
+    CannotRead,
+    #[error("input: not a screen")]
+    NotAScreen,
+    #[error("output: cannot write")]
+    CannotWrite,
+    #[error("no memory")]
+    NoMemory,
+}
+
+impl Failure {
+    /// The exit status: 3 where it lies with the image, 4 with input or output, 5 with memory.
+    pub fn status(self) -> u8
+        ensures fails { 3 ≤ result }
+        ensures memory { self ≡ Failure.NoMemory → result ≡ 5 }
+    {
+        match self {
+            Failure::BadSize
+            | Failure::NoLabel
+            | Failure::OtherVersion
+            | Failure::WrongCount
+            | Failure::Damaged
+            | Failure::Device
+            | Failure::Exists
+            | Failure::CannotOpen
+            | Failure::NoBlock => 3,
+            Failure::CannotRead | Failure::NotAScreen | Failure::CannotWrite => 4,
+            Failure::NoMemory => 5,
+        }
+    }
+}
+
+impl From<OpenFault> for Failure {
+    fn from(fault: OpenFault) -> Self {
+        match fault {
+            OpenFault::BadSize => Failure::BadSize,
+            OpenFault::NoLabel => Failure::NoLabel,
+            OpenFault::OtherVersion => Failure::OtherVersion,
+            OpenFault::WrongCount => Failure::WrongCount,
+            OpenFault::Damaged => Failure::Damaged,
+            OpenFault::Device => Failure::Device,
+        }
+    }
+}
+
+// The text doesn't say which of both images it is.
+impl From<UpgradeFault> for Failure {
+    fn from(fault: UpgradeFault) -> Self {
+        match fault {
+            UpgradeFault::Old(fault) => Failure::from(fault),
+            UpgradeFault::New(fault) => Failure::from(fault),
+        }
+    }
+}
+
+impl From<FileFault> for Failure {
+    fn from(fault: FileFault) -> Self {
+        match fault {
+            FileFault::Exists => Failure::Exists,
+            FileFault::Cannot => Failure::CannotOpen,
+        }
+    }
+}
+
+// Outside a line a store that was closed is a device that failed.
+impl From<StoreFault> for Failure {
+    fn from(_: StoreFault) -> Self {
+        Failure::Device
+    }
+}
+
+impl From<RunFault> for Failure {
+    fn from(fault: RunFault) -> Self {
+        match fault {
+            RunFault::Read => Failure::CannotRead,
+            RunFault::Write => Failure::CannotWrite,
+        }
+    }
+}

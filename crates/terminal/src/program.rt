@@ -1,0 +1,161 @@
+//! The program: words, streams and files to an exit status.
+ghost use Rattle.std.specs.Prelude.{◌≡◌, ◌≢◌, ◌<◌, List, [], map, IsOk, IsErr, IfErr, OnOk};
+ghost use Rattle.clap.specs.Words.{kind_of};
+ghost use Rattle.journal.specs.Maps.{Maps};
+ghost use Rattle.journal.specs.Store.{StandsFor, device_of};
+ghost use Rattle.block_words.specs.Words.{Save};
+ghost use Rattle.interpreter.specs.State.{Forth as Abstract};
+ghost use Rattle.interpreter.specs.Lines.{new_forth};
+ghost use Rattle.terminal.specs.declared.run_fault.RunFault.{RunFault as AbstractFault};
+ghost use Rattle.terminal.specs.Commands.{IsInRange};
+ghost use Rattle.terminal.specs.InMemory.{AsksForNothing, IsForMemory, CompletesInMemory, BreaksInMemory, IsHelp};
+ghost use Rattle.terminal.specs.Sessions.{Completes, BreaksOff};
+
+use super::failure::Failure;
+use super::images::{list_block, make_image, open_image, put_file, upgrade_image};
+use super::reading::order;
+use super::serving::run_over;
+use super::words::Order;
+use clap::Error;
+use clap::error::ErrorKind;
+use interpreter::promise::Lines;
+use journal::Store;
+use recovery::format;
+use sector_disk::{FileDisk, MemoryDisk, SectorDevice};
+use std::alloc::Global;
+use std::convert::AsStr;
+use std::fs::{File, Files};
+use std::io::{Read, Write};
+
+/// How many steps a line may take over blocks in memory.
+const STEPS: u32 = 1_000_000;
+
+/// How many blocks there are in memory.
+const BLOCKS: u16 = 32;
+
+/// Does what the words ask for, of which the first is the name of the program, and answers the exit status: 0, 2 where
+/// the words are no command, 3 for a fault of the image, 4 where the input can't be read or the output can't be written, 5
+/// where there is no memory. A fault is told in one line of `errors`. An image is run by a system `F`, blocks in memory by
+/// one `M`. Input is read byte by byte and a reply is written piece by piece, so both should be buffered.
+pub fn command<F: Lines<FileDisk>, M: Lines<MemoryDisk>, S: AsStr, R: Read, W: Write, E: Write>(
+    rt: &(impl Files<File = File> + AllocGlobal),
+    words: &[S],
+    input: &mut R,
+    output: &mut W,
+    errors: &mut E,
+) -> u8
+    // Without a command the input is a session over blank blocks in memory, and the output is that session's.
+    ensures well { AsksForNothing (map S.text words.now) → result ≡ 0 → CompletesInMemory
+        (R.remaining input.old) (R.remaining input.new) (W.contents output.old) (W.contents output.new) }
+    ensures broken { AsksForNothing (map S.text words.now) → result ≡ 4 → BreaksInMemory
+        (R.remaining input.old) (R.remaining input.new) (W.contents output.old) (W.contents output.new) }
+{
+    match order(rt.alloc(), words) {
+        Ok(asked) => told(perform::<F, M, R, W>(rt, asked, input, output), errors),
+        Err(error) => explain(&error, output, errors),
+    }
+}
+
+/// Does what is asked.
+fn perform<F: Lines<FileDisk>, M: Lines<MemoryDisk>, R: Read, W: Write>(
+    rt: &(impl Files<File = File> + AllocGlobal),
+    asked: Order<'_>,
+    input: &mut R,
+    output: &mut W,
+) -> Result<(), Failure>
+    requires { IsInRange asked }
+    ensures well { IsForMemory asked.entry → OnOk result (CompletesInMemory
+        (R.remaining input.old) (R.remaining input.new) (W.contents output.old) (W.contents output.new)) }
+    ensures broken { IsForMemory asked.entry → IfErr result (λ e. e ≢ Failure.NoMemory → BreaksInMemory
+        (R.remaining input.old) (R.remaining input.new) (W.contents output.old) (W.contents output.new)) }
+{
+    match asked {
+        Order::Memory => run_in_memory::<M, R, W>(rt, input, output),
+        Order::New(path, blocks) => make_image(rt, path, blocks),
+        Order::Run(path, steps) => {
+            serve::<FileDisk, F, R, W>(rt.alloc(), open_image(rt, path)?, steps, input, output)
+        }
+        Order::List(path, block) => list_block(&mut open_image(rt, path)?, block, output),
+        Order::Put(path, block, file) => put_file(rt, &mut open_image(rt, path)?, block, file),
+        Order::Upgrade(old, new) => upgrade_image(rt, old, new),
+    }
+}
+
+/// Runs the input over blocks in memory.
+fn run_in_memory<M: Lines<MemoryDisk>, R: Read, W: Write>(
+    rt: &impl AllocGlobal,
+    input: &mut R,
+    output: &mut W,
+) -> Result<(), Failure>
+    ensures well { OnOk result (CompletesInMemory
+        (R.remaining input.old) (R.remaining input.new) (W.contents output.old) (W.contents output.new)) }
+    ensures broken { IfErr result (λ e. e ≢ Failure.NoMemory → BreaksInMemory
+        (R.remaining input.old) (R.remaining input.new) (W.contents output.old) (W.contents output.new)) }
+{
+    match MemoryDisk::new(rt.alloc(), 3 + 4 * BLOCKS as u32) {
+        Ok(disk) => match format(disk, BLOCKS) {
+            Ok(store) => serve::<MemoryDisk, M, R, W>(rt.alloc(), store, STEPS, input, output),
+            Err((fault, _)) => Err(Failure::from(fault)),
+        },
+        Err(_) => Err(Failure::NoMemory),
+    }
+}
+
+/// Runs the input over a store.
+fn serve<D: SectorDevice + Drop, F: Lines<D>, R: Read, W: Write>(
+    alloc: Global,
+    store: Store<D>,
+    steps: u32,
+    input: &mut R,
+    output: &mut W,
+) -> Result<(), Failure>
+    requires { 0 < steps }
+    ensures well { (m : Maps) → StandsFor store m → OnOk result ((closing : Abstract) × (made : List Save) × (after : D)
+        × Completes (new_forth steps m) closing (R.remaining input.old) (R.remaining input.new)
+        (W.contents output.old) (W.contents output.new) (D.failures (device_of store)) (D.failures after) made) }
+    ensures broken { (m : Maps) → StandsFor store m → IfErr result (λ e. e ≢ Failure.NoMemory
+        → (fault : AbstractFault) × (closing : Abstract) × (made : List Save) × (after : D)
+        × BreaksOff fault (new_forth steps m) closing (R.remaining input.old) (R.remaining input.new)
+        (W.contents output.old) (W.contents output.new) (D.failures (device_of store)) (D.failures after) made) }
+{
+    match run_over::<D, F, R, W>(alloc, store, steps, input, output) {
+        Ok((_, Ok(()))) => Ok(()),
+        Ok((_, Err(fault))) => Err(Failure::from(fault)),
+        Err(_) => Err(Failure::NoMemory),
+    }
+}
+
+/// The exit status. A failure is told in a line.
+fn told<E: Write>(outcome: Result<(), Failure>, errors: &mut E) -> u8
+    ensures well { result ≡ 0 → IsOk outcome }
+    ensures broken { result ≡ 4 → IsErr outcome × IfErr outcome (λ e. e ≢ Failure.NoMemory) }
+{
+    match outcome {
+        Ok(()) => 0,
+        Err(failure) => {
+            let _ = writeln!(errors, "forth83: {failure}");
+            failure.status()
+        }
+    }
+}
+
+/// Shows why the words gave no order: help on the output, anything else as an error.
+fn explain<W: Write, E: Write>(error: &Error, output: &mut W, errors: &mut E) -> u8
+    ensures shown { result ≡ 0 → IsHelp (kind_of error.now) }
+    ensures unshown { result ≡ 4 → IsHelp (kind_of error.now) }
+{
+    match error.kind() {
+        ErrorKind::OutOfMemory => told(Err(Failure::NoMemory), errors),
+        ErrorKind::DisplayHelp | ErrorKind::DisplayVersion => {
+            let shown = write!(output, "{error}");
+            if shown.is_err() || output.flush().is_err() {
+                return told(Err(Failure::CannotWrite), errors);
+            }
+            0
+        }
+        _ => {
+            let _ = write!(errors, "{error}");
+            2
+        }
+    }
+}

@@ -1,0 +1,228 @@
+//! The words of a command line are read.
+ghost use Rattle.std.specs.Prelude.{◌≡◌, ◌≤◌, ℕ, List, false, Some, map, codes, IfOk, IfSome};
+ghost use Rattle.clap.specs.Words.{FailsBy, app_of, fault_of, found_of, rows_of, rule_of};
+ghost use Rattle.clap.specs.declared.builder.command.Command.TheViews.{out-Command};
+ghost use Rattle.terminal.specs.Commands.{image, old_image, new_image, block, file, blocks, steps, new_app_of, run_app, list_app, put_app, upgrade_app, forth83, HasNumber, Orders, IsOrderOf, IsInRange};
+
+use super::words::Order;
+use clap::{Arg, ArgAction, ArgMatches, Command, Error};
+use std::alloc::{AllocError, Global};
+use std::convert::AsStr;
+
+/// The command that the words give, of which the first is the name of the program. What they can't mean is refused with a
+/// text for the user, and so are `help` and `--help`, whose text is the help.
+pub fn order<'a, S: AsStr>(alloc: Global, words: &'a [S]) -> Result<Order<'a>, Error>
+    ensures given { IfOk result (λ o. IsOrderOf (map S.text words.entry.now) o) }
+    ensures ranges { IfOk result (λ o. IsInRange o) }
+    // An order is given only where the command refuses nothing. What is refused is so for its reasons, or for want of memory.
+    ensures fits { FailsBy (fault_of forth83 (map S.text words.entry.now)) result }
+{
+    let mut command = forth83(alloc)?;
+    let matches = command.try_get_matches_from_mut(words)?;
+    let Some((name, given)) = matches.subcommand() else {
+        return Ok(Order::Memory);
+    };
+    match order_of(name, given) {
+        Some(order) => Ok(order),
+        // After a parse each argument is there and in its range, so this isn't reached.
+        None => Err(Error::from(AllocError)),
+    }
+}
+
+/// The order of a command, where its arguments are there and in their ranges, as they are after each parse.
+fn order_of<'a>(name: &str, given: &ArgMatches<'a>) -> Option<Order<'a>>
+    ensures given { IfSome result (λ o. Orders (Some (name.now, rows_of (found_of given.now))) o) }
+    ensures ranges { IfSome result (λ o. IsInRange o) }
+{
+    match name {
+        "upgrade" => Some(Order::Upgrade(given.get_str("OLD")?, given.get_str("NEW")?)),
+        _ => order_over_image(name, given),
+    }
+}
+
+/// The order of a command over one image.
+fn order_over_image<'a>(name: &str, given: &ArgMatches<'a>) -> Option<Order<'a>>
+    ensures given { IfSome result (λ o. Orders (Some (name.now, rows_of (found_of given.now))) o) }
+    ensures ranges { IfSome result (λ o. IsInRange o) }
+{
+    let image = given.get_str("IMAGE")?;
+    match name {
+        "new" => Some(Order::New(image, blocks_of(given)?)),
+        "run" => Some(Order::Run(image, steps_of(given)?)),
+        "list" => Some(Order::List(image, block_of(given)?)),
+        "put" => Some(Order::Put(image, block_of(given)?, given.get_str("FILE")?)),
+        _ => None,
+    }
+}
+
+fn blocks_of(given: &ArgMatches<'_>) -> Option<u16>
+    ensures number { IfSome result (λ n. HasNumber (rows_of (found_of given.now)) (codes "blocks") n) }
+    ensures many { IfSome result (λ n. 32 ≤ n) }
+    ensures few { IfSome result (λ n. n ≤ 3840) }
+{
+    match given.get_one("blocks")? {
+        blocks @ 32..=3840 => Some(blocks),
+        _ => None,
+    }
+}
+
+fn steps_of(given: &ArgMatches<'_>) -> Option<u32>
+    ensures number { IfSome result (λ n. HasNumber (rows_of (found_of given.now)) (codes "steps") n) }
+    ensures many { IfSome result (λ n. 1 ≤ n) }
+    ensures few { IfSome result (λ n. n ≤ 1000000000) }
+{
+    match given.get_one("steps")? {
+        steps @ 1..=1_000_000_000 => Some(steps),
+        _ => None,
+    }
+}
+
+fn block_of(given: &ArgMatches<'_>) -> Option<u16>
+    ensures { IfSome result (λ n. HasNumber (rows_of (found_of given.now)) (codes "BLOCK") n) }
+{
+    given.get_one("BLOCK")
+}
+
+fn image_argument<'a>(alloc: Global) -> Arg<'a>
+    ensures rule { rule_of result ≡ image }
+    ensures local { result.global ≡ false }
+{
+    Arg::new(alloc, "IMAGE")
+        .required(true)
+        .action(ArgAction::Set)
+        .help("The file of the image")
+}
+
+fn old_argument<'a>(alloc: Global) -> Arg<'a>
+    ensures rule { rule_of result ≡ old_image }
+    ensures local { result.global ≡ false }
+{
+    Arg::new(alloc, "OLD")
+        .required(true)
+        .action(ArgAction::Set)
+        .help("The file of an image of layout 1")
+}
+
+fn new_argument<'a>(alloc: Global) -> Arg<'a>
+    ensures rule { rule_of result ≡ new_image }
+    ensures local { result.global ≡ false }
+{
+    Arg::new(alloc, "NEW")
+        .required(true)
+        .action(ArgAction::Set)
+        .help("The file that is made")
+}
+
+fn block_argument<'a>(alloc: Global) -> Arg<'a>
+    ensures rule { rule_of result ≡ block }
+    ensures local { result.global ≡ false }
+{
+    Arg::new(alloc, "BLOCK")
+        .required(true)
+        .action(ArgAction::Set)
+        .value_parser(clap::value_parser!(u16))
+        .help("The number of the block, from 0")
+}
+
+fn file_argument<'a>(alloc: Global) -> Arg<'a>
+    ensures rule { rule_of result ≡ file }
+    ensures local { result.global ≡ false }
+{
+    Arg::new(alloc, "FILE")
+        .required(true)
+        .action(ArgAction::Set)
+        .help("A text of at most 16 lines of at most 64 bytes")
+}
+
+fn blocks_option<'a>(alloc: Global) -> Arg<'a>
+    ensures rule { rule_of result ≡ blocks }
+    ensures local { result.global ≡ false }
+{
+    Arg::new(alloc, "blocks")
+        .long("blocks")
+        .value_name("N")
+        .required(true)
+        .action(ArgAction::Set)
+        .value_parser(clap::value_parser!(u16).range(32..=3840))
+        .help("How many blocks the image has, 32 to 3840")
+}
+
+fn steps_option<'a>(alloc: Global) -> Arg<'a>
+    ensures rule { rule_of result ≡ steps }
+    ensures local { result.global ≡ false }
+{
+    Arg::new(alloc, "steps")
+        .long("steps")
+        .value_name("S")
+        .action(ArgAction::Set)
+        .value_parser(clap::value_parser!(u32).range(1..=1_000_000_000))
+        .default_value("1000000")
+        .help("How many steps a line may take, 1 to 1000000000")
+}
+
+fn new_command<'a>(alloc: Global) -> Result<Command<'a>, AllocError>
+    ensures app { IfOk result (λ c. app_of c ≡ new_app_of) }
+    ensures local { IfOk result (λ c. (out-Command c).has_globals ≡ false) }
+{
+    Command::new(alloc, "new")
+        .about("Make an image of blank blocks, in a new file")
+        .arg(image_argument(alloc))?
+        .arg(blocks_option(alloc))
+}
+
+fn run_command<'a>(alloc: Global) -> Result<Command<'a>, AllocError>
+    ensures app { IfOk result (λ c. app_of c ≡ run_app) }
+    ensures local { IfOk result (λ c. (out-Command c).has_globals ≡ false) }
+{
+    Command::new(alloc, "run")
+        .about("Run the lines of standard input over an image")
+        .arg(image_argument(alloc))?
+        .arg(steps_option(alloc))
+}
+
+fn list_command<'a>(alloc: Global) -> Result<Command<'a>, AllocError>
+    ensures app { IfOk result (λ c. app_of c ≡ list_app) }
+    ensures local { IfOk result (λ c. (out-Command c).has_globals ≡ false) }
+{
+    Command::new(alloc, "list")
+        .about("Print a block as 16 lines of 64 characters")
+        .arg(image_argument(alloc))?
+        .arg(block_argument(alloc))
+}
+
+fn put_command<'a>(alloc: Global) -> Result<Command<'a>, AllocError>
+    ensures app { IfOk result (λ c. app_of c ≡ put_app) }
+    ensures local { IfOk result (λ c. (out-Command c).has_globals ≡ false) }
+{
+    Command::new(alloc, "put")
+        .about("Make the lines of a file a block of an image")
+        .arg(image_argument(alloc))?
+        .arg(block_argument(alloc))?
+        .arg(file_argument(alloc))
+}
+
+fn upgrade_command<'a>(alloc: Global) -> Result<Command<'a>, AllocError>
+    ensures app { IfOk result (λ c. app_of c ≡ upgrade_app) }
+    ensures local { IfOk result (λ c. (out-Command c).has_globals ≡ false) }
+{
+    Command::new(alloc, "upgrade")
+        .about("Make an image of layout 2, in a new file, of the blocks of one of layout 1")
+        .arg(old_argument(alloc))?
+        .arg(new_argument(alloc))
+}
+
+fn forth83<'a>(alloc: Global) -> Result<Command<'a>, AllocError>
+    ensures app { IfOk result (λ c. app_of c ≡ forth83) }
+    ensures local { IfOk result (λ c. (out-Command c).has_globals ≡ false) }
+{
+    Command::new(alloc, "forth83")
+        .about("A Forth-83 system whose blocks a loss of power can't tear")
+        .after_help(
+            "Without a command, the lines of standard input are run over 32 blocks in memory, and nothing is kept.",
+        )
+        .subcommand(new_command(alloc)?)?
+        .subcommand(run_command(alloc)?)?
+        .subcommand(list_command(alloc)?)?
+        .subcommand(put_command(alloc)?)?
+        .subcommand(upgrade_command(alloc)?)
+}

@@ -1,0 +1,60 @@
+//! The program as it is started: its words, its streams, its status.
+use super::program::command;
+use interpreter::promise::Lines;
+use sector_disk::{FileDisk, MemoryDisk};
+use std::fs::{File, Files};
+use std::io::{BufReader, BufWriter, ErrorKind, Read, Write};
+use std::os::fd::AsRawFd;
+use std::rt::Env;
+use std::{env, io};
+
+/// The number of the standard error, the last of the standard streams.
+const LAST_STREAM: i32 = 2;
+
+/// Does what the words ask for that the program was started with, between these streams, and answers the exit status.
+pub fn start<F: Lines<FileDisk>, M: Lines<MemoryDisk>, R: Read + Drop, W: Write + Drop, E: Write>(
+    rt: &(impl Files<File = File> + Env + AllocGlobal),
+    input: R,
+    output: W,
+    errors: &mut E,
+) -> u8 {
+    match serve::<F, M, R, W, E>(rt, input, output, errors) {
+        Ok(status) => status,
+        Err(error) if error.kind() == ErrorKind::OutOfMemory => {
+            let _ = writeln!(errors, "forth83: no memory");
+            5
+        }
+        Err(error) if error.kind() == ErrorKind::InvalidData => {
+            let _ = writeln!(errors, "error: a word of the command line is not UTF-8");
+            2
+        }
+        Err(_) => 4,
+    }
+}
+
+/// Calls the program, with a buffer on each of both streams: so a piece of the input is one read, and a reply one write. The
+/// numbers of closed streams are taken all the while.
+fn serve<F: Lines<FileDisk>, M: Lines<MemoryDisk>, R: Read + Drop, W: Write + Drop, E: Write>(
+    rt: &(impl Files<File = File> + Env + AllocGlobal),
+    input: R,
+    output: W,
+    errors: &mut E,
+) -> io::Result<u8> {
+    let _taken = [taken_stream(rt)?, taken_stream(rt)?, taken_stream(rt)?];
+    let words: Vec<String> = env::args(rt)?.collect(rt.alloc())?;
+    let mut input = BufReader::new(rt.alloc(), input)?;
+    let mut output = BufWriter::new(rt.alloc(), output)?;
+    let status = command::<F, M, _, _, _, _>(rt, words.as_slice(), &mut input, &mut output, errors);
+    Ok(status)
+}
+
+/// Takes the number of a standard stream that was closed when the program began, if there is one. A file that is opened gets
+/// the lowest free number: without this an image would be what is read as the input, or what the replies are written over.
+/// What is taken can be neither read nor written.
+fn taken_stream(rt: &impl Files<File = File>) -> io::Result<Option<File>> {
+    let folder = File::open(rt, "/")?;
+    if folder.as_raw_fd() > LAST_STREAM {
+        return Ok(None);
+    }
+    Ok(Some(folder))
+}

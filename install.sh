@@ -1,0 +1,24 @@
+#!/bin/sh
+# Puts forth83, its manual page and its completions under a prefix, or takes them away again.
+# usage: ./install.sh [--uninstall] [PREFIX]          PREFIX is /usr/local where none is given
+set -eu
+cd "$(dirname "$0")"
+remove=no
+if [ "${1:-}" = --uninstall ]; then
+    remove=yes
+    shift
+fi
+prefix=${1:-/usr/local}
+program=$prefix/bin/forth83
+page=$prefix/share/man/man1/forth83.1
+completions=$prefix/share/bash-completion/completions/forth83
+if [ "$remove" = yes ]; then
+    rm -f "$program" "$page" "$completions"
+    exit 0
+fi
+# proves and builds the program where that wasn't done
+(cd crates/forth83 && rt run < /dev/null > /dev/null)
+mkdir -p "${program%/*}" "${page%/*}" "${completions%/*}"
+install -m 755 crates/forth83/out/forth83 "$program"
+install -m 644 share/man/man1/forth83.1 "$page"
+install -m 644 share/completions/forth83.bash "$completions"

@@ -1,0 +1,18 @@
+# Completions of forth83 for bash: source this file.
+_forth83() {
+    local word=${COMP_WORDS[COMP_CWORD]}
+    if [ "$COMP_CWORD" -eq 1 ]; then
+        COMPREPLY=($(compgen -W 'new run list put upgrade help --help' -- "$word"))
+        return
+    fi
+    case $word in
+        -*)
+            case ${COMP_WORDS[1]} in
+                new) COMPREPLY=($(compgen -W '--blocks --help' -- "$word")) ;;
+                run) COMPREPLY=($(compgen -W '--steps --help' -- "$word")) ;;
+                *) COMPREPLY=($(compgen -W '--help' -- "$word")) ;;
+            esac ;;
+        *) COMPREPLY=($(compgen -f -- "$word")) ;;
+    esac
+}
+complete -o filenames -F _forth83 forth83
