@@ -1,0 +1,225 @@
+//! Defining words, vocabularies, and words that are forgotten.
+use super::transcript::play_all;
+use std::test::Fail;
+
+const SESSIONS: &str = "\
+> : K CREATE , DOES> @ 1+ ; 41 K A A .
+42  ok
+> CREATE X 3 ALLOT HERE X - .
+3  ok
+> CREATE X ' X >BODY X = .
+-1  ok
+> : B DOES> @ ; : C 1 ; B
+ ? TOKEN
+----
+> VOCABULARY V V DEFINITIONS : X 1 ; FORTH DEFINITIONS X
+ ? UNDEFINED
+> V X .
+1  ok
+> FORGET DUP
+ ? PROTECTED
+----
+> : A 1 ; : B 2 ; FORGET A B
+ ? UNDEFINED
+> : S FORGET ; S S
+ ? PROTECTED
+> HERE CREATE X 10 ALLOT FORGET X HERE = .
+-1  ok
+----
+> VOCABULARY V : A 1 ; V DEFINITIONS : A 2 ; FORTH DEFINITIONS : A 3 ; V A . FORTH A . FORGET A A . V A .
+2 3 1 2  ok
+> FORGET A A
+ ? UNDEFINED
+----
+> VARIABLE X X @ . 5 X ! X @ . HERE X - .
+0 5 2  ok
+> CREATE Y HERE Y = .
+-1  ok
+> 1 ALLOT 7 , Y 1+ @ .
+7  ok
+> ' Y >BODY Y = . ' X >BODY X = .
+-1 -1  ok
+> ' DUP >BODY
+ ? TOKEN
+> 5 CONSTANT C ' C >BODY
+ ? TOKEN
+> : D ; ' D >BODY
+ ? TOKEN
+> VOCABULARY V ' V >BODY
+ ? TOKEN
+> 0 >BODY
+ ? TOKEN
+> 65535 >BODY
+ ? TOKEN
+> >BODY
+ ? STACK EMPTY
+----
+> : K CREATE DOES> 5 ; K A A . HERE = .
+5 -1  ok
+> : K CREATE 7 , DOES> @ DOES> @ 1+ ; K A A . A .
+7 8  ok
+> A .
+8  ok
+> : K2 VARIABLE DOES> 9 SWAP DROP ; K2 B B .
+9  ok
+> : K3 5 CONSTANT DOES> ; K3 C
+ ? TOKEN
+> C .
+5  ok
+> : K4 CREATE 1 >R DOES> ; K4 D
+ ? RETURN STACK
+> D HERE = .
+-1  ok
+> : K5 CREATE DOES> >R ; K5 E E
+ ? RETURN STACK
+> : K6 CREATE DOES> R> ; K6 E E
+ ? RETURN STACK
+> : K7 [ ' DUP ] LITERAL DOES> ; K7
+ ? TOKEN
+> CREATE Z : K8 DOES> 3 ; K8
+ ? TOKEN
+> : K8 DOES> 3 ; CREATE Z K8 Z . HERE = .
+3 -1  ok
+> : K9 CREATE EXIT DOES> 5 ; K9 F F HERE = .
+-1  ok
+> : K10 CREATE IMMEDIATE DOES> 5 ; K10 G : T G ; .  .
+5 1284  ok
+> : K11 CREATE DOES> DOES> 7 ; K11 H H HERE = . H . HERE = .
+-1 7 -1  ok
+> : K12 DOES> ; IMMEDIATE : T K12
+ ? DEFINITION OPEN
+> CREATE I2 K12
+ ok
+> : T [ K12
+ ? DEFINITION OPEN
+> : A : B ;
+ ok
+----
+> VOCABULARY V V DEFINITIONS : A 1 ; FORTH A
+ ? UNDEFINED
+> V A .
+1  ok
+> FORTH DEFINITIONS : A 2 ; A . V A . FORTH A .
+2 1 2  ok
+> V : B 3 ; A .
+2  ok
+> V B . A .
+3 1  ok
+> V DEFINITIONS FORGET B
+ ? UNDEFINED
+> FORGET V
+ ? UNDEFINED
+> FORTH DEFINITIONS FORGET V V
+ ? UNDEFINED
+> A
+ ? UNDEFINED
+> : C 5 ; ' C .
+133  ok
+----
+> VOCABULARY V VOCABULARY W V DEFINITIONS : A 1 ; W DEFINITIONS : A 2 ; A . V A . W A . FORTH
+2 1 2  ok
+> A
+ ? UNDEFINED
+> FORGET A
+ ok
+> W A
+ ? UNDEFINED
+> V A .
+1  ok
+> W DEFINITIONS FORTH FORGET V
+ ? UNDEFINED
+> FORTH DEFINITIONS V FORGET W
+ ok
+> A .
+ ? UNDEFINED
+> FORGET V A
+ ? UNDEFINED
+> ' DUP .
+36  ok
+> : X 1 ; ' X .
+133  ok
+----
+> VOCABULARY V V DEFINITIONS FORTH : K FORGET V ; K
+ ? NAME
+----
+> VOCABULARY V V DEFINITIONS VOCABULARY W W DEFINITIONS V DEFINITIONS FORGET W
+ ok
+> FORTH DEFINITIONS VOCABULARY U U DEFINITIONS FORTH FORGET U
+ ? UNDEFINED
+> FORTH DEFINITIONS FORGET U
+ ok
+----
+> VOCABULARY V : T V DEFINITIONS ; T : A 1 ; FORTH DEFINITIONS FORGET T A
+ ? UNDEFINED
+> V A
+ ? UNDEFINED
+> VOCABULARY V : T 1 ; V DEFINITIONS : A 1 ; FORTH DEFINITIONS FORGET T V A
+ ? UNDEFINED
+> V DEFINITIONS FORTH FORGET V
+ ? UNDEFINED
+> VOCABULARY W W
+ ? UNDEFINED
+> V W DEFINITIONS
+ ok
+> FORTH DEFINITIONS FORGET V
+ ok
+----
+> VOCABULARY V V DEFINITIONS FORTH : X FORTH DEFINITIONS ; X FORGET X
+ ? UNDEFINED
+> V X
+ ok
+> V DEFINITIONS FORGET X
+ ok
+----
+> VOCABULARY V IMMEDIATE V DEFINITIONS : A 1 ; FORTH DEFINITIONS : T V A ; FORTH T .
+1  ok
+> : T [ V DEFINITIONS ] A ; FORTH T
+ ok
+> V T .
+1  ok
+----
+> : A ; : B ; : C ; FORGET B C
+ ? UNDEFINED
+> A ' A .
+133  ok
+> FORGET A FORGET A
+ ? UNDEFINED
+> FORGET !
+ ? PROTECTED
+> FORGET ]
+ ? PROTECTED
+> VARIABLE X VARIABLE Y HERE FORGET X HERE - .
+4  ok
+> HERE : A 10 ALLOT 5 ; A DROP FORGET A HERE - .
+0  ok
+> HERE : A [ 10 ALLOT ] ; FORGET A HERE = .
+-1  ok
+> : A FORGET B ; : B A ; B
+ ? UNDEFINED
+----
+> : A ' DROP [ 0 ] LITERAL ; : S FORGET ; : B S ; B S
+ ? PROTECTED
+> B B
+ ? PROTECTED
+> S S
+ ? PROTECTED
+> S A
+ ? PROTECTED
+> : Z 5 ; S Z Z
+ ? UNDEFINED
+> : K CREATE DOES> DROP FORGET ; K P P P
+ ok
+> P
+ ? UNDEFINED
+> K P P K
+ ? PROTECTED
+> : M ; K Q Q M Q
+ ? UNDEFINED
+> M
+ ? UNDEFINED
+";
+
+#[test]
+fn words_are_defined_and_forgotten(rt: HostRuntime) -> Result<(), Fail> {
+    play_all(&rt, SESSIONS)
+}

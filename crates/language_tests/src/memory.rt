@@ -1,0 +1,104 @@
+//! Data space, to both of its ends.
+use super::transcript::play_all;
+use std::test::Fail;
+
+const SESSIONS: &str = "\
+> 1234 PAD ! PAD C@ . PAD 1+ C@ .
+210 4  ok
+> HERE . PAD .
+1280 1604  ok
+> 65535 @
+ ? ADDRESS
+> 1 65535 !
+ ? ADDRESS
+> 1 65535 +!
+ ? ADDRESS
+> 65535 !
+ ? STACK EMPTY
+> 258 65534 ! 65534 C@ . 65535 C@ . 1 65534 +! 65534 @ .
+2 1 259  ok
+> 258 2001 ! 2001 C@ . 2002 C@ . 2001 @ .
+2 1 258  ok
+> 300 PAD C! PAD C@ . 65535 C@ .
+44 1  ok
+> 32767 PAD ! 1 PAD +! PAD @ .
+-32768  ok
+> 65535 COUNT . . 3 PAD C! PAD COUNT . PAD 1+ = .
+1 0 3 -1  ok
+----
+> PAD 4 42 FILL 65 PAD C! PAD PAD 1+ 3 CMOVE PAD 4 TYPE
+AAAA ok
+> PAD 4 42 FILL 65 PAD C! PAD PAD 1+ 3 CMOVE> PAD 4 TYPE
+AA** ok
+> PAD 5 65 FILL 66 PAD 4 + C! PAD 2+ PAD 3 CMOVE PAD 5 TYPE
+AABAB ok
+> PAD 5 65 FILL 66 PAD 4 + C! PAD 2+ PAD 3 CMOVE> PAD 5 TYPE
+BABAB ok
+> 65535 0 1 CMOVE 65535 65535 0 CMOVE 65535 65535 0 CMOVE> 0 0 65535 CMOVE 1 1 65535 CMOVE> 1 .
+1  ok
+> 65535 0 2 CMOVE
+ ? ADDRESS
+> 0 65535 2 CMOVE
+ ? ADDRESS
+> 2 0 65535 CMOVE
+ ? ADDRESS
+> 0 2 65535 CMOVE>
+ ? ADDRESS
+> 1 2 CMOVE>
+ ? STACK EMPTY
+> 65535 1 7 FILL 65535 0 8 FILL 65535 C@ .
+7  ok
+> 65535 2 7 FILL
+ ? ADDRESS
+> PAD 2 321 FILL PAD @ .
+16705  ok
+> 65535 2 TYPE
+ ? ADDRESS
+> PAD 0 TYPE 65535 0 TYPE PAD 2 TYPE
+AA ok
+> PAD 5 32 FILL PAD 5 -TRAILING . PAD = .
+0 -1  ok
+> 65 PAD C! PAD 5 -TRAILING . 0 PAD 4 + C! PAD 5 -TRAILING . 65535 0 -TRAILING .
+1 5 0  ok
+> 65535 2 -TRAILING
+ ? ADDRESS
+> 32 65535 C! 65535 1 -TRAILING . U.
+0 65535  ok
+----
+> 32767 ALLOT 26881 ALLOT HERE U.
+60928  ok
+> 1 ALLOT
+ ? DATA SPACE
+> PAD U.
+61252  ok
+> 1 ,
+ ? DATA SPACE
+> VARIABLE X
+ ? DATA SPACE
+> X
+ ? UNDEFINED
+> CREATE Y Y U. 5 CONSTANT Z Z .
+60928 5  ok
+> -1 ALLOT 1 ,
+ ? DATA SPACE
+> -1 ALLOT 513 , HERE U. HERE 2- C@ . HERE 1- C@ .
+60928 1 2  ok
+> -32768 ALLOT HERE U. -26880 ALLOT HERE U.
+28160 1280  ok
+> -1 ALLOT
+ ? DATA SPACE
+----
+> BASE . STATE . >IN . BLK . #TIB . SPAN . TIB .
+16 18 20 22 24 26 256  ok
+> BASE @ . STATE @ . BLK @ . SPAN @ . #TIB @ . >IN @ .
+10 0 0 0 52 51  ok
+> TIB #TIB @ TYPE
+TIB #TIB @ TYPE ok
+> HERE 10 ALLOT HERE SWAP - . PAD HERE - .
+10 324  ok
+";
+
+#[test]
+fn memory_is_changed_and_bounded(rt: HostRuntime) -> Result<(), Fail> {
+    play_all(&rt, SESSIONS)
+}

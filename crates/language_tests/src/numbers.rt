@@ -1,0 +1,151 @@
+//! Numbers, read and printed.
+use super::transcript::play_all;
+use std::test::Fail;
+
+const SESSIONS: &str = "\
+> 1 2 + .
+3  ok
+> 65535 .
+-1  ok
+> 65536
+ ? NUMBER
+> 1. . .
+0 1  ok
+> -32769
+ ? NUMBER
+> -.
+ ? UNDEFINED
+> 1.5
+ ? UNDEFINED
+> -0 . 65535 U. -1 U. 0 U. -32768 . 32768 .
+0 65535 65535 0 -32768 -32768  ok
+> 4294967295. . .
+-1 -1  ok
+> 4294967296.
+ ? NUMBER
+> -2147483648. . .
+-32768 0  ok
+> -2147483649.
+ ? NUMBER
+> --1
+ ? UNDEFINED
+> 1-1
+ ? UNDEFINED
+> +1
+ ? UNDEFINED
+> 1..
+ ? UNDEFINED
+> .1
+ ? UNDEFINED
+> 00000000000000000000000000000000000000000001 .
+1  ok
+> -99999999999999999999999999999999999999999999.
+ ? NUMBER
+> dup
+ ? UNDEFINED
+----
+> 99 BASE !
+ ok
+> 1
+ ? BASE
+> X
+ ? BASE
+> DECIMAL 1 .
+1  ok
+> 16 BASE ! FF . -FF . FFFF . 10000
+FF -FF -1  ? NUMBER
+> ff
+ ? UNDEFINED
+> 7FFF. . . FFFFFFFF. . .
+0 7FFF -1 -1  ok
+> DECIMAL 2 BASE ! 101 . 2
+101  ? UNDEFINED
+> -1000000000000000 . -1000000000000001
+-1000000000000000  ? NUMBER
+> DECIMAL 36 BASE ! 1EKF U. 1EKG
+1EKF  ? NUMBER
+> DECIMAL 72 BASE ! a . ~ . ^ . ~~ U.
+a ~ ^ ~~  ok
+> DECIMAL 73 BASE ! 1
+ ? BASE
+> DECIMAL 1 BASE ! A
+ ? BASE
+> DECIMAL 5 73 BASE ! .
+ ? BASE
+> DECIMAL 5 73 BASE ! U.
+ ? BASE
+> DECIMAL 5 0 73 BASE ! #
+ ? BASE
+> DECIMAL 5 0 73 BASE ! #S
+ ? BASE
+> DECIMAL 73 BASE ! .
+ ? STACK EMPTY
+> DECIMAL 5 73 BASE ! #
+ ? STACK EMPTY
+> DECIMAL 0 0 65535 73 BASE ! CONVERT
+ ? BASE
+> DECIMAL 0 0 65535 CONVERT
+ ? ADDRESS
+----
+> -5 DUP ABS 0 <# #S ROT SIGN #> TYPE
+-5 ok
+> 1234. <# # # #S #> TYPE
+1234 ok
+> 0. <# #S #> TYPE
+0 ok
+> 0. <# #> TYPE
+ ok
+> 5. <# # # # #> TYPE
+005 ok
+> 4294967295. <# #S #> TYPE
+4294967295 ok
+> 1234. <# # 46 HOLD #S #> TYPE
+123.4 ok
+> 1234. <# # # . .
+0 12  ok
+> 0. #> TYPE
+34 ok
+> -1 SIGN 0 SIGN 1 SIGN 65 HOLD 0. #> TYPE
+A-34 ok
+> 66 PAD 1- C! 0. #> TYPE
+A-3B ok
+> 65 HOLD 1 2 . . 0. #> TYPE
+2 1 AA-3B ok
+> : H 0 DO 66 HOLD LOOP ; <# 66 H 0. #> TYPE
+BBBBBBBBBBBBBBBBBBBBBBBBBBBBBBBBBBBBBBBBBBBBBBBBBBBBBBBBBBBBBBBBBB ok
+> 65 HOLD
+ ? HOLD
+> -1 SIGN
+ ? HOLD
+> 0 SIGN 0. #
+ ? HOLD
+> 0. #> SWAP DROP . PAD 67 - C@ .
+66 0  ok
+> 0 32768 2 BASE ! <# #S #> DECIMAL SWAP DROP .
+32  ok
+> DECIMAL <# 65 H 12. #S
+ ? HOLD
+> 0. #> SWAP DROP . 0. #> DROP C@ .
+66 50  ok
+----
+> 65 HOLD 0. #> TYPE PAD 1- C@ .
+A65  ok
+> HERE 10 ALLOT <# 65 HOLD 10 ALLOT 66 HOLD 0. #> TYPE
+BA ok
+> PAD 11 - C@ . PAD 12 - C@ .
+65 66  ok
+----
+> 0 0 32 WORD 1234X CONVERT C@ . . .
+88 0 1234  ok
+> 65533 3 49 FILL 0 0 65533 CONVERT
+ ? ADDRESS
+> 0 65535 C! 0 0 65533 CONVERT U. . .
+65535 0 1  ok
+> -1 -1 65533 CONVERT U. . .
+65535 -1 -9  ok
+";
+
+#[test]
+fn numbers_are_read_and_printed(rt: HostRuntime) -> Result<(), Fail> {
+    play_all(&rt, SESSIONS)
+}

@@ -1,0 +1,223 @@
+//! Structures, loops, and the return stack.
+use super::transcript::play_all;
+use std::test::Fail;
+
+const SESSIONS: &str = "\
+> : T 10 0 DO I . 3 +LOOP ; T
+0 3 6 9  ok
+> : D 0 3 DO I . -1 +LOOP ; D
+3 2 1 0  ok
+> : T 0 0 DO I . -1 +LOOP ; T
+0  ok
+> : T 5 0 DO I . 2 +LOOP ; T
+0 2 4  ok
+> : T 9 0 DO I 3 = IF LEAVE THEN I . LOOP 7 . ; T
+0 1 2 7  ok
+> : T 3 0 DO I 1 = IF LEAVE THEN I . LEAVE LOOP 9 . ; T
+0 9  ok
+> : U 2 0 DO 2 0 DO J I + . LOOP LOOP ; U
+0 1 1 2  ok
+> : T BEGIN DUP 0> WHILE DUP . 1- REPEAT DROP ; 3 T
+3 2 1  ok
+> : T 1 IF EXIT THEN 5 . ; T
+ ok
+> : T 2 0 DO EXIT LOOP ;
+ ? UNBALANCED
+> : T IF BEGIN THEN ;
+ ? UNBALANCED
+> IF
+ ? COMPILE ONLY
+> : A IF ;
+ ? UNBALANCED
+> A
+ ? UNDEFINED
+----
+> : T IF ELSE THEN ; 1 T 0 T DEPTH .
+0  ok
+> : T IF 1 ELSE 2 THEN . ; 1 T 0 T -1 T
+1 2 1  ok
+> : T IF 1 . THEN 3 . ; 1 T 0 T
+1 3 3  ok
+> : T ELSE
+ ? UNBALANCED
+> : T THEN
+ ? UNBALANCED
+> : T UNTIL
+ ? UNBALANCED
+> : T WHILE
+ ? UNBALANCED
+> : T REPEAT
+ ? UNBALANCED
+> : T LOOP
+ ? UNBALANCED
+> : T +LOOP
+ ? UNBALANCED
+> : T LEAVE
+ ? UNBALANCED
+> : T IF ELSE ELSE
+ ? UNBALANCED
+> : T IF UNTIL
+ ? UNBALANCED
+> : T IF WHILE
+ ? UNBALANCED
+> : T IF REPEAT
+ ? UNBALANCED
+> : T IF LOOP
+ ? UNBALANCED
+> : T BEGIN THEN
+ ? UNBALANCED
+> : T BEGIN ELSE
+ ? UNBALANCED
+> : T BEGIN REPEAT
+ ? UNBALANCED
+> : T BEGIN LOOP
+ ? UNBALANCED
+> : T BEGIN WHILE WHILE
+ ? UNBALANCED
+> : T BEGIN WHILE UNTIL
+ ? UNBALANCED
+> : T BEGIN WHILE THEN
+ ? UNBALANCED
+> : T DO THEN
+ ? UNBALANCED
+> : T DO UNTIL
+ ? UNBALANCED
+> : T DO REPEAT
+ ? UNBALANCED
+> : T DO ;
+ ? UNBALANCED
+> : T BEGIN ;
+ ? UNBALANCED
+> : T BEGIN WHILE ;
+ ? UNBALANCED
+> : T IF ELSE ;
+ ? UNBALANCED
+> : T DO EXIT
+ ? UNBALANCED
+> : T DO IF EXIT
+ ? UNBALANCED
+> : T IF DO LOOP EXIT THEN ; 1
+ ok
+> : T DO IF LEAVE
+
+> ELSE LEAVE THEN LOOP ;
+ ok
+> : T IF DOES>
+ ? UNBALANCED
+> : T DO DOES>
+ ? UNBALANCED
+> : T BEGIN DOES>
+ ? UNBALANCED
+> : T BEGIN IF LEAVE
+ ? UNBALANCED
+> T
+ ? STACK EMPTY
+----
+> : T BEGIN 1- DUP . DUP 0= UNTIL DROP ; 3 T 1 T
+2 1 0 0  ok
+> : T BEGIN DUP WHILE DUP . 1- REPEAT . ; 3 T 0 T
+3 2 1 0 0  ok
+> : T 10 0 DO I . I 5 = IF LEAVE THEN 2 +LOOP ; T
+0 2 4 6 8  ok
+> : T 10 0 DO I . I 6 = IF LEAVE THEN 2 +LOOP 99 . ; T
+0 2 4 6 99  ok
+> : T 0 10 DO I . -3 +LOOP ; T
+10 7 4 1  ok
+> : T 0 10 DO I . -5 +LOOP ; T
+10 5 0  ok
+> : T DO I . LOOP ; 3 0 T 1 0 T -1 -3 T
+0 1 2 0 -3 -2  ok
+> -32767 32766 T
+32766 32767 -32768  ok
+> : T DO I . 1000 +LOOP ; 5 0 T 3 32000 T
+0 32000 -32536 -31536 -30536 -29536 -28536 -27536 -26536 -25536 -24536 -23536 -22536 -21536 -20536 -19536 -18536 -17536 -16536 -15536 -14536 -13536 -12536 -11536 -10536 -9536 -8536 -7536 -6536 -5536 -4536 -3536 -2536 -1536 -536  ok
+> : T DO I . -32768 +LOOP ; 0 0 T 5 32767 T 0 32767 T
+0 32767 32767  ok
+> : T DO I . 32767 +LOOP ; 0 0 T
+0 32767 -2  ok
+----
+> : T >R ; 1 T
+ ? RETURN STACK
+> : T 2 0 DO 2 0 DO 2 0 DO J . I . LOOP LOOP LOOP ; T
+0 0 0 1 1 0 1 1 0 0 0 1 1 0 1 1  ok
+> : T 2 0 DO 10 12 DO J . -1 +LOOP LOOP ; T
+0 0 0 1 1 1  ok
+> : T I ; T
+ ? RETURN STACK
+> : T J ; T
+ ? RETURN STACK
+> : T 1 0 DO J LOOP ; T
+ ? RETURN STACK
+> : T R> ; T
+ ? RETURN STACK
+> : T R@ ; T
+ ? RETURN STACK
+> : T 5 >R R@ R> . . ; T
+5 5  ok
+> : T 5 >R ; T
+ ? RETURN STACK
+> : T 5 >R EXIT ; T
+ ? RETURN STACK
+> : T 1 0 DO 5 >R LOOP ; T
+ ? RETURN STACK
+> : T 1 0 DO 5 >R I . R> . LOOP ; T
+ ? RETURN STACK
+> : T 5 >R 1 0 DO R> LOOP ; T
+ ? RETURN STACK
+> : T 5 >R 1 0 DO R@ LOOP ; T
+ ? RETURN STACK
+> : T 5 >R 1 0 DO I . LOOP R> . ; T
+0 5  ok
+> : T 1 0 DO 5 >R LEAVE LOOP ; T
+ ? RETURN STACK
+> : T 1 0 DO 5 >R 1 +LOOP ; T
+ ? RETURN STACK
+> : T 1 0 DO 5 >R +LOOP ; T
+ ? STACK EMPTY
+> : U R> ; : T 5 >R U R> ; T
+ ? RETURN STACK
+> : U I ; : T 1 0 DO U LOOP ; T
+ ? RETURN STACK
+> : T 1 0 DO >R ;
+ ? UNBALANCED
+> : T >R ; T
+ ? STACK EMPTY
+> : T 1 0 DO I ; LOOP
+ ? UNBALANCED
+> : T DO LOOP ; 1 T
+ ? STACK EMPTY
+> : T IF THEN ; T
+ ? STACK EMPTY
+> : T BEGIN UNTIL ; T
+ ? STACK EMPTY
+> : T BEGIN WHILE REPEAT ; T
+ ? STACK EMPTY
+> : ONES 0 DO 1 LOOP ; : T 5 ; 256 ONES T
+ ? STACK FULL
+> : T I ; 256 ONES T
+ ? RETURN STACK
+> : T 9 0 DO I LOOP ; 250 ONES T
+ ? STACK FULL
+----
+> : T PAD @ EXECUTE ; : U 1- DUP IF T THEN ; ' U PAD ! 128 U .
+0  ok
+> 129 U .
+ ? RETURN STACK
+> : T 1- DUP IF PAD @ EXECUTE THEN ; ' T PAD ! 256 T .
+0  ok
+> 257 T .
+ ? RETURN STACK
+> : T 1- DUP IF PAD @ EXECUTE ELSE 1 >R R> DROP THEN ; ' T PAD ! 255 T .
+0  ok
+> 256 T .
+ ? RETURN STACK
+> : T 1- DUP IF PAD @ EXECUTE ELSE 1 0 DO I . LOOP THEN ; ' T PAD ! 253 T .
+0 0  ok
+> 254 T .
+ ? RETURN STACK
+";
+
+#[test]
+fn structures_are_run(rt: HostRuntime) -> Result<(), Fail> {
+    play_all(&rt, SESSIONS)
+}
