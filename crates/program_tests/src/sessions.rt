@@ -1,4 +1,6 @@
 //! Sessions over blocks in memory: lines, streams that fail, and when the replies come.
+ghost use Rattle.std.specs.Prelude.{◌<◌};
+
 use super::streams::{Ended, Failing, Fitful, Listener, Narrow, Patient};
 use super::support::{run, transcript};
 use std::cell::Cell;

@@ -1,4 +1,6 @@
 //! Calls of the program, and what they leave.
+ghost use Rattle.std.specs.Prelude.{◌<◌};
+
 use interpreter::Forth;
 use recovery::format;
 use sector_disk::{FileDisk, MemoryDisk};
