@@ -19,8 +19,8 @@ pub const SIZE: usize = 65536;
 /// How many bytes a block buffer has.
 pub const BUFFER_SIZE: usize = 1024;
 
-/// Where the first block buffer stands.
-const FIRST_BUFFER: usize = 61440;
+/// Where the first of the four block buffers stands.
+pub const FIRST_BUFFER: u16 = 61440;
 
 /// No memory was found. It is std's own error, so that `?` passes it on.
 pub type NoMemory = AllocError;
@@ -196,5 +196,5 @@ fn buffer_start(slot: u8) -> usize
     requires { slot < 4 }
     ensures { result ≡ 61440 + 1024 * slot }
 {
-    FIRST_BUFFER + BUFFER_SIZE * usize::from(slot)
+    usize::from(FIRST_BUFFER) + BUFFER_SIZE * usize::from(slot)
 }

@@ -199,9 +199,8 @@ impl<D: SectorDevice> Store<D> {
             × ((disk_of self.new).content 1 ≡ replicate 512 0)) }
         ensures begins { DeviceBegins self.old self.new (2 * pending_count self.old + 3) 4 }
     {
-        // A closed store says so even where nothing is pending.
         if self.closed {
-            return Err(StoreFault::Closed);
+            return Err(StoreFault::Closed); // even where nothing is pending
         }
         if count_blocks(&self.pending, self.blocks) == 0 {
             return Ok(());
@@ -212,7 +211,7 @@ impl<D: SectorDevice> Store<D> {
                 Ok(())
             }
             Err(_) => {
-                self.closed = true;
+                self.closed = true; // whether the new blocks are saved is told by the next opening
                 Err(StoreFault::Device)
             }
         }

@@ -1,7 +1,7 @@
 //! Data space: a list of 65,536 bytes.
 
-ghost use Rattle.std.specs.Prelude.{◌≡◌, ◌+◌, ◌*◌, ◌<◌, length};
-ghost use Rattle.data_space.specs.Space.{with_byte, with_bytes};
+ghost use Rattle.std.specs.Prelude.{◌≡◌, ◌<◌, length};
+ghost use Rattle.data_space.specs.Space.{buffer_at, with_byte, with_bytes};
 
 use data_space::{DataSpace, lent};
 use std::test::Fail;
@@ -10,7 +10,7 @@ use std::test::Fail;
 fn set_buffer(space: &mut DataSpace, slot: u8, bytes: &[u8])
     requires slot { slot < 4 }
     requires len { length bytes.now ≡ 1024 }
-    ensures { space.new ≡ with_bytes space.old (61440 + 1024 * slot) bytes.now }
+    ensures { space.new ≡ with_bytes space.old (buffer_at slot) bytes.now }
 {
     space.buffer_mut(slot).copy_from_slice(bytes);
 }

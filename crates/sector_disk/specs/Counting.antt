@@ -1,5 +1,5 @@
 -- Counts of 64 bits. At its last value a count stays.
-use Rattle.std.specs.Prelude.{◌≡◌, ◌⊎◌, ℕ, zero, suc, ◌+◌, ◌-◌, ◌^◌, ◌<◌, ◌≤◌, min, Result, IsOk, IsErr}
+use Rattle.std.specs.Prelude.{◌≡◌, ℕ, zero, suc, ◌+◌, ◌-◌, ◌^◌, ◌≤◌, min, Result, IsOk, IsErr}
 use Rattle.sector_disk.specs.declared.device.Counts.{Counts}
 
 -- the count after one more
@@ -20,10 +20,6 @@ with_write counts = record counts { writes = count_up counts.writes }
 
 abbrev pub with_sync : Counts → Counts
 with_sync counts = record counts { syncs = count_up counts.syncs }
-
--- the count rose, or stays at its last value, which counts as risen
-abbrev pub HasRisen : ℕ → ℕ → Type 0
-HasRisen before now = (before < now) ⊎ (2 ^ 64 - 1 ≤ now)
 
 -- The count of failures stays where all went well, and is one more at an error. It never falls.
 pub record CountsFailure {T E : Type 0} (before now : ℕ) (result : Result T E) : Type 0 where
