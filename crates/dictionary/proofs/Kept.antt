@@ -1,13 +1,14 @@
 -- What each call keeps of the chains.
-use Rattle.std.proofs.Common.{◌≡◌, ◌≢◌, ℕ, zero, suc, ◌+◌, ◌-◌, ◌<◌, ◌≤◌, ◌⊎◌, inl, inr, true, false, cond, nat_eq, List, [], ◌∷◌, ◌++◌, length, map, take, Option, Some, None, refl, sym, ◌∙◌, ap, subst, arith, get_or, set, get_or-set_same, get_or-set_other, length-set}
+use Rattle.std.proofs.Common.{◌≡◌, ◌≢◌, ℕ, zero, suc, ◌+◌, ◌-◌, ◌%◌, ◌<◌, ◌≤◌, ◌⊎◌, inl, inr, true, false, cond, nat_eq, List, [], ◌∷◌, ◌++◌, length, map, take, Option, Some, None, refl, sym, ◌∙◌, ap, subst, arith, get_or, set, get_or-set_same, get_or-set_other, length-set}
 use Rattle.std.specs.List.{slice_get}
 use Rattle.std.specs.Option.{option_map}
 use Rattle.std.proofs.lemmas.Bool.Decides.{nat_tests}
 use Rattle.std.proofs.lemmas.Grind.{common_steps}
 use Rattle.dictionary.specs.declared.chains.Header.{Header}
 use Rattle.dictionary.specs.declared.Kind.TheVariants as Kind
-use Rattle.dictionary.specs.Words.{same_text, find_in}
-use Rattle.dictionary.specs.Dictionary.{Named}
+use Rattle.std.proofs.lemmas.Option.{slice_get_past}
+use Rattle.dictionary.specs.Words.{same_text, find_in, entry}
+use Rattle.dictionary.specs.Dictionary.{Named, kind_of, body_of, cell_of}
 use Rattle.dictionary.specs.Chains.{header_word, last_in, IsChained}
 use Rattle.dictionary.proofs.Links.{get_at, get-map, get-below, get-append, get-end, get-take, last_in-same, last_in-below, last_in-vocabulary, named_in, named_in-last, find_in-chain}
 
@@ -79,8 +80,8 @@ pushed_end last voc v n old lt e = (elim (nat_eq voc v) as (λ t. nat_eq voc v �
   | false ↦ λ t. let other : v ≢ voc = (λ e. let yes : nat_eq voc v ≡ true = grind (arith, nat_tests) in cc) in sym e ∙ sym (get_or-set_other last voc v n 0 other)
 ]) refl
 
-pub chained_push : (hs : List Header) (last : List ℕ) (h : Header) → IsChained hs last → length hs < 4096 → h.previous ≡ get_or last h.vocabulary 0 → h.vocabulary ≤ 4096 → 0 < h.len → h.len ≤ 31 → IsChained (hs ++ h ∷ []) (set last h.vocabulary (length hs + 1))
-chained_push hs last h c lt prev voc some short =
+pub chained_push : (hs : List Header) (last : List ℕ) (h : Header) → IsChained hs last → length hs < 4096 → h.previous ≡ get_or last h.vocabulary 0 → h.vocabulary ≤ 4096 → 0 < h.len → h.len ≤ 31 → h.body ≡ body_of (kind_of h.kind) → h.cell ≡ cell_of (kind_of h.kind) → IsChained (hs ++ h ∷ []) (set last h.vocabulary (length hs + 1))
+chained_push hs last h c lt prev voc some short body cell =
     let len : length (hs ++ h ∷ []) ≡ suc (length hs) = grind (arith, common_steps) in
     record {
       room = omega arith;
@@ -100,6 +101,14 @@ chained_push hs last h c lt prev voc some short =
       ranges = λ k g at. elim (at_pushed hs h k g at) [
         | inl p ↦ c.ranges k g p.1
         | inr p ↦ rw p.1 voc
+      ];
+      bodies = λ k g at. elim (at_pushed hs h k g at) [
+        | inl p ↦ c.bodies k g p.1
+        | inr p ↦ rw p.1 body
+      ];
+      cells = λ k g at. elim (at_pushed hs h k g at) [
+        | inl p ↦ c.cells k g p.1
+        | inr p ↦ rw p.1 cell
       ];
     }
 
@@ -137,6 +146,8 @@ chained_pop hs last k h c n at =
           rw (last_in-take hs k i g.vocabulary (let lt = kept.0 in omega arith)) (c.links i g kept.1);
       names = λ i g found. c.names i g (at_kept hs k i g found).1;
       ranges = λ i g found. c.ranges i g (at_kept hs k i g found).1;
+      bodies = λ i g found. c.bodies i g (at_kept hs k i g found).1;
+      cells = λ i g found. c.cells i g (at_kept hs k i g found).1;
     }
 
 -- ---- an edit of a header that leaves name, vocabulary and link
@@ -158,11 +169,13 @@ set-here [] i x y e = cc
 set-here (z ∷ zs) zero x y e = refl
 set-here (z ∷ zs) (suc i) x y e = set-here zs i x y e
 
--- the same link, name and vocabulary
+-- the same link, name and vocabulary; body and cell are the kind's
 pub record IsAlike (h g : Header) : Type 0 where
   pub previous : g.previous ≡ h.previous
   pub vocabulary : g.vocabulary ≡ h.vocabulary
   pub len : g.len ≡ h.len
+  pub body : g.body ≡ body_of (kind_of g.kind)
+  pub cell : g.cell ≡ cell_of (kind_of g.kind)
 
 -- by cases on whether two places are the same
 pub one_place : (k i : ℕ) → (k ≡ i) ⊎ (k ≢ i)
@@ -203,6 +216,18 @@ chained_edit hs last i h g c at alike = record {
         let is : f ≡ g = set-same hs i g f (subst (λ j. slice_get (set hs i g) j ≡ Some f) same found) in
         rw (is, alike.vocabulary) (c.ranges i h at)
     | inr other ↦ c.ranges k f (sym (set-other hs i k g other) ∙ found)
+  ];
+  bodies = λ k f found. elim (one_place k i) [
+    | inl same ↦
+        let is : f ≡ g = set-same hs i g f (subst (λ j. slice_get (set hs i g) j ≡ Some f) same found) in
+        rw is alike.body
+    | inr other ↦ c.bodies k f (sym (set-other hs i k g other) ∙ found)
+  ];
+  cells = λ k f found. elim (one_place k i) [
+    | inl same ↦
+        let is : f ≡ g = set-same hs i g f (subst (λ j. slice_get (set hs i g) j ≡ Some f) same found) in
+        rw is alike.cell
+    | inr other ↦ c.cells k f (sym (set-other hs i k g other) ∙ found)
   ];
 }
 
@@ -257,6 +282,21 @@ read_or [] i r lt e = absurd (omega arith)
 read_or (x ∷ xs) zero r lt e = e
 read_or (x ∷ xs) (suc i) r lt e = read_or xs i r (omega arith) e
 
+-- ---- a word by its token, one below which its header lies
+
+pub found_word : (hs : List Header) (ws : List Named) (last : List ℕ) (token i : ℕ) (h : Header) → map header_word hs ≡ ws → IsChained hs last → token < 65536 → i ≡ (token + 65535) % 65536 → i < length hs → h ≡ get_or hs i h → (slice_get hs i ≡ Some h) × (Some (header_word h) ≡ entry ws token)
+found_word hs ws last zero i h view c fits place below read = absurd (let room = c.room in omega arith)
+found_word hs ws last (suc t) i h view c fits place below read =
+    let same : i ≡ t = omega arith in
+    let at = get_at hs i h below read in
+    (at, rw (← view) (sym (word-at hs t h (subst (λ k. slice_get hs k ≡ Some h) same at))))
+
+pub no_word : (hs : List Header) (ws : List Named) (last : List ℕ) (token i : ℕ) → map header_word hs ≡ ws → IsChained hs last → token < 65536 → i ≡ (token + 65535) % 65536 → length hs ≤ i → None ≡ entry ws token
+no_word hs ws last zero i view c fits place past = refl
+no_word hs ws last (suc t) i view c fits place past =
+    let same : length hs ≤ t = omega arith in
+    rw (← view, get-map header_word hs t, slice_get_past hs t same) refl
+
 -- ---- no words
 
 zeros : (n v : ℕ) → get_or {A = ℕ} (Rattle.std.proofs.Common.replicate {A = ℕ} n zero) v zero ≡ zero
@@ -272,6 +312,8 @@ chained_none last e = record {
   links = λ k h at. cc;
   names = λ k h at. cc;
   ranges = λ k h at. cc;
+  bodies = λ k h at. cc;
+  cells = λ k h at. cc;
 }
 
 -- ---- the forms that the code has

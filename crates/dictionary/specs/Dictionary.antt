@@ -31,6 +31,25 @@ kind_of given.Vocabulary = Vocabulary
 abbrev pub word_of : GivenWord → Named
 word_of w = record { name = w.name.now; vocabulary = w.vocabulary; immediate = w.immediate; here = w.here; kind = kind_of w.kind }
 
+-- the body of a colon definition
+abbrev pub body_of : Kind ℕ ℕ → Option ℕ
+body_of (Colon place) = Some place
+body_of _ = None
+
+-- the cell that a constant leaves, and a created word without a part
+abbrev pub cell_of : Kind ℕ ℕ → Option ℕ
+cell_of (Created data_address None) = Some data_address
+cell_of (Constant value) = Some value
+cell_of _ = None
+
+abbrev pub body_of_word : Option Named → Option ℕ
+body_of_word None = None
+body_of_word (Some w) = body_of w.kind
+
+abbrev pub cell_of_word : Option Named → Option ℕ
+cell_of_word None = None
+cell_of_word (Some w) = cell_of w.kind
+
 -- a word has this token
 abbrev pub is_token : Dictionary → ℕ → Bool
 is_token d token = nat_lt 0 token && nat_le token (length d.words)

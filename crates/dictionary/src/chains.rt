@@ -5,7 +5,7 @@
 ghost use Rattle.std.specs.Prelude.{◌≡◌, ◌+◌, ◌-◌, ◌<◌, ◌≤◌, [], ◌∷◌, ◌++◌, length, take, option_map, is_some, IfOk, IfSome, IsTrue};
 ghost use Rattle.std.specs.Bool.{OnTrue, OnFalse};
 ghost use Rattle.dictionary.specs.Words.{same_text, is_name, find_in, entry, with_immediate, with_part};
-ghost use Rattle.dictionary.specs.Dictionary.{word_of};
+ghost use Rattle.dictionary.specs.Dictionary.{word_of, kind_of, body_of, cell_of, body_of_word, cell_of_word};
 
 use crate::{Kind, NAME_LIMIT, NoMemory, Place, Token, WORD_LIMIT, Word};
 use std::alloc::Global;
@@ -21,6 +21,9 @@ pub(crate) struct Header {
     immediate: bool,
     vocabulary: Token,
     here: u16,
+    // What the kind says of a body and of a cell that is left, each where one test finds it: a call looks at nothing else.
+    body: Option<Place>,
+    cell: Option<u16>,
     kind: Kind,
 }
 
@@ -33,6 +36,27 @@ impl Header {
     {
         let len = self.len as usize;
         len == name.len() && self.name[0] == name[0] && &self.name[..len] == name
+    }
+}
+
+/// The body of a word of this kind, if it is a colon definition.
+fn body_in(kind: Kind) -> Option<Place>
+    ensures { result ≡ body_of (kind_of kind) }
+{
+    match kind {
+        Kind::Colon(place) => Some(place),
+        _ => None,
+    }
+}
+
+/// The cell that a word of this kind leaves, if it does nothing else.
+fn cell_in(kind: Kind) -> Option<u16>
+    ensures { result ≡ cell_of (kind_of kind) }
+{
+    match kind {
+        Kind::Created(data_address, None) => Some(data_address),
+        Kind::Constant(cell) => Some(cell),
+        _ => None,
     }
 }
 
@@ -91,6 +115,8 @@ impl Chains {
             immediate: word.immediate,
             vocabulary: word.vocabulary,
             here: word.here,
+            body: body_in(word.kind),
+            cell: cell_in(word.kind),
             kind: word.kind,
         };
         let token = self.headers.len() + 1;
@@ -157,6 +183,28 @@ impl Chains {
         })
     }
 
+    /// The place of the body, where the word is a colon definition.
+    #[inline(always)]
+    pub(crate) fn body(&self, token: Token) -> Option<Place>
+        ensures { result ≡ body_of_word (entry self.now token) }
+    {
+        match self.headers.get(usize::from(token.wrapping_sub(1))) {
+            Some(header) => header.body,
+            None => None,
+        }
+    }
+
+    /// The cell that the word leaves, where it does nothing else.
+    #[inline(always)]
+    pub(crate) fn cell(&self, token: Token) -> Option<u16>
+        ensures { result ≡ cell_of_word (entry self.now token) }
+    {
+        match self.headers.get(usize::from(token.wrapping_sub(1))) {
+            Some(header) => header.cell,
+            None => None,
+        }
+    }
+
     /// Makes the last word immediate.
     pub(crate) fn set_immediate(&mut self)
         requires { 0 < length self.old }
@@ -178,7 +226,9 @@ impl Chains {
         let last = self.headers.len() - 1;
         match self.headers[last].kind {
             Kind::Created(data, _) => {
-                self.headers[last].kind = Kind::Created(data, Some(part));
+                let header = &mut self.headers[last];
+                header.kind = Kind::Created(data, Some(part));
+                header.cell = None;
                 true
             }
             _ => false,

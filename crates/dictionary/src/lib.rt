@@ -12,7 +12,7 @@
 ghost use Rattle.std.specs.Prelude.{◌≡◌, ◌+◌, ◌<◌, ◌≤◌, Some, length, option_map, IfOk, IfSome, OnOk, OnErr, IsSome, IsTrue};
 ghost use Rattle.std.specs.Result.{result_err};
 ghost use Rattle.dictionary.specs.Words.{find, find_in, entry, with_immediate, with_part};
-ghost use Rattle.dictionary.specs.Dictionary.{first_dictionary, word_of, is_token, may_be_vocabulary, add_refusal, with_word, immediate_refusal, does_refusal, forget_refusal, forgotten, IsValid};
+ghost use Rattle.dictionary.specs.Dictionary.{first_dictionary, word_of, body_of_word, cell_of_word, is_token, may_be_vocabulary, add_refusal, with_word, immediate_refusal, does_refusal, forget_refusal, forgotten, IsValid};
 
 mod chains;
 mod system;
@@ -190,6 +190,23 @@ impl Dictionary {
         ensures token { IsSome result → IsTrue (is_token self.now token) }
     {
         self.words.get(token)
+    }
+
+    /// The place of the body of the word with the token. None where it is no colon definition, or no word has the token.
+    #[inline(always)]
+    pub fn body(&self, token: Token) -> Option<Place>
+        ensures { result ≡ body_of_word (entry self.now.words token) }
+    {
+        self.words.body(token)
+    }
+
+    /// The cell that the word with the token leaves, where it does nothing else: the value of a constant, or the data
+    /// address of a word that `CREATE` or `VARIABLE` made and that has no part.
+    #[inline(always)]
+    pub fn cell(&self, token: Token) -> Option<u16>
+        ensures { result ≡ cell_of_word (entry self.now.words token) }
+    {
+        self.words.cell(token)
     }
 
     /// Makes the most recent word immediate. `Protected` where that is a system word.
