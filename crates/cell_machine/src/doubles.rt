@@ -120,8 +120,12 @@ impl Operands {
     #[inline(always)]
     pub fn divide(&mut self, places: &mut [u16], budget: &mut u32) -> Result<(), Event>
         requires sized { length places.old ≡ 257 }
-        ensures did { OnOk result ((space : List ℕ) → Did (Division Quotient) (held places.old self.old.depth self.old.top) space budget.old (held places.new self.new.depth self.new.top) space budget.new) }
-        ensures ended { IfErr result (λ e. (space : List ℕ) → Ended (Division Quotient) e (held places.old self.old.depth self.old.top) space budget.old (held places.new self.new.depth self.new.top) space budget.new) }
+        ensures did { OnOk result ((space : List ℕ) → Did (Division Quotient)
+            (held places.old self.old.depth self.old.top) space budget.old
+            (held places.new self.new.depth self.new.top) space budget.new) }
+        ensures ended { IfErr result (λ e. (space : List ℕ) → Ended (Division Quotient) e
+            (held places.old self.old.depth self.old.top) space budget.old
+            (held places.new self.new.depth self.new.top) space budget.new) }
     {
         self.begin(budget, 2)?;
         let (quot, _) = divide_cells(places[self.depth - 1], self.top)?;
@@ -135,8 +139,12 @@ impl Operands {
     #[inline(always)]
     pub fn remainder(&mut self, places: &mut [u16], budget: &mut u32) -> Result<(), Event>
         requires sized { length places.old ≡ 257 }
-        ensures did { OnOk result ((space : List ℕ) → Did (Division Remainder) (held places.old self.old.depth self.old.top) space budget.old (held places.new self.new.depth self.new.top) space budget.new) }
-        ensures ended { IfErr result (λ e. (space : List ℕ) → Ended (Division Remainder) e (held places.old self.old.depth self.old.top) space budget.old (held places.new self.new.depth self.new.top) space budget.new) }
+        ensures did { OnOk result ((space : List ℕ) → Did (Division Remainder)
+            (held places.old self.old.depth self.old.top) space budget.old
+            (held places.new self.new.depth self.new.top) space budget.new) }
+        ensures ended { IfErr result (λ e. (space : List ℕ) → Ended (Division Remainder) e
+            (held places.old self.old.depth self.old.top) space budget.old
+            (held places.new self.new.depth self.new.top) space budget.new) }
     {
         self.begin(budget, 2)?;
         let (_, rem) = divide_cells(places[self.depth - 1], self.top)?;
@@ -150,8 +158,12 @@ impl Operands {
     #[inline(always)]
     pub fn divide_both(&mut self, places: &mut [u16], budget: &mut u32) -> Result<(), Event>
         requires sized { length places.old ≡ 257 }
-        ensures did { OnOk result ((space : List ℕ) → Did (Division Both) (held places.old self.old.depth self.old.top) space budget.old (held places.new self.new.depth self.new.top) space budget.new) }
-        ensures ended { IfErr result (λ e. (space : List ℕ) → Ended (Division Both) e (held places.old self.old.depth self.old.top) space budget.old (held places.new self.new.depth self.new.top) space budget.new) }
+        ensures did { OnOk result ((space : List ℕ) → Did (Division Both)
+            (held places.old self.old.depth self.old.top) space budget.old
+            (held places.new self.new.depth self.new.top) space budget.new) }
+        ensures ended { IfErr result (λ e. (space : List ℕ) → Ended (Division Both) e
+            (held places.old self.old.depth self.old.top) space budget.old
+            (held places.new self.new.depth self.new.top) space budget.new) }
     {
         self.begin(budget, 2)?;
         let (quot, rem) = divide_cells(places[self.depth - 1], self.top)?;
@@ -165,8 +177,12 @@ impl Operands {
     #[inline(always)]
     pub fn scale(&mut self, places: &mut [u16], budget: &mut u32) -> Result<(), Event>
         requires sized { length places.old ≡ 257 }
-        ensures did { OnOk result ((space : List ℕ) → Did (Division Scaled) (held places.old self.old.depth self.old.top) space budget.old (held places.new self.new.depth self.new.top) space budget.new) }
-        ensures ended { IfErr result (λ e. (space : List ℕ) → Ended (Division Scaled) e (held places.old self.old.depth self.old.top) space budget.old (held places.new self.new.depth self.new.top) space budget.new) }
+        ensures did { OnOk result ((space : List ℕ) → Did (Division Scaled)
+            (held places.old self.old.depth self.old.top) space budget.old
+            (held places.new self.new.depth self.new.top) space budget.new) }
+        ensures ended { IfErr result (λ e. (space : List ℕ) → Ended (Division Scaled) e
+            (held places.old self.old.depth self.old.top) space budget.old
+            (held places.new self.new.depth self.new.top) space budget.new) }
     {
         self.begin(budget, 3)?;
         let (quot, _) = scale_cells(places[self.depth - 2], places[self.depth - 1], self.top)?;
@@ -180,8 +196,12 @@ impl Operands {
     #[inline(always)]
     pub fn scale_both(&mut self, places: &mut [u16], budget: &mut u32) -> Result<(), Event>
         requires sized { length places.old ≡ 257 }
-        ensures did { OnOk result ((space : List ℕ) → Did (Division ScaledBoth) (held places.old self.old.depth self.old.top) space budget.old (held places.new self.new.depth self.new.top) space budget.new) }
-        ensures ended { IfErr result (λ e. (space : List ℕ) → Ended (Division ScaledBoth) e (held places.old self.old.depth self.old.top) space budget.old (held places.new self.new.depth self.new.top) space budget.new) }
+        ensures did { OnOk result ((space : List ℕ) → Did (Division ScaledBoth)
+            (held places.old self.old.depth self.old.top) space budget.old
+            (held places.new self.new.depth self.new.top) space budget.new) }
+        ensures ended { IfErr result (λ e. (space : List ℕ) → Ended (Division ScaledBoth) e
+            (held places.old self.old.depth self.old.top) space budget.old
+            (held places.new self.new.depth self.new.top) space budget.new) }
     {
         self.begin(budget, 3)?;
         let (quot, rem) = scale_cells(places[self.depth - 2], places[self.depth - 1], self.top)?;
@@ -196,8 +216,12 @@ impl Operands {
     #[inline(always)]
     pub fn divide_unsigned(&mut self, places: &mut [u16], budget: &mut u32) -> Result<(), Event>
         requires sized { length places.old ≡ 257 }
-        ensures did { OnOk result ((space : List ℕ) → Did (Division UnsignedDouble) (held places.old self.old.depth self.old.top) space budget.old (held places.new self.new.depth self.new.top) space budget.new) }
-        ensures ended { IfErr result (λ e. (space : List ℕ) → Ended (Division UnsignedDouble) e (held places.old self.old.depth self.old.top) space budget.old (held places.new self.new.depth self.new.top) space budget.new) }
+        ensures did { OnOk result ((space : List ℕ) → Did (Division UnsignedDouble)
+            (held places.old self.old.depth self.old.top) space budget.old
+            (held places.new self.new.depth self.new.top) space budget.new) }
+        ensures ended { IfErr result (λ e. (space : List ℕ) → Ended (Division UnsignedDouble) e
+            (held places.old self.old.depth self.old.top) space budget.old
+            (held places.new self.new.depth self.new.top) space budget.new) }
     {
         self.begin(budget, 3)?;
         let (quot, rem) = divide_double(places[self.depth - 2], places[self.depth - 1], self.top)?;
@@ -212,8 +236,12 @@ impl Operands {
     #[inline(always)]
     pub fn multiply_wide(&mut self, places: &mut [u16], budget: &mut u32) -> Result<(), Event>
         requires sized { length places.old ≡ 257 }
-        ensures did { OnOk result ((space : List ℕ) → Did (Double WideProduct) (held places.old self.old.depth self.old.top) space budget.old (held places.new self.new.depth self.new.top) space budget.new) }
-        ensures ended { IfErr result (λ e. (space : List ℕ) → Ended (Double WideProduct) e (held places.old self.old.depth self.old.top) space budget.old (held places.new self.new.depth self.new.top) space budget.new) }
+        ensures did { OnOk result ((space : List ℕ) → Did (Double WideProduct)
+            (held places.old self.old.depth self.old.top) space budget.old
+            (held places.new self.new.depth self.new.top) space budget.new) }
+        ensures ended { IfErr result (λ e. (space : List ℕ) → Ended (Double WideProduct) e
+            (held places.old self.old.depth self.old.top) space budget.old
+            (held places.new self.new.depth self.new.top) space budget.new) }
     {
         self.begin(budget, 2)?;
         let d = u32::from(places[self.depth - 1]) * u32::from(self.top);
@@ -227,8 +255,12 @@ impl Operands {
     #[inline(always)]
     pub fn negate_wide(&mut self, places: &mut [u16], budget: &mut u32) -> Result<(), Event>
         requires sized { length places.old ≡ 257 }
-        ensures did { OnOk result ((space : List ℕ) → Did (Double WideNegate) (held places.old self.old.depth self.old.top) space budget.old (held places.new self.new.depth self.new.top) space budget.new) }
-        ensures ended { IfErr result (λ e. (space : List ℕ) → Ended (Double WideNegate) e (held places.old self.old.depth self.old.top) space budget.old (held places.new self.new.depth self.new.top) space budget.new) }
+        ensures did { OnOk result ((space : List ℕ) → Did (Double WideNegate)
+            (held places.old self.old.depth self.old.top) space budget.old
+            (held places.new self.new.depth self.new.top) space budget.new) }
+        ensures ended { IfErr result (λ e. (space : List ℕ) → Ended (Double WideNegate) e
+            (held places.old self.old.depth self.old.top) space budget.old
+            (held places.new self.new.depth self.new.top) space budget.new) }
     {
         self.begin(budget, 2)?;
         let d = join(places[self.depth - 1], self.top).wrapping_neg();
@@ -242,8 +274,12 @@ impl Operands {
     #[inline(always)]
     pub fn add_wide(&mut self, places: &mut [u16], budget: &mut u32) -> Result<(), Event>
         requires sized { length places.old ≡ 257 }
-        ensures did { OnOk result ((space : List ℕ) → Did (Double WideAdd) (held places.old self.old.depth self.old.top) space budget.old (held places.new self.new.depth self.new.top) space budget.new) }
-        ensures ended { IfErr result (λ e. (space : List ℕ) → Ended (Double WideAdd) e (held places.old self.old.depth self.old.top) space budget.old (held places.new self.new.depth self.new.top) space budget.new) }
+        ensures did { OnOk result ((space : List ℕ) → Did (Double WideAdd)
+            (held places.old self.old.depth self.old.top) space budget.old
+            (held places.new self.new.depth self.new.top) space budget.new) }
+        ensures ended { IfErr result (λ e. (space : List ℕ) → Ended (Double WideAdd) e
+            (held places.old self.old.depth self.old.top) space budget.old
+            (held places.new self.new.depth self.new.top) space budget.new) }
     {
         self.begin(budget, 4)?;
         let second = join(places[self.depth - 1], self.top);
@@ -260,8 +296,12 @@ impl Operands {
     #[inline(always)]
     pub fn less_wide(&mut self, places: &mut [u16], budget: &mut u32) -> Result<(), Event>
         requires sized { length places.old ≡ 257 }
-        ensures did { OnOk result ((space : List ℕ) → Did (Double WideLess) (held places.old self.old.depth self.old.top) space budget.old (held places.new self.new.depth self.new.top) space budget.new) }
-        ensures ended { IfErr result (λ e. (space : List ℕ) → Ended (Double WideLess) e (held places.old self.old.depth self.old.top) space budget.old (held places.new self.new.depth self.new.top) space budget.new) }
+        ensures did { OnOk result ((space : List ℕ) → Did (Double WideLess)
+            (held places.old self.old.depth self.old.top) space budget.old
+            (held places.new self.new.depth self.new.top) space budget.new) }
+        ensures ended { IfErr result (λ e. (space : List ℕ) → Ended (Double WideLess) e
+            (held places.old self.old.depth self.old.top) space budget.old
+            (held places.new self.new.depth self.new.top) space budget.new) }
     {
         self.begin(budget, 4)?;
         let second = join(places[self.depth - 1], self.top);

@@ -10,6 +10,7 @@ mod dispatch;
 mod division;
 mod doubles;
 pub mod event;
+mod frequent;
 pub mod laws;
 pub mod machine;
 pub mod marks;

@@ -24,8 +24,12 @@ pub fn once(
     budget: &mut u32,
 ) -> Result<(), Event>
     requires sized { length places.old ≡ 257 }
-    ensures did { OnOk result (OnceDid word (units returns.now) (core_of (held places.old operands.old.depth operands.old.top) space.old budget.old) (core_of (held places.new operands.new.depth operands.new.top) space.new budget.new)) }
-    ensures ended { IfErr result (λ e. OnceEnded word e (units returns.now) (core_of (held places.old operands.old.depth operands.old.top) space.old budget.old) (core_of (held places.new operands.new.depth operands.new.top) space.new budget.new)) }
+    ensures did { OnOk result (OnceDid word (units returns.now)
+        (core_of (held places.old operands.old.depth operands.old.top) space.old budget.old)
+        (core_of (held places.new operands.new.depth operands.new.top) space.new budget.new)) }
+    ensures ended { IfErr result (λ e. OnceEnded word e (units returns.now)
+        (core_of (held places.old operands.old.depth operands.old.top) space.old budget.old)
+        (core_of (held places.new operands.new.depth operands.new.top) space.new budget.new)) }
 {
     let mut kept = *operands;
     let mut left = *budget;
@@ -46,8 +50,12 @@ fn alone(
     budget: &mut u32,
 ) -> Result<(), Event>
     requires sized { length places.old ≡ 257 }
-    ensures did { OnOk result (OnceDid word (units returns.now) (core_of (held places.old operands.old.depth operands.old.top) space.old budget.old) (core_of (held places.new operands.new.depth operands.new.top) space.new budget.new)) }
-    ensures ended { IfErr result (λ e. OnceEnded word e (units returns.now) (core_of (held places.old operands.old.depth operands.old.top) space.old budget.old) (core_of (held places.new operands.new.depth operands.new.top) space.new budget.new)) }
+    ensures did { OnOk result (OnceDid word (units returns.now)
+        (core_of (held places.old operands.old.depth operands.old.top) space.old budget.old)
+        (core_of (held places.new operands.new.depth operands.new.top) space.new budget.new)) }
+    ensures ended { IfErr result (λ e. OnceEnded word e (units returns.now)
+        (core_of (held places.old operands.old.depth operands.old.top) space.old budget.old)
+        (core_of (held places.new operands.new.depth operands.new.top) space.new budget.new)) }
 {
     match word {
         21 => to_return(operands, places, returns, budget),
@@ -68,8 +76,12 @@ fn to_return(
     budget: &mut u32,
 ) -> Result<(), Event>
     requires sized { length places.old ≡ 257 }
-    ensures did { OnOk result ((space : List ℕ) → OnceDid 21 (units returns.now) (core_of (held places.old operands.old.depth operands.old.top) space budget.old) (core_of (held places.new operands.new.depth operands.new.top) space budget.new)) }
-    ensures ended { IfErr result (λ e. (space : List ℕ) → OnceEnded 21 e (units returns.now) (core_of (held places.old operands.old.depth operands.old.top) space budget.old) (core_of (held places.new operands.new.depth operands.new.top) space budget.new)) }
+    ensures did { OnOk result ((space : List ℕ) → OnceDid 21 (units returns.now)
+        (core_of (held places.old operands.old.depth operands.old.top) space budget.old)
+        (core_of (held places.new operands.new.depth operands.new.top) space budget.new)) }
+    ensures ended { IfErr result (λ e. (space : List ℕ) → OnceEnded 21 e (units returns.now)
+        (core_of (held places.old operands.old.depth operands.old.top) space budget.old)
+        (core_of (held places.new operands.new.depth operands.new.top) space budget.new)) }
 {
     operands.begin(budget, 1)?;
     if returns.units() >= 256 {
@@ -84,7 +96,9 @@ fn to_return(
 fn nothing_aside(word: u16, operands: &mut Operands, budget: &mut u32) -> Result<(), Event>
     requires list { IsListWord word }
     ensures did { OnOk result ⊥ }
-    ensures ended { IfErr result (λ e. (units : ℕ) (places space : List ℕ) → OnceEnded word e units (core_of (held places operands.old.depth operands.old.top) space budget.old) (core_of (held places operands.new.depth operands.new.top) space budget.new)) }
+    ensures ended { IfErr result (λ e. (units : ℕ) (places space : List ℕ) → OnceEnded word e units
+        (core_of (held places operands.old.depth operands.old.top) space budget.old)
+        (core_of (held places operands.new.depth operands.new.top) space budget.new)) }
 {
     operands.begin(budget, 0)?;
     Err(Event::Fault(MachineFault::ReturnStack))
