@@ -3,6 +3,7 @@ pub mod Filled
 pub mod Lists
 pub mod Valid
 pub mod Asked
+pub mod Worn
 pub mod Runs
 pub mod KeptOn
 pub mod Then

@@ -8,6 +8,7 @@ use Rattle.sector_disk.specs.Moments.{LeavesOnly}
 use Rattle.sector_disk.proofs.Moments.{elapses_then, leaves_then}
 use Rattle.sector_disk.specs.declared.device.SectorDevice.{Ghosts}
 use Rattle.journal.specs.declared.store.Store.{Store}
+use Rattle.journal.specs.Calls.{BeginsAtMost}
 use Rattle.journal.specs.Images.{Means, slot_of}
 use Rattle.journal.specs.Layout.{listed, count_listed, count_below}
 use Rattle.journal.specs.Maps.{Maps, latest, spilled, committed, shut, any_pending}
@@ -19,9 +20,10 @@ use Rattle.block_buffers.specs.declared.Assigned.{Assigned}
 use Rattle.block_buffers.specs.Buffers.{Buffers, updated_ones}
 use Rattle.block_words.specs.declared.BlockFault.{BlockFault}
 use Rattle.block_words.specs.declared.BlockFault.TheVariants.{Device}
-use Rattle.block_words.specs.Words.{Answer, Well, Failed, Save, Blocks, BlockOutcome, Gives, spill_each, open_store, commit, returned, all_spilled, next_map, save_and}
-use Rattle.block_words.specs.Calls.{state, WordRuns, CallKeeps, save_begun}
+use Rattle.block_words.specs.Words.{Answer, Well, Failed, Save, Wear, no_wear, add_wear, spill_wear, commit_wear, pending_number, Blocks, BlockOutcome, Gives, Fails, spill_each, open_store, commit, returned, all_spilled, next_map, save_and}
+use Rattle.block_words.specs.Calls.{state, ended, failures_after, WordRuns, WearsAtMost, CallKeeps, save_begun}
 use Rattle.block_words.proofs.Runs.{saved_then}
+use Rattle.block_words.proofs.Worn.{none_more, wear_assoc, spills_wear, spills_counted, commit_wear_if, wears_then, pending_same, none_counted}
 
 pub continues_then : {D : Type 0} {G : Ghosts D} (a b d : Store D G) → ((s t : ℕ) (c : Image) → s ≤ t → G.left_since d.device t c → G.left_since d.device s c)
     → Continues a b → Continues b d → Continues a d
@@ -64,24 +66,28 @@ wells_append : (xs : List Assigned) (a rest : List Answer) → wells xs a ++ res
 wells_append [] a rest = refl
 wells_append (x ∷ xs) a rest = ap (λ l. Well ∷ l) (wells_append xs a rest)
 
-spill_all : (xs : List Assigned) (go : Blocks → BlockOutcome (Unit {0})) (m : Maps) (b : Buffers) (sp : List ℕ) (rest : List Answer) (f : ℕ) (sv : List Save)
-    → spill_each xs (state m b sp (wells xs rest) f sv) go ≡ go (state (all_spilled xs sp m) b sp rest f sv)
-spill_all [] go m b sp rest f sv = refl
-spill_all (x ∷ xs) go m b sp rest f sv = spill_all xs go (spilled m x.block (buffer_bytes sp x.slot)) b sp rest f sv
+spill_all : (xs : List Assigned) (go : Blocks → BlockOutcome (Unit {0})) (m : Maps) (b : Buffers) (sp : List ℕ) (rest : List Answer) (f : ℕ) (was : Wear) (sv : List Save)
+    → spill_each xs (state m b sp (wells xs rest) f was sv) go ≡ go (state (all_spilled xs sp m) b sp rest f (add_wear was (spills_wear xs)) sv)
+spill_all [] go m b sp rest f was sv = ap (λ w. go (state m b sp rest f w sv)) (sym (none_more was))
+spill_all (x ∷ xs) go m b sp rest f was sv =
+    spill_all xs go (spilled m x.block (buffer_bytes sp x.slot)) b sp rest f (add_wear was spill_wear) sv
+    ∙ ap (λ w. go (state (all_spilled (x ∷ xs) sp m) b sp rest f w sv)) (wear_assoc was spill_wear (spills_wear xs))
 
-spill_front : (ys more : List Assigned) (go : Blocks → BlockOutcome (Unit {0})) (m : Maps) (b : Buffers) (sp : List ℕ) (rest : List Answer) (f : ℕ) (sv : List Save)
-    → spill_each (ys ++ more) (state m b sp (wells ys rest) f sv) go ≡ spill_each more (state (all_spilled ys sp m) b sp rest f sv) go
-spill_front [] more go m b sp rest f sv = refl
-spill_front (x ∷ xs) more go m b sp rest f sv = spill_front xs more go (spilled m x.block (buffer_bytes sp x.slot)) b sp rest f sv
+spill_front : (ys more : List Assigned) (go : Blocks → BlockOutcome (Unit {0})) (m : Maps) (b : Buffers) (sp : List ℕ) (rest : List Answer) (f : ℕ) (was : Wear) (sv : List Save)
+    → spill_each (ys ++ more) (state m b sp (wells ys rest) f was sv) go ≡ spill_each more (state (all_spilled ys sp m) b sp rest f (add_wear was (spills_wear ys)) sv) go
+spill_front [] more go m b sp rest f was sv = ap (λ w. spill_each more (state m b sp rest f w sv) go) (sym (none_more was))
+spill_front (x ∷ xs) more go m b sp rest f was sv =
+    spill_front xs more go (spilled m x.block (buffer_bytes sp x.slot)) b sp rest f (add_wear was spill_wear) sv
+    ∙ ap (λ w. spill_each more (state (all_spilled (x ∷ xs) sp m) b sp rest f w sv) go) (wear_assoc was spill_wear (spills_wear xs))
 
 abbrev pub one_if : Bool → List Answer
 one_if true = Well ∷ []
 one_if false = []
 
-commit_ok : (p : Bool) (go : Blocks → BlockOutcome (Unit {0})) (m : Maps) (b : Buffers) (sp : List ℕ) (rest : List Answer) (f : ℕ) (sv : List Save)
-    → commit p (state m b sp (one_if p ++ rest) f sv) go ≡ go (state (committed m) b sp rest f sv)
-commit_ok true go m b sp rest f sv = refl
-commit_ok false go m b sp rest f sv = refl
+commit_ok : (p : Bool) (go : Blocks → BlockOutcome (Unit {0})) (m : Maps) (b : Buffers) (sp : List ℕ) (rest : List Answer) (f : ℕ) (was : Wear) (sv : List Save)
+    → commit p (state m b sp (one_if p ++ rest) f was sv) go ≡ go (state (committed m) b sp rest f (add_wear was (commit_wear_if p (pending_number m.pending))) sv)
+commit_ok true go m b sp rest f was sv = refl
+commit_ok false go m b sp rest f was sv = ap (λ w. go (state (committed m) b sp rest f w sv)) (sym (none_more was))
 
 returned_last : (sv : List Save) (x : Save) → returned (sv ++ x ∷ []) ≡ sv ++ record x { returned = true } ∷ []
 returned_last [] x = refl
@@ -98,49 +104,60 @@ abbrev spilling : (Buffers → Buffers) → Blocks → BlockOutcome (Unit {0})
 spilling change s = spill_each (updated_ones s.buffers) (record s { saves = s.saves ++ record { map = next_map s.buffers s.space s.maps; returned = false } ∷ [] }) (committing change)
 
 module _ (change : Buffers → Buffers) (m : Maps) (b : Buffers) (sp : List ℕ) (is_open : m.closed ≡ false) where
-  pub save_ok : WordRuns (save_and change) (Ok tt) (record { map = next_map b sp m; returned = true } ∷ []) m (committed (all_spilled (updated_ones b) sp m)) b (change b) sp sp
+  pub save_ok : WordRuns (save_and change) (Ok tt) (add_wear (spills_wear (updated_ones b)) (commit_wear_if (any_pending (all_spilled (updated_ones b) sp m).pending) (pending_number (all_spilled (updated_ones b) sp m).pending)))
+      (record { map = next_map b sp m; returned = true } ∷ []) m (committed (all_spilled (updated_ones b) sp m)) b (change b) sp sp
   save_ok =
       let xs = updated_ones b in
       let all = all_spilled xs sp m in
       record {
         answers = wells xs (one_if (any_pending all.pending));
-        same = λ rest f sv.
-            ap (λ a. save_and change (state m b sp a f sv)) (wells_append xs (one_if (any_pending all.pending)) rest)
-            ∙ ap (λ t. open_store t (state m b sp (wells xs (one_if (any_pending all.pending) ++ rest)) f sv) (spilling change)) is_open
-            ∙ spill_all xs (committing change) m b sp (one_if (any_pending all.pending) ++ rest) f (sv ++ record { map = next_map b sp m; returned = false } ∷ [])
-            ∙ commit_ok (any_pending all.pending) (ending change) all b sp rest f (sv ++ record { map = next_map b sp m; returned = false } ∷ [])
-            ∙ ap (λ l. Gives tt (state (committed all) (change b) sp rest f l)) (returned_last sv (record { map = next_map b sp m; returned = false }));
+        same = λ rest f was sv.
+            ap (λ a. save_and change (state m b sp a f was sv)) (wells_append xs (one_if (any_pending all.pending)) rest)
+            ∙ ap (λ t. open_store t (state m b sp (wells xs (one_if (any_pending all.pending) ++ rest)) f was sv) (spilling change)) is_open
+            ∙ spill_all xs (committing change) m b sp (one_if (any_pending all.pending) ++ rest) f was (sv ++ record { map = next_map b sp m; returned = false } ∷ [])
+            ∙ commit_ok (any_pending all.pending) (ending change) all b sp rest f (add_wear was (spills_wear xs)) (sv ++ record { map = next_map b sp m; returned = false } ∷ [])
+            ∙ (λ t. Gives tt
+            (state (committed all) (change b) sp rest f (wear_assoc was (spills_wear xs) (commit_wear_if (any_pending all.pending) (pending_number all.pending)) t)
+            (returned_last sv (record { map = next_map b sp m; returned = false }) t)));
       }
 
   pub save_uncommitted : any_pending (all_spilled (updated_ones b) sp m).pending ≡ true
-      → WordRuns (save_and change) (Err Device) (record { map = next_map b sp m; returned = false } ∷ []) m (shut (all_spilled (updated_ones b) sp m)) b b sp sp
+      → WordRuns (save_and change) (Err Device) (add_wear (spills_wear (updated_ones b)) (commit_wear (pending_number (all_spilled (updated_ones b) sp m).pending)))
+      (record { map = next_map b sp m; returned = false } ∷ []) m (shut (all_spilled (updated_ones b) sp m)) b b sp sp
   save_uncommitted some =
       let xs = updated_ones b in
       let all = all_spilled xs sp m in
       record {
         answers = wells xs (Failed ∷ []);
-        same = λ rest f sv.
-            ap (λ a. save_and change (state m b sp a f sv)) (wells_append xs (Failed ∷ []) rest)
-            ∙ ap (λ t. open_store t (state m b sp (wells xs (Failed ∷ rest)) f sv) (spilling change)) is_open
-            ∙ spill_all xs (committing change) m b sp (Failed ∷ rest) f (sv ++ record { map = next_map b sp m; returned = false } ∷ [])
-            ∙ ap (λ p. commit p (state all b sp (Failed ∷ rest) f (sv ++ record { map = next_map b sp m; returned = false } ∷ [])) (ending change)) some;
+        same = λ rest f was sv.
+            ap (λ a. save_and change (state m b sp a f was sv)) (wells_append xs (Failed ∷ []) rest)
+            ∙ ap (λ t. open_store t (state m b sp (wells xs (Failed ∷ rest)) f was sv) (spilling change)) is_open
+            ∙ spill_all xs (committing change) m b sp (Failed ∷ rest) f was (sv ++ record { map = next_map b sp m; returned = false } ∷ [])
+            ∙ ap (λ p. commit p (state all b sp (Failed ∷ rest) f (add_wear was (spills_wear xs)) (sv ++ record { map = next_map b sp m; returned = false } ∷ [])) (ending change)) some
+            ∙ ap (λ w. Fails Device (state (shut all) b sp rest (f + 1) w (sv ++ record { map = next_map b sp m; returned = false } ∷ []))) (wear_assoc was (spills_wear xs) (commit_wear (pending_number all.pending)));
       }
 
   pub save_unspilled : (before : List Assigned) (x : Assigned) (after : List Assigned) → updated_ones b ≡ before ++ x ∷ after
-      → WordRuns (save_and change) (Err Device) (record { map = next_map b sp m; returned = false } ∷ []) m (shut (all_spilled before sp m)) b b sp sp
+      → WordRuns (save_and change) (Err Device) (add_wear (spills_wear before) spill_wear) (record { map = next_map b sp m; returned = false } ∷ []) m (shut (all_spilled before sp m)) b b sp sp
   save_unspilled before x after split = record {
     answers = wells before (Failed ∷ []);
-    same = λ rest f sv.
-        ap (λ a. save_and change (state m b sp a f sv)) (wells_append before (Failed ∷ []) rest)
-        ∙ ap (λ t. open_store t (state m b sp (wells before (Failed ∷ rest)) f sv) (spilling change)) is_open
-        ∙ ap (λ l. spill_each l (state m b sp (wells before (Failed ∷ rest)) f (sv ++ record { map = next_map b sp m; returned = false } ∷ [])) (committing change)) split
-        ∙ spill_front before (x ∷ after) (committing change) m b sp (Failed ∷ rest) f (sv ++ record { map = next_map b sp m; returned = false } ∷ []);
+    same = λ rest f was sv.
+        ap (λ a. save_and change (state m b sp a f was sv)) (wells_append before (Failed ∷ []) rest)
+        ∙ ap (λ t. open_store t (state m b sp (wells before (Failed ∷ rest)) f was sv) (spilling change)) is_open
+        ∙ ap (λ l. spill_each l (state m b sp (wells before (Failed ∷ rest)) f was (sv ++ record { map = next_map b sp m; returned = false } ∷ [])) (committing change)) split
+        ∙ spill_front before (x ∷ after) (committing change) m b sp (Failed ∷ rest) f was (sv ++ record { map = next_map b sp m; returned = false } ∷ [])
+        ∙ ap (λ w. Fails Device (state (shut (all_spilled before sp m)) b sp rest (f + 1) w (sv ++ record { map = next_map b sp m; returned = false } ∷ []))) (wear_assoc was (spills_wear before) spill_wear);
   }
 
 -- an open store begins a save
-pub runs_open : {A : Type 0} {w : Blocks → BlockOutcome A} {m m' : Maps} {b b' : Buffers} {sp sp' : List ℕ} (closed : Bool) → closed ≡ false → (r : Result A BlockFault) (s : Save)
-    → WordRuns w r (s ∷ []) m m' b b' sp sp' → WordRuns w r (save_begun closed s.map s.returned) m m' b b' sp sp'
-runs_open {A} {w} {m} {m'} {b} {b'} {sp} {sp'} closed is r s runs = subst (λ t. WordRuns w r (save_begun t s.map s.returned) m m' b b' sp sp') (sym is) runs
+pub runs_open : {A : Type 0} {w : Blocks → BlockOutcome A} {m m' : Maps} {b b' : Buffers} {sp sp' : List ℕ} (closed : Bool) → closed ≡ false → (r : Result A BlockFault) (wear : Wear) (s : Save)
+    → WordRuns w r wear (s ∷ []) m m' b b' sp sp' → WordRuns w r wear (save_begun closed s.map s.returned) m m' b b' sp sp'
+runs_open {A} {w} {m} {m'} {b} {b'} {sp} {sp'} closed is r wear s runs = record {
+  answers = runs.answers;
+  same = λ rest f was sv.
+      runs.same rest f was sv
+      ∙ ap (λ t. ended r (state m' b' sp' rest (failures_after r f) (add_wear was wear) (sv ++ save_begun t s.map s.returned))) (sym is);
+}
 
 pub keeps_save : {D : Type 0} (G : Ghosts D) (closed : Bool) (old new : D) (saved next : List (List ℕ)) (returned : Bool) → closed ≡ false
     → LeavesOnly G.time G.left_since old new (λ c. Means saved c ⊎ Means next c)
@@ -217,3 +234,30 @@ save_begins G old mid new b on pending first then =
       few_writes = omega (arith, first.few_writes, then.few_writes, same);
       few_syncs = omega (arith, first.few_syncs, then.few_syncs);
     }
+
+-- ---- what a save wears
+
+-- it stopped at a spill
+pub unspilled_wears : {D : Type 0} (G : Ghosts D) (old new : D) (before : List Assigned) → BeginsAtMost G old new (2 * length before + 2) 0
+    → WearsAtMost G old new (add_wear (spills_wear before) spill_wear)
+unspilled_wears G old new before h = subst (λ w. WearsAtMost G old new (add_wear w spill_wear)) (sym (spills_counted before)) (record { few_writes = h.few_writes; few_syncs = h.few_syncs })
+
+-- it came to the commit
+module _ {D : Type 0} (G : Ghosts D) (old : D) (mid new : Store D G) (b : Buffers) (all : Maps) (stands : StandsFor mid all) (is_open : mid.closed ≡ false)
+    (first : BeginsAtMost G old mid.device (2 * length (updated_ones b)) 0) (then : DeviceBegins mid new (2 * pending_count mid + 3) 4) where
+  spills : WearsAtMost G old mid.device (spills_wear (updated_ones b))
+  spills = subst (λ w. WearsAtMost G old mid.device w) (sym (spills_counted (updated_ones b))) first
+
+  pub committed_wears : WearsAtMost G old new.device (add_wear (spills_wear (updated_ones b)) (commit_wear (pending_number all.pending)))
+  committed_wears =
+      wears_then G old mid.device new.device (spills_wear (updated_ones b)) (commit_wear (pending_number all.pending)) spills
+      (subst (λ n. WearsAtMost G mid.device new.device (commit_wear n)) (sym (pending_same mid all stands is_open)) then)
+
+  pub saved_wears : (pending_count mid ≡ 0 → new.device ≡ mid.device) → WearsAtMost G old new.device (add_wear (spills_wear (updated_ones b)) (commit_wear_if (any_pending all.pending) (pending_number all.pending)))
+  saved_wears nothing = pick (any_pending all.pending) refl
+    where
+      pick : (t : Bool) → any_pending all.pending ≡ t → WearsAtMost G old new.device (add_wear (spills_wear (updated_ones b)) (commit_wear_if t (pending_number all.pending)))
+      pick true is = committed_wears
+      pick false is =
+          subst (λ d. WearsAtMost G old d (add_wear (spills_wear (updated_ones b)) no_wear)) (sym (nothing (sym (pending_same mid all stands is_open) ∙ none_counted all.pending is)))
+          (subst (λ w. WearsAtMost G old mid.device w) (sym (none_more (spills_wear (updated_ones b)))) spills)

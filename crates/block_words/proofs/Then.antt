@@ -10,25 +10,26 @@ use Rattle.journal.specs.Maps.{Maps}
 use Rattle.journal.specs.Store.{Continues}
 use Rattle.block_buffers.specs.Buffers.{Buffers}
 use Rattle.block_words.specs.declared.BlockFault.{BlockFault}
-use Rattle.block_words.specs.Words.{Save, Blocks, BlockOutcome}
+use Rattle.block_words.specs.Words.{Save, Wear, add_wear, Blocks, BlockOutcome}
 use Rattle.block_words.specs.Kept.{KeptFrom, last_map}
 use Rattle.block_words.specs.Calls.{state, ended, failures_after, and_then, WordRuns, CallKeeps, CallRuns}
+use Rattle.block_words.proofs.Worn.{wear_assoc, wears_then}
 use Rattle.block_words.proofs.KeptOn.{kept_open, kept_closed}
 
 last_append : (map : List (List ℕ)) (made more : List Save) → last_map map (made ++ more) ≡ last_map (last_map map made) more
 last_append map [] more = refl
 last_append map (s ∷ made) more = last_append s.map made more
 
-pub words_then : {A B : Type 0} (w : Blocks → BlockOutcome A) (v : A) (next : A → Blocks → BlockOutcome B) (r : Result B BlockFault) (made more : List Save)
+pub words_then : {A B : Type 0} (w : Blocks → BlockOutcome A) (v : A) (next : A → Blocks → BlockOutcome B) (r : Result B BlockFault) (wear later : Wear) (made more : List Save)
     (m m' m'' : Maps) (b b' b'' : Buffers) (sp sp' sp'' : List ℕ)
-    → WordRuns w (Ok v) made m m' b b' sp sp' → WordRuns (next v) r more m' m'' b' b'' sp' sp'' → WordRuns (λ s. and_then (w s) next) r (made ++ more) m m'' b b'' sp sp''
-words_then w v next r made more m m' m'' b b' b'' sp sp' sp'' first then = record {
+    → WordRuns w (Ok v) wear made m m' b b' sp sp' → WordRuns (next v) r later more m' m'' b' b'' sp' sp'' → WordRuns (λ s. and_then (w s) next) r (add_wear wear later) (made ++ more) m m'' b b'' sp sp''
+words_then w v next r wear later made more m m' m'' b b' b'' sp sp' sp'' first then = record {
   answers = first.answers ++ then.answers;
-  same = λ rest f sv.
-      ap (λ a. and_then (w (state m b sp a f sv)) next) (append_assoc first.answers then.answers rest)
-      ∙ ap (λ o. and_then o next) (first.same (then.answers ++ rest) f sv)
-      ∙ then.same rest f (sv ++ made)
-      ∙ ap (λ l. ended r (state m'' b'' sp'' rest (failures_after r f) l)) (append_assoc sv made more);
+  same = λ rest f was sv.
+      ap (λ a. and_then (w (state m b sp a f was sv)) next) (append_assoc first.answers then.answers rest)
+      ∙ ap (λ o. and_then o next) (first.same (then.answers ++ rest) f was sv)
+      ∙ then.same rest f (add_wear was wear) (sv ++ made)
+      ∙ (λ t. ended r (state m'' b'' sp'' rest (failures_after r f) (wear_assoc was wear later t) (append_assoc sv made more t)));
 }
 
 module _ {D : Type 0} (G : Ghosts D) (counts_now : (d : D) (t : ℕ) (c : Image) → t ≤ G.time d → MayLeave (G.disk d) c → G.left_since d t c)
@@ -59,10 +60,12 @@ module _ {D : Type 0} (G : Ghosts D) (counts_now : (d : D) (t : ℕ) (c : Image)
       → CallRuns G (λ s. and_then (w s) next) r (made ++ more) m old new b b'' sp sp''
   calls_then w v next r made more m old mid new b b' b'' sp sp' sp'' on on_then first none then = record {
     maps = then.maps;
-    runs = words_then w v next r made more m first.maps then.maps b b' b'' sp sp' sp'' first.runs then.runs;
+    wear = add_wear first.wear then.wear;
+    runs = words_then w v next r first.wear then.wear made more m first.maps then.maps b b' b'' sp sp' sp'' first.runs then.runs;
     stands = then.stands;
     kept = keeps_then m.closed first.maps.closed old.device mid.device new.device m.saved first.maps.saved made more on.time on_then.time first.shuts first.last none
         first.kept then.kept;
+    wears = wears_then G old.device mid.device new.device first.wear then.wear first.wears then.wears;
     shuts = λ h. then.shuts (first.shuts h);
     last = λ h. then.last h ∙ after first.maps.closed refl h;
   }

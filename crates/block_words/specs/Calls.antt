@@ -5,18 +5,20 @@ use Rattle.sector_disk.specs.Disk.{MayLeave}
 use Rattle.sector_disk.specs.Moments.{LeavesOnly}
 use Rattle.sector_disk.specs.declared.device.SectorDevice.{Ghosts}
 use Rattle.journal.specs.declared.store.Store.{Store}
+use Rattle.journal.specs.Calls.{BeginsAtMost}
 use Rattle.journal.specs.Images.{Means}
 use Rattle.journal.specs.Maps.{Maps}
 use Rattle.journal.specs.Store.{StandsFor}
 use Rattle.block_buffers.specs.Buffers.{Buffers}
 use Rattle.block_words.specs.declared.BlockFault.{BlockFault}
 use Rattle.block_words.specs.declared.BlockFault.TheVariants.{Device}
-use Rattle.block_words.specs.Words.{Answer, Save, Blocks, BlockOutcome, Gives, Fails}
+use Rattle.block_words.specs.Words.{Answer, Save, Wear, add_wear, Blocks, BlockOutcome, Gives, Fails}
 use Rattle.block_words.specs.Kept.{KeptFrom, last_map}
 
 -- all that the block words read, at a beginning or an end of a call
-abbrev pub state : Maps → Buffers → List ℕ → List Answer → ℕ → List Save → Blocks
-state maps buffers space answers failures saves = record { maps = maps; buffers = buffers; space = space; answers = answers; failures = failures; saves = saves }
+abbrev pub state : Maps → Buffers → List ℕ → List Answer → ℕ → Wear → List Save → Blocks
+state maps buffers space answers failures wear saves =
+    record { maps = maps; buffers = buffers; space = space; answers = answers; failures = failures; wear = wear; saves = saves }
 
 abbrev pub ended : {A : Type 0} → Result A BlockFault → Blocks → BlockOutcome A
 ended (Ok value) s = Gives value s
@@ -42,14 +44,18 @@ abbrev pub and_then : {A B : Type 0} → BlockOutcome A → (A → Blocks → Bl
 and_then (Gives value s) go = go value s
 and_then (Fails fault s) go = Fails fault s
 
--- The word runs so from these maps, buffers and bytes, whatever answers, failures and saves are before and after.
-pub record WordRuns {A : Type 0} (word : Blocks → BlockOutcome A) (result : Result A BlockFault) (made : List Save) (m m' : Maps) (buffers buffers' : Buffers) (space space' : List ℕ) : Type 0 where
+-- The word runs so from these maps, buffers and bytes, whatever answers, failures, wear and saves are before and after.
+pub record WordRuns {A : Type 0} (word : Blocks → BlockOutcome A) (result : Result A BlockFault) (wear : Wear) (made : List Save) (m m' : Maps) (buffers buffers' : Buffers) (space space' : List ℕ) : Type 0 where
   pub answers : List Answer
-  pub same : (rest : List Answer) (failures : ℕ) (saves : List Save)
-      → word (state m buffers space (answers ++ rest) failures saves)
-      ≡ ended result (state m' buffers' space' rest (failures_after result failures) (saves ++ made))
+  pub same : (rest : List Answer) (failures : ℕ) (before : Wear) (saves : List Save)
+      → word (state m buffers space (answers ++ rest) failures before saves)
+      ≡ ended result (state m' buffers' space' rest (failures_after result failures) (add_wear before wear) (saves ++ made))
 
 module _ {D : Type 0} (G : Ghosts D) where
+  -- The device began no more writes and syncs than these.
+  abbrev pub WearsAtMost : (old new : D) → Wear → Type 0
+  WearsAtMost old new wear = BeginsAtMost G old new wear.writes wear.syncs
+
   -- An open store keeps its saves from the call's start; a closed one adds nothing to what a stop may leave.
   abbrev pub CallKeeps : (closed : Bool) → (old new : D) → List (List ℕ) → List Save → Type 0
   CallKeeps true old new map made = LeavesOnly G.time G.left_since old new (MayLeave (G.disk old))
@@ -58,9 +64,11 @@ module _ {D : Type 0} (G : Ghosts D) where
   -- A call by which old became new runs the word from these maps, and keeps the saves that it made.
   pub record CallRuns {A : Type 0} (word : Blocks → BlockOutcome A) (result : Result A BlockFault) (made : List Save) (m : Maps) (old new : Store D G) (buffers buffers' : Buffers) (space space' : List ℕ) : Type 0 where
     pub maps : Maps
-    pub runs : WordRuns word result made m maps buffers buffers' space space'
+    pub wear : Wear
+    pub runs : WordRuns word result wear made m maps buffers buffers' space space'
     pub stands : StandsFor new maps
     pub kept : CallKeeps m.closed old.device new.device m.saved made
+    pub wears : WearsAtMost old.device new.device wear
     -- a closed store stays closed
     pub shuts : m.closed ≡ true → maps.closed ≡ true
     -- an open store has the last map

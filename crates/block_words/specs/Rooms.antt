@@ -1,9 +1,10 @@
 -- The steps of the code: room for a new buffer, and spills up to one that fails. No public contract cites these.
-use Rattle.std.specs.Prelude.{◌≡◌, ◌++◌, ℕ, Bool, true, false, ◌&&◌, List, [], ◌∷◌, Option, Some, None, nat_lt, Result, Ok, Err}
+use Rattle.std.specs.Prelude.{◌≡◌, ◌++◌, ◌+◌, ◌*◌, ℕ, length, Bool, true, false, ◌&&◌, List, [], ◌∷◌, Option, Some, None, nat_lt, Result, Ok, Err}
 use Rattle.data_space.specs.Space.{buffer_at, buffer_bytes, with_bytes}
 use Rattle.journal.specs.Maps.{Maps, spilled}
 use Rattle.block_buffers.specs.declared.Assigned.{Assigned}
 use Rattle.block_words.specs.declared.BlockFault.{BlockFault}
+use Rattle.block_words.specs.Words.{Wear, no_wear, spill_wear}
 
 abbrev pub spilled_if : Bool → Assigned → List ℕ → Maps → Maps
 spilled_if true x space m = spilled m x.block (buffer_bytes space x.slot)
@@ -17,6 +18,11 @@ room_made (Some x) space m = spilled_if x.updated x space m
 abbrev pub is_updated : Option Assigned → Bool
 is_updated None = false
 is_updated (Some x) = x.updated
+
+-- what that wears, by whether the buffer is updated
+abbrev pub room_wear : Bool → Wear
+room_wear true = spill_wear
+room_wear false = no_wear
 
 -- the blocks of these buffers are below n
 abbrev pub within : ℕ → List Assigned → Bool
@@ -33,10 +39,11 @@ abbrev pub filled_in : Result ℕ BlockFault → List ℕ → List ℕ → List 
 filled_in (Ok slot) space bytes = with_bytes space (buffer_at slot) bytes
 filled_in (Err fault) space bytes = space
 
--- A spill failed: those before it are spilled.
-pub record SpillFails (xs : List Assigned) (stands : List Assigned → Type 0) : Type 0 where
+-- A spill failed: those before it are spilled, and with this one the device began so many writes at most.
+pub record SpillFails (xs : List Assigned) (stands : List Assigned → Type 0) (writes : ℕ → Type 0) : Type 0 where
   pub before : List Assigned
   pub this : Assigned
   pub after : List Assigned
   pub split : xs ≡ before ++ this ∷ after
   pub shut_so : stands before
+  pub begins : writes (2 * length before + 2)

@@ -1,6 +1,6 @@
 -- The five block words, and the text of a block. Each call that reaches the device takes one answer from a list of
 -- what the device answers; where the list is at its end, all goes well.
-use Rattle.std.specs.Prelude.{ℕ, ◌+◌, ◌++◌, Bool, true, false, nat_lt, List, [], ◌∷◌, length, Option, Some, None, replicate}
+use Rattle.std.specs.Prelude.{ℕ, ◌+◌, ◌*◌, ◌++◌, Bool, true, false, nat_lt, List, [], ◌∷◌, length, Option, Some, None, replicate}
 use Rattle.data_space.specs.Space.{buffer_at, buffer_bytes, with_bytes}
 use Rattle.journal.specs.Maps.{Maps, contents, spilled, committed, latest, shut, any_pending}
 use Rattle.block_buffers.specs.declared.Assigned.{Assigned}
@@ -17,13 +17,26 @@ pub record Save : Type 0 where
   pub map : List (List ℕ)
   pub returned : Bool
 
--- store, buffers, data space, what the device will answer, how often it failed, and the saves so far
+-- how many writes and syncs the device may have begun at most
+pub record Wear : Type 0 where
+  pub writes : ℕ
+  pub syncs : ℕ
+
+abbrev pub no_wear : Wear
+no_wear = record { writes = 0; syncs = 0 }
+
+-- of one thing and then another
+abbrev pub add_wear : Wear → Wear → Wear
+add_wear wear more = record { writes = wear.writes + more.writes; syncs = wear.syncs + more.syncs }
+
+-- store, buffers, data space, what the device will answer, how often it failed, its wear, and the saves so far
 pub record Blocks : Type 0 where
   pub maps : Maps
   pub buffers : Buffers
   pub space : List ℕ
   pub answers : List Answer
   pub failures : ℕ
+  pub wear : Wear
   pub saves : List Save
 
 pub data BlockOutcome (A : Type 0) : Type 0 where
@@ -46,6 +59,10 @@ answered Failed s well failed = failed (record s { answers = later_answers s.ans
 abbrev pub device_call : {A : Type 0} → Blocks → (well failed : Blocks → BlockOutcome A) → BlockOutcome A
 device_call s well failed = answered (first_answer s.answers) s well (λ s. failed (record s { failures = s.failures + 1 }))
 
+-- the device may begin so much more, whether or not it goes well
+abbrev pub worn : Wear → Blocks → Blocks
+worn more s = record s { wear = add_wear s.wear more }
+
 abbrev pub with_closed : Blocks → Blocks
 with_closed s = record s { maps = shut s.maps }
 
@@ -61,10 +78,14 @@ view_of None s b = contents s.maps b
 abbrev pub view : Blocks → ℕ → List ℕ
 view s b = view_of (assigned s.buffers.list b) s b
 
+-- a spill writes both halves of a block
+abbrev pub spill_wear : Wear
+spill_wear = record { writes = 2; syncs = 0 }
+
 -- a spill of one buffer
 abbrev pub spill : {A : Type 0} → Assigned → Blocks → (Blocks → BlockOutcome A) → BlockOutcome A
 spill x s go =
-    device_call s
+    device_call (worn spill_wear s)
     (λ s. go (record s { maps = spilled s.maps x.block (bytes_of s x) }))
     (λ s. Fails Device (with_closed s))
 
@@ -138,10 +159,23 @@ abbrev pub spill_each : List Assigned → Blocks → (Blocks → BlockOutcome (U
 spill_each [] s go = go s
 spill_each (x ∷ xs) s go = spill x s (λ s. spill_each xs s go)
 
+-- how many blocks are pending
+abbrev pub pending_number : List (Option (List ℕ)) → ℕ
+pending_number [] = 0
+pending_number (Some bytes ∷ pending) = pending_number pending + 1
+pending_number (None ∷ pending) = pending_number pending
+
+-- a commit writes each pending block to its home, a record, and the gate twice
+abbrev pub commit_wear : ℕ → Wear
+commit_wear blocks = record { writes = 2 * blocks + 3; syncs = 4 }
+
 -- a commit of nothing makes no call of the device
 abbrev pub commit : Bool → Blocks → (Blocks → BlockOutcome (Unit {0})) → BlockOutcome (Unit {0})
 commit false s go = go (record s { maps = committed s.maps })
-commit true s go = device_call s (λ s. go (record s { maps = committed s.maps })) (λ s. Fails Device (with_closed s))
+commit true s go =
+    device_call (worn (commit_wear (pending_number s.maps.pending)) s)
+    (λ s. go (record s { maps = committed s.maps }))
+    (λ s. Fails Device (with_closed s))
 
 abbrev pub returned : List Save → List Save
 returned [] = []

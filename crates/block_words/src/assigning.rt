@@ -1,18 +1,18 @@
 // A buffer for a block that has none.
 ghost use Rattle.std.specs.Prelude.{◌≡◌, ◌⊎◌, ◌<◌, ◌↔◌, [], None, true, false, replicate, List, ℕ, OnOk, OnErr, IfOk, IfErr, IsErrOf, MatchResult};
 ghost use Rattle.journal.specs.Maps.{Maps, shut};
-ghost use Rattle.journal.specs.Store.{blocks_of, closed_of, StandsFor, Continues, DeviceFailed, DeviceWentWell, DeviceBegins, KeepsSaved};
+ghost use Rattle.journal.specs.Store.{device_of, blocks_of, closed_of, StandsFor, Continues, DeviceFailed, DeviceWentWell, DeviceBegins, KeepsSaved};
 ghost use Rattle.data_space.specs.Space.{buffer_at, with_bytes};
 ghost use Rattle.block_buffers.specs.Buffers.{oldest, assigned, slot_for, placed, IsValid};
 ghost use Rattle.block_words.specs.Words.{assign, block, buffer};
 ghost use Rattle.block_words.specs.Uses.{PendingOnceReplaced};
-ghost use Rattle.block_words.specs.Rooms.{within, room_made, is_updated, address_of, filled_in};
-ghost use Rattle.block_words.specs.Calls.{CallRuns};
+ghost use Rattle.block_words.specs.Rooms.{within, room_made, room_wear, is_updated, address_of, filled_in};
+ghost use Rattle.block_words.specs.Calls.{CallRuns, WearsAtMost};
 ghost use Rattle.block_words.specs.Promises.{TellsFailures};
 
 use crate::BlockFault;
 use block_buffers::{Buffers, Slot};
-use data_space::DataSpace;
+use data_space::{BUFFER_SIZE, DataSpace, FIRST_BUFFER};
 use journal::{Store, StoreFault};
 use sector_disk::SectorDevice;
 
@@ -22,7 +22,7 @@ pub(crate) fn address(slot: Slot) -> u16
     requires { slot < 4 }
     ensures { result ≡ buffer_at slot }
 {
-    61440 + 1024 * u16::from(slot)
+    FIRST_BUFFER + BUFFER_SIZE as u16 * u16::from(slot)
 }
 
 // Spills the oldest buffer, where a new one takes its place and it is updated.
@@ -45,6 +45,7 @@ fn make_room<D: SectorDevice>(
     ensures stops { KeepsSaved store.old store.new }
     ensures continues { Continues store.old store.new }
     ensures begins { DeviceBegins store.old store.new 2 0 }
+    ensures wears { WearsAtMost D.SectorDevice (device_of store.old) (device_of store.new) (room_wear (is_updated (oldest buffers.now))) }
 {
     let Some(last) = buffers.oldest() else {
         return Ok(());

@@ -49,8 +49,9 @@ pub enum BlockFault {
 /// taken by `new`, and by the first `block` or `buffer` of a block that has none, and by no other call.
 ///
 /// Contracts speak of the store and of the list of buffers, which is valid at any time (`laws::buffers_are_valid`).
-/// Where the device keeps the disk model, `CallRuns` says that a call is a run of its word, and what a stop at any moment
-/// of it leaves; all other clauses hold over any device.
+/// Where the device keeps the disk model, `CallRuns` says that a call is a run of its word, what a stop at any moment of
+/// it leaves, and that the device began no more writes and syncs than the word counts; all other clauses hold over any
+/// device.
 #[derive(Drop)]
 pub struct Blocks<D: SectorDevice> {
     store: Store<D>,

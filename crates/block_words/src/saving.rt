@@ -26,7 +26,8 @@ fn spill_updated<D: SectorDevice>(
     ensures ok { (m : Maps) → StandsFor store.old m
         → OnOk result (StandsFor store.new (all_spilled (updated_ones buffers.now) space.now m)) }
     ensures fault { (m : Maps) → StandsFor store.old m
-        → OnErr result (SpillFails (updated_ones buffers.now) (λ before. StandsFor store.new (shut (all_spilled before space.now m)))) }
+        → OnErr result (SpillFails (updated_ones buffers.now) (λ before. StandsFor store.new (shut (all_spilled before space.now m)))
+        (λ writes. DeviceBegins store.old store.new writes 0)) }
     ensures only { OnErr result (IsErrOf result BlockFault.Device) }
     ensures opened { OnOk result (closed_of store.new ≡ false) }
     ensures device { OnErr result (DeviceFailed store.old store.new) }

@@ -1,11 +1,15 @@
-use Rattle.std.proofs.Common.{◌≡◌, true, false, length, nat_lt, None, sym, ap, ◌∙◌, subst, refl, arith, rules}
+use Rattle.std.proofs.Common.{◌≡◌, true, false, length, nat_lt, None, sym, ap, ◌∙◌, subst, refl, arith, rules, [], Err}
+use Rattle.block_words.specs.Calls.{CallRuns}
+use Rattle.block_words.specs.declared.BlockFault.TheVariants.{NoBlock, Closed}
+use Rattle.block_words.specs.Words.{source}
 use Rattle.std.specs.Prelude.{IfSome}
 use Rattle.data_space.specs.Space.{buffer_bytes}
 use Rattle.std.proofs.lemmas.Bool.{lt-ltb}
 use Rattle.block_buffers.specs.Buffers.{slot_of, assigned}
 use Rattle.block_words.proofs.Lists.{none_past, none_of}
-use Rattle.block_words.proofs.Runs.{source_found, source_read, source_failed, keeps_store, keeps_saved}
+use Rattle.block_words.proofs.Runs.{source_found, source_read, source_failed, still_runs, keeps_store, keeps_saved}
 use Rattle.block_words.proofs.Asked.{asks_past}
+use Rattle.block_words.proofs.Worn.{wears_none}
 use Rattle.block_words.proofs.Blocks.source.Goals as goal
 
 pub returns-then-u-blocks-clause-found_bytes : goal.returns-then-u-blocks-clause-found_bytes
@@ -18,9 +22,11 @@ returns-in-Some-clause-runs g c = λ m stands.
     let is : nat_lt c.args.u (length m.saved) ≡ true = ap (λ n. nat_lt c.args.u n) stands.size ∙ lt-ltb c.args.u c.args.self.now.store.blocks (omega (arith, c.if-u-blocks.false, c.blocks-2.ensures.value)) in
     record {
       maps = m;
+      wear = _;
       runs = source_found c.args.u m c.args.self.now.buffers c.args.space.now is (assigned c.args.self.now.buffers.list c.args.u) c.in-Some.slot c.copy_from_slice.new.self refl c.in-Some.ensures.slot (c.copy_from_slice.ensures.after ∙ c.buffer.ensures.value);
       stands = stands;
       kept = keeps_store g.D.SectorDevice c.args.self.now.store m g.met.D.SectorDevice.only_now stands;
+      wears = wears_none g.D.SectorDevice c.args.self.now.store.device;
       shuts = λ h. h;
       last = λ _. refl;
     }
@@ -34,9 +40,11 @@ returns-in-Ok-clause-runs g c = λ m stands.
     let none = none_of (assigned c.args.self.now.buffers.list c.args.u) (sym c.in-None.ensures.slot) in
     record {
       maps = m;
+      wear = _;
       runs = source_read c.args.u m c.args.self.now.buffers c.args.space.now is none open_now c.read_block.new.out (c.in-Ok.ensures.ok m stands);
       stands = c.in-Ok.ensures.state m stands;
       kept = keeps_saved g.D.SectorDevice m.closed old.device c.read_block.new.self.device m.saved open_now (c.in-Ok.ensures.stops m stands open_now);
+      wears = c.in-Ok.ensures.begins;
       shuts = λ h. h;
       last = λ _. refl;
     }
@@ -50,9 +58,11 @@ returns-in-Err-Device-clause-runs g c = λ m stands.
     let none = none_of (assigned c.args.self.now.buffers.list c.args.u) (sym c.in-None.ensures.slot) in
     record {
       maps = m;
+      wear = _;
       runs = source_failed c.args.u m c.args.self.now.buffers c.args.space.now is none open_now;
       stands = c.read_block.ensures.state m stands;
       kept = keeps_saved g.D.SectorDevice m.closed old.device c.read_block.new.self.device m.saved open_now (c.read_block.ensures.stops m stands open_now);
+      wears = c.read_block.ensures.begins;
       shuts = λ h. h;
       last = λ _. refl;
     }
@@ -60,3 +70,17 @@ returns-in-Err-Device-clause-runs g c = λ m stands.
 pub returns-then-u-blocks-clause-asks : goal.returns-then-u-blocks-clause-asks
 returns-then-u-blocks-clause-asks g c =
     asks_past g.D.SectorDevice c.args.u c.args.self.now g.met.D.SectorDevice.only_now (omega (arith, c.if-u-blocks.true, c.blocks-2.ensures.value))
+
+pub returns-then-u-blocks-clause-runs : goal.returns-then-u-blocks-clause-runs
+returns-then-u-blocks-clause-runs g c = λ m stands.
+    still_runs g.D.SectorDevice (source c.args.u) (Err NoBlock) m c.args.self.now.store c.args.self.now.buffers c.args.self.now.buffers c.args.space.now c.args.space.now g.met.D.SectorDevice.only_now stands
+    (λ rest f was sv. search rules)
+
+pub returns-in-Err-Closed-clause-runs : goal.returns-in-Err-Closed-clause-runs
+returns-in-Err-Closed-clause-runs g c = λ m stands.
+    let old = c.args.self.now.store in
+    let b = c.args.self.now.buffers in
+    let sp = c.args.space.now in
+    let same : c.read_block.new.self ≡ old = search rules in
+    subst (λ s. CallRuns g.D.SectorDevice (source c.args.u) (Err Closed) [] m old s b b sp sp) (sym same)
+    (still_runs g.D.SectorDevice (source c.args.u) (Err Closed) m old b b sp sp g.met.D.SectorDevice.only_now stands (λ rest f was sv. search rules))

@@ -1,4 +1,7 @@
-use Rattle.std.proofs.Common.{ap, ◌∙◌}
+use Rattle.std.proofs.Common.{ap, ◌∙◌, Ok, Err, rules}
+use Rattle.block_words.specs.declared.BlockFault.TheVariants.{NoBuffer}
+use Rattle.block_words.specs.Words.{update}
+use Rattle.block_words.proofs.Runs.{still_runs}
 use Rattle.block_buffers.specs.Buffers.{Buffers}
 use Rattle.block_words.specs.Rooms.{within}
 use Rattle.block_words.proofs.Lists.{within_after_mark}
@@ -11,3 +14,11 @@ invariant_of-self g c = record {
       ∙ within_after_mark c.args.self.now.store.blocks c.args.self.now.buffers c.args.self.now.within;
   valid = c.mark.ensures.valid;
 }
+
+pub returns-then-mark-clause-runs : goal.returns-then-mark-clause-runs
+returns-then-mark-clause-runs g c = λ m space stands.
+    still_runs g.D.SectorDevice update (Ok tt) m c.args.self.now.store c.args.self.now.buffers c.mark.new.self space space g.met.D.SectorDevice.only_now stands (λ rest f was sv. search rules)
+
+pub returns-else-mark-clause-runs : goal.returns-else-mark-clause-runs
+returns-else-mark-clause-runs g c = λ m space stands.
+    still_runs g.D.SectorDevice update (Err NoBuffer) m c.args.self.now.store c.args.self.now.buffers c.mark.new.self space space g.met.D.SectorDevice.only_now stands (λ rest f was sv. search rules)

@@ -1,10 +1,12 @@
 use Rattle.std.proofs.Common.{◌≡◌, true, false, inl, sym, ◌∙◌, ap, subst, refl, arith, rules, Err}
 use Rattle.journal.specs.Maps.{latest, any_pending}
 use Rattle.block_buffers.specs.Buffers.{updated_ones}
-use Rattle.block_words.specs.Words.{all_spilled, next_map}
-use Rattle.block_words.specs.Calls.{save_begun}
+use Rattle.block_words.specs.Words.{all_spilled, next_map, save_and}
+use Rattle.block_words.specs.Calls.{CallRuns, save_begun}
 use Rattle.block_words.specs.Kept.{last_map}
-use Rattle.block_words.proofs.Saves.{save_ok, save_uncommitted, save_unspilled, keeps_save, runs_open, saves_then, save_begins, continues_then, some_pending, none_left, device_fault}
+use Rattle.block_words.specs.declared.BlockFault.TheVariants.{Closed}
+use Rattle.block_words.proofs.Runs.{still_runs}
+use Rattle.block_words.proofs.Saves.{save_ok, save_uncommitted, save_unspilled, keeps_save, runs_open, saves_then, save_begins, unspilled_wears, committed_wears, saved_wears, continues_then, some_pending, none_left, device_fault}
 use Rattle.block_words.proofs.saving.save.Goals as goal
 
 pub returns-in-Err-clause-runs : goal.returns-in-Err-clause-runs
@@ -14,10 +16,12 @@ returns-in-Err-clause-runs g c = λ m change stands.
     let f = c.in-Err.ensures.fault m stands in
     record {
       maps = _;
-      runs = runs_open m.closed open_now _ _ (save_unspilled change m b c.args.space.now open_now f.before f.this f.after f.split);
+      wear = _;
+      runs = runs_open m.closed open_now _ _ _ (save_unspilled change m b c.args.space.now open_now f.before f.this f.after f.split);
       stands = f.shut_so;
       kept = keeps_save g.D.SectorDevice m.closed c.args.store.now.device c.spill_updated.new.store.device m.saved (next_map b c.args.space.now m) false open_now
           (λ x since. inl (c.in-Err.ensures.stops m stands open_now x since)) (λ no. absurd (cc));
+      wears = unspilled_wears g.D.SectorDevice c.args.store.now.device c.spill_updated.new.store.device f.before f.begins;
       shuts = λ _. refl;
       last = λ no. absurd (cc);
     }
@@ -35,7 +39,8 @@ returns-in-Ok-commit-clause-runs g c = λ m change stands.
     let mid_stands = c.in-Ok.ensures.ok m stands in
     record {
       maps = _;
-      runs = runs_open m.closed open_now _ _ (save_ok change m b sp open_now);
+      wear = _;
+      runs = runs_open m.closed open_now _ _ _ (save_ok change m b sp open_now);
       stands = c.in-Ok-commit.ensures.ok all mid_stands;
       kept = keeps_save G m.closed old.device new.device m.saved (next_map b sp m) true open_now
           (saves_then G old mid new b sp c.in-Ok.ensures.continues c.commit.ensures.continues c.in-Ok.ensures.ok c.in-Ok.ensures.stops c.commit.ensures.stops m stands open_now)
@@ -45,6 +50,8 @@ returns-in-Ok-commit-clause-runs g c = λ m change stands.
             omega arith,
             λ x since. c.in-Ok-commit.ensures.after all mid_stands x (g.met.D.SectorDevice.only_now new.device x since),
           ));
+      wears = saved_wears G old.device mid new b all mid_stands c.in-Ok.ensures.opened c.in-Ok.ensures.begins c.commit.ensures.begins
+          (λ none. (c.commit.ensures.nothing c.in-Ok.ensures.opened none).1);
       shuts = λ h. absurd (let no : true ≡ false = sym h ∙ open_now in cc);
       last = λ h. subst (λ t. (latest all) ≡ last_map m.saved (save_begun t (next_map b sp m) true)) (sym open_now) refl;
     }
@@ -62,11 +69,13 @@ returns-in-Err-commit-clause-runs g c = λ m change stands.
     let some : any_pending all.pending ≡ true = some_pending mid all mid_stands c.in-Ok.ensures.opened (λ none. absurd (let failed : false ≡ true = (c.in-Err-commit.ensures.nothing c.in-Ok.ensures.opened none).0 in cc)) in
     record {
       maps = _;
-      runs = runs_open m.closed open_now _ _ (save_uncommitted change m b sp open_now some);
+      wear = _;
+      runs = runs_open m.closed open_now _ _ _ (save_uncommitted change m b sp open_now some);
       stands = c.in-Err-commit.ensures.fault all mid_stands (ap Err (device_fault c.in-Err-commit.field-0 (λ is. absurd (let no : false ≡ true = sym c.in-Ok.ensures.opened ∙ c.in-Err-commit.ensures.closed.0 (ap Err is) in cc))));
       kept = keeps_save g.D.SectorDevice m.closed old.device new.device m.saved (next_map b sp m) false open_now
           (saves_then g.D.SectorDevice old mid new b sp c.in-Ok.ensures.continues c.commit.ensures.continues c.in-Ok.ensures.ok c.in-Ok.ensures.stops c.commit.ensures.stops m stands open_now)
           (λ no. absurd (cc));
+      wears = committed_wears g.D.SectorDevice old.device mid new b all mid_stands c.in-Ok.ensures.opened c.in-Ok.ensures.begins c.commit.ensures.begins;
       shuts = λ _. refl;
       last = λ no. absurd (cc);
     }
@@ -116,3 +125,12 @@ returns-in-Err-commit-clause-saves g c =
           let first = c.spill_updated.ensures.nothing none in
           (c.commit.ensures.nothing c.in-Ok.ensures.opened (none_left old mid c.args.buffers.now none c.in-Ok.ensures.continues c.in-Ok.ensures.pending none_pending)).1 ∙ first.1;
     }
+
+pub returns-then-is_closed-clause-runs : goal.returns-then-is_closed-clause-runs
+returns-then-is_closed-clause-runs g c = λ m change stands.
+    let old = c.args.store.now in
+    let b = c.args.buffers.now in
+    let sp = c.args.space.now in
+    let closed_now : m.closed ≡ true = stands.closed ∙ sym c.is_closed.ensures ∙ c.if-is_closed.true in
+    subst (λ t. CallRuns g.D.SectorDevice (save_and change) (Err Closed) (save_begun t (next_map b sp m) false) m old old b b sp sp) (sym closed_now)
+    (still_runs g.D.SectorDevice (save_and change) (Err Closed) m old b b sp sp g.met.D.SectorDevice.only_now stands (λ rest f was sv. rw closed_now refl))

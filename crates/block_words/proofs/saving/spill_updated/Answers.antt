@@ -1,4 +1,5 @@
 use Rattle.std.proofs.Common.{◌≡◌, true, false, suc, sym, ◌∙◌, ap, subst, take, drop, arith, add-one, Err, rules}
+use Rattle.std.proofs.lemmas.List.{length-take}
 use Rattle.std.specs.Prelude.{slice_index_or, ◌==◌, ◌||◌}
 use Rattle.block_buffers.specs.declared.Assigned.{Assigned}
 use Rattle.block_buffers.specs.Buffers.{updated_ones}
@@ -33,6 +34,15 @@ returns-in-Err-clause-fault g c = λ m stands.
       split = sym same ∙ split_at xs i (slice_index_or xs i nothing) (item_at xs i nothing c.loop-updated-test.true);
       shut_so = c.in-Err.ensures.fault (all_spilled (take i xs) c.args.space.now m) (c.loop-updated.invariant.stands m stands)
           (ap Err (device_fault c.in-Err.field-0 (λ is. absurd (let no : false ≡ true = sym c.loop-updated.invariant.opened ∙ c.in-Err.ensures.closed.0 (ap Err is) in cc))));
+      begins = record {
+        few_writes =
+            let front = length-take i xs in
+            let so_far = c.loop-updated.invariant.begins.few_writes in
+            let now = c.spill.ensures.begins.few_writes in
+            let below = c.loop-updated-test.true in
+            omega (arith, front, so_far, now, below);
+        few_syncs = omega (arith, c.loop-updated.invariant.begins.few_syncs, c.spill.ensures.begins.few_syncs);
+      };
     }
 
 pub returns-in-Err-clause-stops : goal.returns-in-Err-clause-stops
