@@ -4,7 +4,7 @@ use Rattle.std.specs.Prelude.{min}
 use Rattle.std.proofs.Math.Nat.{min-eq_left}
 use Rattle.std.proofs.KnownBytes.{Consumes-nil, Appends-nil}
 use Rattle.sector_disk.specs.declared.device.SectorDevice.{Ghosts}
-use Rattle.block_words.specs.Words.{Answer, Save}
+use Rattle.block_words.specs.Words.{Wear, Answer, Save}
 use Rattle.block_words.specs.Parts.{store_of}
 use Rattle.block_words.specs.declared.Blocks.{Blocks}
 use Rattle.journal.specs.Store.{device_of}
@@ -115,13 +115,13 @@ abbrev pub turn_of : Result (Unit {0}) Fault → Result Turn Fault
 turn_of (Ok _) = Ok GoesOn
 turn_of (Err f) = Err f
 
-passes_comes : (n : ℕ) (start : Run → (Seen → Core → World → Outcome World) → Outcome World) (go : Seen → Core → World → Outcome World) (v : Seen) (answers : List Answer) (f : ℕ) (saves : List Save) (mid : Core) (w : World) (result : Result Turn Fault) (levels : List Level) (c : Core) (y : World)
-    → Hands start (asking answers f saves) (Ok v) mid w → PassesTo n (λ r. go v mid (with_run r w)) result levels c y
-    → TurnComes n (λ r. start r go) (asking answers f saves) (stopped result) levels c y
-passes_comes n start go v answers f saves mid w (Ok GoesOn) levels c y hands goes = λ r fits. hands r go ∙ goes (after (asking answers f saves) r)
-passes_comes n start go v answers f saves mid w (Ok Over) levels c y hands goes = λ r fits. hands r go ∙ goes (after (asking answers f saves) r)
-passes_comes n start go v answers f saves mid w (Err e) levels c y hands goes =
-    record { core = goes.0; like = goes.1; ends = λ r fits. hands r go ∙ goes.2 (after (asking answers f saves) r) }
+passes_comes : (n : ℕ) (start : Run → (Seen → Core → World → Outcome World) → Outcome World) (go : Seen → Core → World → Outcome World) (v : Seen) (answers : List Answer) (f : ℕ) (wear : Wear) (saves : List Save) (mid : Core) (w : World) (result : Result Turn Fault) (levels : List Level) (c : Core) (y : World)
+    → Hands start (asking answers f wear saves) (Ok v) mid w → PassesTo n (λ r. go v mid (with_run r w)) result levels c y
+    → TurnComes n (λ r. start r go) (asking answers f wear saves) (stopped result) levels c y
+passes_comes n start go v answers f wear saves mid w (Ok GoesOn) levels c y hands goes = λ r fits. hands r go ∙ goes (after (asking answers f wear saves) r)
+passes_comes n start go v answers f wear saves mid w (Ok Over) levels c y hands goes = λ r fits. hands r go ∙ goes (after (asking answers f wear saves) r)
+passes_comes n start go v answers f wear saves mid w (Err e) levels c y hands goes =
+    record { core = goes.0; like = goes.1; ends = λ r fits. hands r go ∙ goes.2 (after (asking answers f wear saves) r) }
 
 advanced_comes_as : (n : ℕ) (start start' : Run → Outcome World) (deed : Deed) (result : Result Turn Fault) (levels : List Level) (c : Core) (x : World) → ((r : Run) → start' r ≡ start r)
     → TurnComes n start deed (stopped result) levels c x → TurnComes n start' deed (stopped result) levels c x
@@ -176,17 +176,18 @@ module _ {D : Type 0} {G : Ghosts D} where
   handed_passed n {start} go {v} result old mid new {levels} {x} h blocks at_end p = record {
     answers = h.answers;
     failures = h.failures;
+    wear = h.wear;
     saves = h.saves;
     levels = p.levels;
     world = p.world;
     stands = p.stands;
     steps = omega (arith, h.steps, p.steps);
     at_end = at_end ∙ h.at_end;
-    comes = λ model. passes_comes n start go v h.answers h.failures h.saves (core mid) h.world result p.levels (core new) p.world (h.hands model) p.goes;
+    comes = λ model. passes_comes n start go v h.answers h.failures h.wear h.saves (core mid) h.world result p.levels (core new) p.world (h.hands model) p.goes;
     cause = subst (λ (b : Blocks D G). HasRisenBy h.failures (G.failures (device old)) (G.failures (device_of (store_of b)))) (sym blocks) h.cause;
     keeps = λ model.
-        subst (λ (b : Blocks D G). MapsKept G x.maps p.world.maps (device old) (device_of (store_of b)) h.saves) (sym blocks)
-        (subst (λ m. MapsKept G x.maps m (device old) (device mid) h.saves) (sym p.maps) (h.keeps model));
+        subst (λ (b : Blocks D G). MapsKept G x.maps p.world.maps (device old) (device_of (store_of b)) h.saves h.wear) (sym blocks)
+        (subst (λ m. MapsKept G x.maps m (device old) (device mid) h.saves h.wear) (sym p.maps) (h.keeps model));
   }
 
   -- none can be looked at
@@ -195,6 +196,7 @@ module _ {D : Type 0} {G : Ghosts D} where
   handed_stopped n {start} go {f} {old} {new} {levels} {x} h = record {
     answers = h.answers;
     failures = h.failures;
+    wear = h.wear;
     saves = h.saves;
     levels = levels;
     world = h.world;
@@ -210,26 +212,27 @@ module _ {D : Type 0} {G : Ghosts D} where
   advanced_as n {start} start' result {old} {new} {x} same h = record {
     answers = h.answers;
     failures = h.failures;
+    wear = h.wear;
     saves = h.saves;
     levels = h.levels;
     world = h.world;
     stands = h.stands;
     steps = h.steps;
     at_end = h.at_end;
-    comes = λ model. advanced_comes_as n start start' (asking h.answers h.failures h.saves) result h.levels (core new) h.world same (h.comes model);
+    comes = λ model. advanced_comes_as n start start' (asking h.answers h.failures h.wear h.saves) result h.levels (core new) h.world same (h.comes model);
     cause = h.cause;
     keeps = h.keeps;
   }
 
 -- beside a terminal that it doesn't reach
-advanced_printed : (result : Result Turn Fault) (o : Option (List ℕ)) → Printed (seen (stopped result)) o o []
+advanced_printed : (result : Result Turn Fault) (o : Option (List ℕ)) → Printed (seen (stopped result)) o o [] []
 advanced_printed (Ok v) o = Appends-nil o
 advanced_printed (Err f) o = Appends-nil o
 
 module _ {D T : Type 0} {G : Ghosts D} (H : TerminalGhosts T) where
   pub advanced_turn : (n : ℕ) {start : Run → Outcome World} (result : Result Turn Fault) {old new : Forth D G} {x : World} (t : T) → Advanced n start result old new x → Turned H n start (stopped result) old new t t x
   advanced_turn n {start} result {old} {new} {x} t h = record {
-    deed = asking h.answers h.failures h.saves;
+    deed = asking h.answers h.failures h.wear h.saves;
     levels = h.levels;
     world = h.world;
     stands = h.stands;

@@ -9,7 +9,7 @@ use Rattle.block_words.specs.declared.BlockFault.{BlockFault}
 use Rattle.block_words.specs.declared.BlockFault.TheVariants.{NoBlock, NoBuffer, Device, Closed, Memory}
 use Rattle.block_words.specs.declared.Blocks.{Blocks}
 use Rattle.block_words.specs.Words as words
-use Rattle.block_words.specs.Words.{Answer, Save, BlockOutcome}
+use Rattle.block_words.specs.Words.{Wear, no_wear, add_wear, Answer, Save, BlockOutcome}
 use Rattle.block_words.specs.Parts.{store_of, buffers_of}
 use Rattle.block_words.specs.Uses.{with_bytes_left}
 use Rattle.block_words.specs.Promises.{TellsFailures}
@@ -82,30 +82,32 @@ with_blocks maps buffers x = record x { maps = maps; buffers = buffers }
 -- A call of a block word.
 pub record Called {A : Type 0} {D : Type 0} (G : Ghosts D) (word : words.Blocks → BlockOutcome A) (result : Result A BlockFault) (old new : Blocks D G) (space space' : List ℕ) (x : World) : Type 0 where
   pub answers : List Answer
+  pub wear : Wear
   pub saves : List Save
   pub maps : Maps
   pub holds : IsTrue (G.keeps_model (device_of (store_of new))) → StandsFor (store_of new) maps
   pub runs : IsTrue (G.keeps_model (device_of (store_of old))) → (r : Run)
-      → word (state x.maps x.buffers space (answers ++ r.answers) r.failures r.saves)
-      ≡ ended result (state maps (buffers_of new) space' r.answers (r.failures + failed result) (r.saves ++ saves))
+      → word (state x.maps x.buffers space (answers ++ r.answers) r.failures r.wear r.saves)
+      ≡ ended result (state maps (buffers_of new) space' r.answers (r.failures + failed result) (add_wear r.wear wear) (r.saves ++ saves))
   pub cause : HasRisenBy (failed result) (G.failures (device_of (store_of old))) (G.failures (device_of (store_of new)))
-  pub keeps : IsTrue (G.keeps_model (device_of (store_of old))) → MapsKept G x.maps maps (device_of (store_of old)) (device_of (store_of new)) saves
+  pub keeps : IsTrue (G.keeps_model (device_of (store_of old))) → MapsKept G x.maps maps (device_of (store_of old)) (device_of (store_of new)) saves wear
 
-blocks_ended : {A : Type 0} (result : Result A BlockFault) (maps : Maps) (buffers : Buffers) (space : List ℕ) (answers : List Answer) (failures : ℕ) (saves : List Save) (c : Core) (x : World) (go : A → Core → World → Outcome World)
-    → blocks_done (ended result (state maps buffers space answers failures saves)) c x go
-    ≡ done_of result (record c { space = space }) (record x { maps = maps; buffers = buffers; run = record x.run { answers = answers; failures = failures; saves = saves } }) go
-blocks_ended (Ok v) maps buffers space answers failures saves c x go = refl
-blocks_ended (Err f) maps buffers space answers failures saves c x go = refl
+blocks_ended : {A : Type 0} (result : Result A BlockFault) (maps : Maps) (buffers : Buffers) (space : List ℕ) (answers : List Answer) (failures : ℕ) (wear : Wear) (saves : List Save) (c : Core) (x : World) (go : A → Core → World → Outcome World)
+    → blocks_done (ended result (state maps buffers space answers failures wear saves)) c x go
+    ≡ done_of result (record c { space = space }) (record x { maps = maps; buffers = buffers; run = record x.run { answers = answers; failures = failures; wear = wear; saves = saves } }) go
+blocks_ended (Ok v) maps buffers space answers failures wear saves c x go = refl
+blocks_ended (Err f) maps buffers space answers failures wear saves c x go = refl
 
-same_run : (answers : List Answer) (failures : ℕ) (saves : List Save) (r : Run)
-    → record (before (asking answers failures saves) r) { answers = r.answers; failures = r.failures + failures; saves = r.saves ++ saves } ≡ after (asking answers failures saves) r
-same_run answers failures saves r =
-    ap (λ t. record r { failures = r.failures + failures; saves = r.saves ++ saves; terminal = t }) (longer-nothing r.terminal)
-    ∙ ap (λ l. record r { failures = r.failures + failures; saves = r.saves ++ saves; output = l }) (sym (append-nil r.output))
+same_run : (answers : List Answer) (failures : ℕ) (wear : Wear) (saves : List Save) (r : Run)
+    → record (before (asking answers failures wear saves) r) { answers = r.answers; failures = r.failures + failures; wear = add_wear r.wear wear; saves = r.saves ++ saves }
+    ≡ after (asking answers failures wear saves) r
+same_run answers failures wear saves r =
+    ap (λ t. record r { failures = r.failures + failures; wear = add_wear r.wear wear; saves = r.saves ++ saves; terminal = t }) (longer-nothing r.terminal)
+    ∙ ap (λ l. record r { failures = r.failures + failures; wear = add_wear r.wear wear; saves = r.saves ++ saves; output = l }) (sym (append-nil r.output))
 
 module _ {A : Type 0} {D : Type 0} {G : Ghosts D} {word : words.Blocks → BlockOutcome A} {result : Result A BlockFault} {old new : Blocks D G} {space space' : List ℕ} {x : World} (h : Called G word result old new space space' x) where
   abbrev pub deed : Deed
-  deed = asking h.answers (failed result) h.saves
+  deed = asking h.answers (failed result) h.wear h.saves
 
   abbrev pub world : World
   world = with_blocks h.maps (buffers_of new) x
@@ -116,8 +118,8 @@ module _ {A : Type 0} {D : Type 0} {G : Ghosts D} {word : words.Blocks → Block
       ≡ done_of result (record c { space = space' }) (with_run (after deed r) world) go
   comes_of model r c go =
       ap (λ o. blocks_done o c (with_run (before deed r) x) go) (h.runs model r)
-      ∙ blocks_ended result h.maps (buffers_of new) space' r.answers (r.failures + failed result) (r.saves ++ h.saves) c (with_run (before deed r) x) go
-      ∙ ap (λ r. done_of result (record c { space = space' }) (with_run r world) go) (same_run h.answers (failed result) h.saves r)
+      ∙ blocks_ended result h.maps (buffers_of new) space' r.answers (r.failures + failed result) (add_wear r.wear h.wear) (r.saves ++ h.saves) c (with_run (before deed r) x) go
+      ∙ ap (λ r. done_of result (record c { space = space' }) (with_run r world) go) (same_run h.answers (failed result) h.wear h.saves r)
 
   pub rests_on : {lexicon : Lexicon} {picture : Picture} → RestsIn lexicon picture old x → RestsIn lexicon picture new world
   rests_on {lexicon} {picture} s =
@@ -140,20 +142,22 @@ module _ {A : Type 0} {D : Type 0} (G : Ghosts D) (word : words.Blocks → Block
           let run = runs x.maps (s.maps is) in
           record {
             answers = run.runs.answers;
+            wear = run.wear;
             saves = made x.maps;
             maps = run.maps;
             holds = λ m. run.stands;
             runs = λ model r.
-                ap (λ b. word (state x.maps b space (run.runs.answers ++ r.answers) r.failures r.saves)) s.buffers
-                ∙ run.runs.same r.answers r.failures r.saves
-                ∙ ap (λ n. ended result (state run.maps (buffers_of new) space' r.answers n (r.saves ++ made x.maps))) (failed_after result r.failures);
+                ap (λ b. word (state x.maps b space (run.runs.answers ++ r.answers) r.failures r.wear r.saves)) s.buffers
+                ∙ run.runs.same r.answers r.failures r.wear r.saves
+                ∙ ap (λ n. ended result (state run.maps (buffers_of new) space' r.answers n (add_wear r.wear run.wear) (r.saves ++ made x.maps))) (failed_after result r.failures);
             cause = failed_cause result _ _ cause;
-            keeps = λ model. record { kept = run.kept; shuts = run.shuts; none = shut x.maps; last = run.last };
+            keeps = λ model. record { kept = run.kept; shuts = run.shuts; none = shut x.maps; last = run.last; wears = run.wears };
           }
       pick false is =
           let never : IsTrue (G.keeps_model (device_of (store_of old))) → ⊥ = λ h. let no : true ≡ false = sym h ∙ is in cc in
           record {
             answers = [];
+            wear = no_wear;
             saves = [];
             maps = x.maps;
             holds = λ m. absurd (never (sym same ∙ m));
@@ -171,6 +175,7 @@ pub handed_quiet : {D : Type 0} (G : Ghosts D) → OnlyNow G → {B : Type 0} {s
 handed_quiet {D} G only_now {B} {start} {v} old new {levels} {x} was stands blocks at_end less same = record {
   answers = [];
   failures = 0;
+  wear = no_wear;
   saves = [];
   world = x;
   stands = stands;
@@ -178,7 +183,7 @@ handed_quiet {D} G only_now {B} {start} {v} old new {levels} {x} was stands bloc
   at_end = at_end;
   hands = λ model r go. ap (λ r. start r go) (before-nothing r) ∙ same r go ∙ ap (λ r. go v (core new) (with_run r x)) (sym (after-nothing r));
   cause = ap (λ (b : Blocks D G). G.failures (device_of (store_of b))) blocks;
-  keeps = λ model. subst (λ (b : Blocks D G). MapsKept G x.maps x.maps (device old) (device_of (store_of b)) []) (sym blocks) (maps_same G only_now (store_of old.blocks) x.maps (was.rests.maps model));
+  keeps = λ model. subst (λ (b : Blocks D G). MapsKept G x.maps x.maps (device old) (device_of (store_of b)) [] no_wear) (sym blocks) (maps_same G only_now (store_of old.blocks) x.maps (was.rests.maps model));
 }
 
 -- ---- services that consult the device
@@ -195,6 +200,7 @@ module _ {A : Type 0} {D : Type 0} {G : Ghosts D} {word : words.Blocks → Block
   consulted_well {start} go v h reaches stands less at_end leaves = record {
     answers = h.answers;
     failures = 0;
+    wear = h.wear;
     saves = h.saves;
     world = world h;
     stands = stands;
@@ -213,6 +219,7 @@ module _ {A : Type 0} {D : Type 0} {G : Ghosts D} {word : words.Blocks → Block
   consulted_failed {start} go f found h reaches rests less at_end same is = record {
     answers = h.answers;
     failures = failed {A = A} (Err f);
+    wear = h.wear;
     saves = h.saves;
     world = world h;
     stands = rests;
@@ -235,6 +242,7 @@ pub consulted_quiet : {D : Type 0} (G : Ghosts D) → OnlyNow G → {start : Run
 consulted_quiet {D} G only_now {start} {result} old new {levels} {x} stands blocks at_end h = record {
   answers = [];
   failures = 0;
+  wear = no_wear;
   saves = [];
   world = h.world;
   stands = h.stands;
@@ -243,8 +251,8 @@ consulted_quiet {D} G only_now {start} {result} old new {levels} {x} stands bloc
   comes = λ model. comes_quiet start result (core new) h.world h.gives;
   cause = ap (λ (b : Blocks D G). G.failures (device_of (store_of b))) blocks;
   keeps = λ model.
-      subst (λ (b : Blocks D G). MapsKept G x.maps h.world.maps (device old) (device_of (store_of b)) []) (sym blocks)
-      (subst (λ m. MapsKept G x.maps m (device old) (device old) []) (sym h.maps) (maps_same G only_now (store_of old.blocks) x.maps (stands.rests.maps model)));
+      subst (λ (b : Blocks D G). MapsKept G x.maps h.world.maps (device old) (device_of (store_of b)) [] no_wear) (sym blocks)
+      (subst (λ m. MapsKept G x.maps m (device old) (device old) [] no_wear) (sym h.maps) (maps_same G only_now (store_of old.blocks) x.maps (stands.rests.maps model)));
 }
 
 -- ---- what consults the device, as a part of a line
@@ -265,6 +273,7 @@ module _ {D : Type 0} {G : Ghosts D} {B : Type 0} {start : Run → (B → Core �
   handed_fault {C} {f} {start'} {old} {new} {levels} {x} k same h = record {
     answers = h.answers;
     failures = h.failures;
+    wear = h.wear;
     saves = h.saves;
     world = h.world;
     stands = h.stands;
@@ -272,7 +281,7 @@ module _ {D : Type 0} {G : Ghosts D} {B : Type 0} {start : Run → (B → Core �
     at_end = h.at_end;
     hands = λ model.
         let q = h.hands model in
-        (q.0, q.1, λ r go. same (before (asking h.answers h.failures h.saves) r) go ∙ q.2 r (k go));
+        (q.0, q.1, λ r go. same (before (asking h.answers h.failures h.wear h.saves) r) go ∙ q.2 r (k go));
     cause = h.cause;
     keeps = h.keeps;
   }
@@ -286,13 +295,14 @@ module _ {D : Type 0} {G : Ghosts D} {B : Type 0} {start : Run → (B → Core �
   handed_value {C} {v} {w} {start'} {old} {new} {levels} {x} k same h gives = record {
     answers = h.answers;
     failures = h.failures;
+    wear = h.wear;
     saves = h.saves;
     world = h.world;
     stands = h.stands;
     steps = h.steps;
     at_end = h.at_end;
     hands = λ model r go.
-        same (before (asking h.answers h.failures h.saves) r) go ∙ h.hands model r (k go) ∙ gives (after (asking h.answers h.failures h.saves) r) go;
+        same (before (asking h.answers h.failures h.wear h.saves) r) go ∙ h.hands model r (k go) ∙ gives (after (asking h.answers h.failures h.wear h.saves) r) go;
     cause = h.cause;
     keeps = h.keeps;
   }
@@ -306,6 +316,7 @@ module _ {D : Type 0} {G : Ghosts D} {B : Type 0} {start : Run → (B → Core �
   handed_refused {C} {v} {f} {start'} {old} {new} {levels} {x} k same h refuses = record {
     answers = h.answers;
     failures = h.failures;
+    wear = h.wear;
     saves = h.saves;
     world = h.world;
     stands = h.stands.rests;
@@ -314,7 +325,7 @@ module _ {D : Type 0} {G : Ghosts D} {B : Type 0} {start : Run → (B → Core �
     hands = λ model. (
       core new,
       refl,
-      λ r go. same (before (asking h.answers h.failures h.saves) r) go ∙ h.hands model r (k go) ∙ refuses (after (asking h.answers h.failures h.saves) r) go,
+      λ r go. same (before (asking h.answers h.failures h.wear h.saves) r) go ∙ h.hands model r (k go) ∙ refuses (after (asking h.answers h.failures h.wear h.saves) r) go,
     );
     cause = h.cause;
     keeps = h.keeps;
@@ -328,6 +339,7 @@ pub handed_none : {D : Type 0} (G : Ghosts D) → OnlyNow G → {B : Type 0} {st
 handed_none {D} G only_now {B} {start} {f} old {levels} {x} stands same = record {
   answers = [];
   failures = 0;
+  wear = no_wear;
   saves = [];
   world = x;
   stands = stands.rests;

@@ -4,7 +4,7 @@ use Rattle.sector_disk.specs.Disk.{Image, MayLeave}
 use Rattle.sector_disk.specs.declared.device.SectorDevice.{Ghosts}
 use Rattle.journal.specs.Store.{device_of}
 use Rattle.block_words.specs.declared.Blocks.{Blocks}
-use Rattle.block_words.specs.Words.{Answer, Save}
+use Rattle.block_words.specs.Words.{Wear, no_wear, Answer, Save}
 use Rattle.block_words.specs.Parts.{store_of}
 use Rattle.cell_machine.specs.Fault.{Faults}
 use Rattle.cell_machine.specs.Frames.{Core, Level}
@@ -28,11 +28,11 @@ use Rattle.interpreter.proofs.Deeds.{before-nothing, after-nothing}
 
 -- ---- what follows a value that was handed on
 
-comes_handed : {B : Type 0} (start : Run → (B → Core → World → Outcome World) → Outcome World) (go : B → Core → World → Outcome World) (v : B) (answers : List Answer) (n : ℕ) (saves : List Save) (mid later : Core) (w y : World) (result : Result (Unit {0}) Fault)
-    → Hands start (asking answers n saves) (Ok v) mid w → Altering (λ r. go v mid (with_run r w)) result later y → Comes (λ r. start r go) (asking answers n saves) (stopped result) later y
-comes_handed start go v answers n saves mid later w y (Ok _) hands gives = λ r fits. hands r go ∙ gives (after (asking answers n saves) r)
-comes_handed start go v answers n saves mid later w y (Err f) hands gives =
-    record { core = gives.0; like = gives.1; ends = λ r fits. hands r go ∙ gives.2 (after (asking answers n saves) r) }
+comes_handed : {B : Type 0} (start : Run → (B → Core → World → Outcome World) → Outcome World) (go : B → Core → World → Outcome World) (v : B) (answers : List Answer) (n : ℕ) (wear : Wear) (saves : List Save) (mid later : Core) (w y : World) (result : Result (Unit {0}) Fault)
+    → Hands start (asking answers n wear saves) (Ok v) mid w → Altering (λ r. go v mid (with_run r w)) result later y → Comes (λ r. start r go) (asking answers n wear saves) (stopped result) later y
+comes_handed start go v answers n wear saves mid later w y (Ok _) hands gives = λ r fits. hands r go ∙ gives (after (asking answers n wear saves) r)
+comes_handed start go v answers n wear saves mid later w y (Err f) hands gives =
+    record { core = gives.0; like = gives.1; ends = λ r fits. hands r go ∙ gives.2 (after (asking answers n wear saves) r) }
 
 -- a result that is Ok
 pub ok_of : {A E : Type 0} {P : Type 0} (r : Result A E) → IsOk r → OnOk r P → P
@@ -50,16 +50,17 @@ module _ {D : Type 0} {G : Ghosts D} where
   handed_altered {B} {start} go {v} {result} {old} {mid} {new} {levels} {x} h blocks at_end a = record {
     answers = h.answers;
     failures = h.failures;
+    wear = h.wear;
     saves = h.saves;
     world = a.world;
     stands = a.stands;
     steps = omega (arith, h.steps, a.steps);
     at_end = at_end ∙ h.at_end;
-    comes = λ model. comes_handed start go v h.answers h.failures h.saves (core mid) (core new) h.world a.world result (h.hands model) a.gives;
+    comes = λ model. comes_handed start go v h.answers h.failures h.wear h.saves (core mid) (core new) h.world a.world result (h.hands model) a.gives;
     cause = subst (λ (b : Blocks D G). HasRisenBy h.failures (G.failures (device old)) (G.failures (device_of (store_of b)))) (sym blocks) h.cause;
     keeps = λ model.
-        subst (λ (b : Blocks D G). MapsKept G x.maps a.world.maps (device old) (device_of (store_of b)) h.saves) (sym blocks)
-        (subst (λ m. MapsKept G x.maps m (device old) (device mid) h.saves) (sym a.maps) (h.keeps model));
+        subst (λ (b : Blocks D G). MapsKept G x.maps a.world.maps (device old) (device_of (store_of b)) h.saves h.wear) (sym blocks)
+        (subst (λ m. MapsKept G x.maps m (device old) (device mid) h.saves h.wear) (sym a.maps) (h.keeps model));
   }
 
   -- no value is handed on
@@ -68,6 +69,7 @@ module _ {D : Type 0} {G : Ghosts D} where
   handed_failed {B} {start} go {f} {old} {new} {levels} {x} h = record {
     answers = h.answers;
     failures = h.failures;
+    wear = h.wear;
     saves = h.saves;
     world = h.world;
     stands = h.stands;
@@ -84,18 +86,19 @@ module _ {D : Type 0} {G : Ghosts D} where
   consulted_as {start} start' {result} {mid} {new} old {levels} {x} same less blocks at_end h = record {
     answers = h.answers;
     failures = h.failures;
+    wear = h.wear;
     saves = h.saves;
     world = h.world;
     stands = h.stands;
     steps = omega (arith, h.steps, less);
     at_end = h.at_end ∙ at_end;
-    comes = λ model. comes_as start start' (asking h.answers h.failures h.saves) (stopped result) (core new) h.world same (h.comes (same_model old.blocks mid.blocks blocks model));
+    comes = λ model. comes_as start start' (asking h.answers h.failures h.wear h.saves) (stopped result) (core new) h.world same (h.comes (same_model old.blocks mid.blocks blocks model));
     cause = subst (λ (b : Blocks D G). HasRisenBy h.failures (G.failures (device_of (store_of b))) (G.failures (device new))) blocks h.cause;
-    keeps = λ model. subst (λ (b : Blocks D G). MapsKept G x.maps h.world.maps (device_of (store_of b)) (device new) h.saves) blocks (h.keeps (same_model old.blocks mid.blocks blocks model));
+    keeps = λ model. subst (λ (b : Blocks D G). MapsKept G x.maps h.world.maps (device_of (store_of b)) (device new) h.saves h.wear) blocks (h.keeps (same_model old.blocks mid.blocks blocks model));
   }
 
 -- a part that may reach the device, beside a terminal that it doesn't reach
-quiet_printed : (result : Result (Unit {0}) Fault) (o : Option (List ℕ)) → Printed (stopped result) o o []
+quiet_printed : (result : Result (Unit {0}) Fault) (o : Option (List ℕ)) → Printed (stopped result) o o [] []
 quiet_printed (Ok v) o = Appends-nil o
 quiet_printed (Err f) o = Appends-nil o
 
@@ -106,7 +109,7 @@ quiet_stands (Err f) forth levels x s = s
 module _ {D T : Type 0} {G : Ghosts D} (H : TerminalGhosts T) where
   pub consulted_ran : {start : Run → Outcome World} {result : Result (Unit {0}) Fault} {old new : Forth D G} {levels : List Level} {x : World} (t : T) → Consulted start result old new levels x → Ran H start (stopped result) old new t t levels x
   consulted_ran {start} {result} {old} {new} {levels} {x} t h = record {
-    deed = asking h.answers h.failures h.saves;
+    deed = asking h.answers h.failures h.wear h.saves;
     world = h.world;
     stands = quiet_stands result new levels h.world h.stands;
     steps = h.steps;
@@ -118,7 +121,7 @@ module _ {D T : Type 0} {G : Ghosts D} (H : TerminalGhosts T) where
 
 -- a part that reaches neither, as one that may reach the device
 module _ {D : Type 0} (G : Ghosts D) where
-  gives_comes : (start : Run → Outcome World) (result : Result (Unit {0}) Fault) (c : Core) (x : World) → Altering start result c x → Comes start (asking [] 0 []) (stopped result) c x
+  gives_comes : (start : Run → Outcome World) (result : Result (Unit {0}) Fault) (c : Core) (x : World) → Altering start result c x → Comes start (asking [] 0 no_wear []) (stopped result) c x
   gives_comes start (Ok v) c x g = λ r fits. ap start (before-nothing r) ∙ g r ∙ ap (λ r. Did c (with_run r x)) (sym (after-nothing r))
   gives_comes start (Err f) c x g = record { core = g.0; like = g.1; ends = λ r fits. ap start (before-nothing r) ∙ g.2 r ∙ ap (λ r. Ends (Faults (fault_of f)) g.0 (with_run r x)) (sym (after-nothing r)) }
 
@@ -127,6 +130,7 @@ module _ {D : Type 0} (G : Ghosts D) where
   altered_consulted only_now {start} {result} old new {levels} {x} stands blocks at_end h = record {
     answers = [];
     failures = 0;
+    wear = no_wear;
     saves = [];
     world = h.world;
     stands = h.stands;
@@ -135,8 +139,8 @@ module _ {D : Type 0} (G : Ghosts D) where
     comes = λ model. gives_comes start result (core new) h.world h.gives;
     cause = ap (λ (b : Blocks D G). G.failures (device_of (store_of b))) blocks;
     keeps = λ model.
-        subst (λ (b : Blocks D G). MapsKept G x.maps h.world.maps (device old) (device_of (store_of b)) []) (sym blocks)
-        (subst (λ m. MapsKept G x.maps m (device old) (device old) []) (sym h.maps) (maps_same G only_now (store_of old.blocks) x.maps (stands.rests.maps model)));
+        subst (λ (b : Blocks D G). MapsKept G x.maps h.world.maps (device old) (device_of (store_of b)) [] no_wear) (sym blocks)
+        (subst (λ m. MapsKept G x.maps m (device old) (device old) [] no_wear) (sym h.maps) (maps_same G only_now (store_of old.blocks) x.maps (stands.rests.maps model)));
   }
 
 -- a value, and then a part that may reach the terminal
@@ -146,7 +150,7 @@ module _ {D T : Type 0} (G : Ghosts D) (H : TerminalGhosts T) (counts_now : (d :
       → LastsAlone G (device old) (device mid) → Lasts G H result (device mid) (device new) t u
       → (h : Handed start (Ok v) old mid levels x) → Ran H (λ r. go v (core mid) (with_run r h.world)) result mid new t u levels h.world → Ran H (λ r. start r go) result old new t u levels x
   handed_ran {B} {start} go {v} {result} old mid new {t} {u} {levels} {x} on on_then h k =
-      let d : Deed = asking h.answers h.failures h.saves in
+      let d : Deed = asking h.answers h.failures h.wear h.saves in
       let heard : Heard H (Ok tt) d old.at_end mid.at_end t t =
       record { given = Consumes-nil (H.input t); at_end = λ was no. absurd (let e : false ≡ true = no in cc); met = h.at_end; no_more = λ q. (refl, refl); printed = Appends-nil (H.output t) } in
       record {
@@ -160,6 +164,6 @@ module _ {D T : Type 0} (G : Ghosts D) (H : TerminalGhosts T) (counts_now : (d :
         heard = heard_then H heard k.heard;
         cause = risen_then h.failures k.deed.failures (G.failures (device old)) (G.failures (device mid)) (G.failures (device new)) h.cause k.cause;
         keeps = λ model.
-            maps_then G counts_now widens only_now x.maps h.world.maps k.world.maps (device old) (device mid) (device new) h.saves k.deed.saves on.time on_then.time
+            maps_then G counts_now widens only_now x.maps h.world.maps k.world.maps (device old) (device mid) (device new) h.saves k.deed.saves h.wear k.deed.wear on.time on_then.time
             (h.keeps model) (k.keeps (subst IsTrue (sym on.model) model));
       }

@@ -32,6 +32,7 @@ use Rattle.interpreter.specs.Serving.{Altered, Heard, Printed, MapsKept, stopped
 use Rattle.interpreter.proofs.Deeds.{before-nothing, after-nothing}
 use Rattle.interpreter.proofs.Running.{OnlyNow, maps_same, heard_nothing}
 use Rattle.interpreter.specs.Turns.{turn_of, GoesTo, Entered, TurnComes, Turned, seen, StandsAfterTurn}
+use Rattle.block_words.specs.Words.{no_wear}
 
 -- a word by itself is never refused
 never_refused : (e : MachineFault) (w : ℕ) (entries : List Entry) (stack : List ℕ) → Refused e (work.Primitive w) entries stack → ⊥
@@ -81,7 +82,7 @@ entered_stands : {D : Type 0} {G : Ghosts D} (result : Result (Unit {0}) Fault) 
 entered_stands (Ok v) forth levels x s = s
 entered_stands (Err f) forth levels x s = s
 
-entered_printed : (result : Result (Unit {0}) Fault) (o : Option (List ℕ)) → Printed (seen (turn_of (stopped result))) o o []
+entered_printed : (result : Result (Unit {0}) Fault) (o : Option (List ℕ)) → Printed (seen (turn_of (stopped result))) o o [] []
 entered_printed (Ok v) o = Appends-nil o
 entered_printed (Err f) o = Appends-nil o
 
@@ -98,6 +99,6 @@ module _ {D T : Type 0} (G : Ghosts D) (H : TerminalGhosts T) where
     heard = subst (λ f. Heard H (seen (turn_of (stopped result))) nothing old.at_end f t t) (sym at_end) (heard_nothing H (seen (turn_of (stopped result))) old.at_end t (entered_printed result (H.output t)));
     cause = ap (λ (b : Blocks D G). G.failures (device_of (store_of b))) blocks;
     keeps = λ model.
-        subst (λ (b : Blocks D G). MapsKept G x.maps h.world.maps (device old) (device_of (store_of b)) []) (sym blocks)
-        (subst (λ m. MapsKept G x.maps m (device old) (device old) []) (sym h.maps) (maps_same G only_now (store_of old.blocks) x.maps (stands.rests.maps model)));
+        subst (λ (b : Blocks D G). MapsKept G x.maps h.world.maps (device old) (device_of (store_of b)) [] no_wear) (sym blocks)
+        (subst (λ m. MapsKept G x.maps m (device old) (device old) [] no_wear) (sym h.maps) (maps_same G only_now (store_of old.blocks) x.maps (stands.rests.maps model)));
   }

@@ -24,13 +24,15 @@ use Rattle.cell_machine.specs.Frames.{Core, branch}
 use Rattle.cell_machine.specs.Value.{Outcome, Did, Ends}
 use Rattle.interpreter.specs.State.{World, Run, with_run, with_input, with_terminal, needing, set_cell, span_cell}
 use Rattle.interpreter.specs.Terminals.{stored, unread, meets_end, asked, store_input, expect_done, expect_of, terminal_call, key_of}
-use Rattle.interpreter.specs.Deeds.{longer, before, after, Fits}
-use Rattle.interpreter.specs.Law.{run_after, Grows}
+use Rattle.interpreter.specs.Deeds.{Deed, longer, before, after, mended, Fits}
+use Rattle.interpreter.specs.Law.{run_after, Grows, IsWithin}
 use Rattle.interpreter.specs.Serving.{Broke, Heard}
 use Rattle.interpreter.specs.Reading.{Reading, reads, Filling, Stepped}
 use Rattle.sector_disk.specs.declared.device.SectorDevice.{Ghosts}
 use Rattle.interpreter.specs.declared.terminal.Terminal.{Ghosts as TerminalGhosts}
 use Rattle.interpreter.specs.declared.forth.Forth.{Forth}
+use Rattle.block_words.proofs.Worn.{none_more}
+use Rattle.interpreter.proofs.Wearing.{within_none}
 
 -- ---- parts of a reading
 
@@ -114,9 +116,26 @@ asked_some (suc left) (b ∷ rest) some = asked_if (b == 10) (b == 13) (asked (s
 after-reads : (given : List ℕ) (met : Bool) (calls : ℕ) (r : Run) → record r { at_end = met || r.at_end } ≡ after (reads given met calls) r
 after-reads given met calls r =
     let e : r.failures ≡ r.failures + 0 = omega arith in
-    ap (λ n. record r { failures = n; at_end = met || r.at_end }) e
-    ∙ ap (λ l. record r { failures = r.failures + 0; at_end = met || r.at_end; saves = l }) (sym (append-nil r.saves))
-    ∙ ap (λ l. record r { failures = r.failures + 0; at_end = met || r.at_end; saves = r.saves ++ []; output = l }) (sym (append-nil r.output))
+    λ t. record r {
+      failures = e t;
+      wear = sym (none_more r.wear) t;
+      at_end = met || r.at_end;
+      saves = sym (append-nil r.saves) t;
+      output = sym (append-nil r.output) t;
+    }
+
+-- nothing is printed and saved, and nothing wears
+record IsSilent (p q : Run) : Type 0 where
+  output : q.output ≡ p.output
+  saves : q.saves ≡ p.saves
+  wear : q.wear ≡ p.wear
+
+silent_grows : (given : List ℕ) (met : Bool) (calls : ℕ) (r q : Run) → IsSilent r q → Grows (after (mended (reads given met calls)) r) q
+silent_grows given met calls r q h = record {
+  output = ([], h.output ∙ sym (append-nil r.output) ∙ sym (append-nil (r.output ++ [])));
+  saves = ([], h.saves ∙ sym (append-nil r.saves) ∙ sym (append-nil (r.saves ++ [])));
+  wear = subst (λ w. IsWithin (after (mended (reads given met calls)) r).wear w) (sym h.wear) (within_none r.wear);
+}
 
 module _ (a u : ℕ) where
   -- a terminal that fails only later
@@ -176,6 +195,15 @@ module _ (a u : ℕ) where
   after_expect c x =
       expect_ends (u == 0 || nat_lt 0 (length x.run.input)) c (λ c. set_cell span_cell (length (stored u x.run.input)) (store_input a (stored u x.run.input) c)) (with_input (unread u x.run.input) (meets_end u x.run.input || x.run.at_end) x)
 
+  -- a reading prints nothing
+  expect_silent : (t : Option ℕ) (c : Core) (x : World) → IsSilent x.run (run_after (expect_of t a u c x))
+  expect_silent None c x = subst (λ q. IsSilent x.run q) (sym (after_expect c x)) (record { output = refl; saves = refl; wear = refl })
+  expect_silent (Some k) c x = by_case (nat_lt k (asked u x.run.input))
+    where
+      by_case : (b : Bool) → IsSilent x.run (run_after (branch b c (λ c. Ends Breaks (store_input a (stored u (take k x.run.input)) c) (with_input (drop k x.run.input) x.run.at_end x)) (λ c. expect_done a u c (with_terminal (Some (k - asked u x.run.input)) x))))
+      by_case true = record { output = refl; saves = refl; wear = refl }
+      by_case false = subst (λ q. IsSilent x.run q) (sym (after_expect c (with_terminal (Some (k - asked u x.run.input)) x))) (record { output = refl; saves = refl; wear = refl })
+
   -- The terminal fails once these bytes were given.
   pub reads_broke : (given bytes : List ℕ) (left : ℕ) (c d : Core) (x : World) → Reading u given bytes left → 0 < left → d.space ≡ with_bytes c.space a bytes
       → Broke (λ r. expect_of r.terminal a u c (with_run r x)) (reads given false (length given)) d x
@@ -198,11 +226,13 @@ module _ (a u : ℕ) where
               ∙ ap (λ n. Ends Breaks (store_input a (stored u (take n (given ++ r.input))) c) (with_input (drop n (given ++ r.input)) r.at_end (with_run (before (reads given false (length given)) r) x))) count
               ∙ (λ t. Ends Breaks (store_input a ((ap (λ l. stored u l) fronts ∙ keeps) t) c) (with_input (ends t) r.at_end (with_run (before (reads given false (length given)) r) x)));
           input = refl;
+          output = sym (append-nil r.output);
           saves = sym (append-nil r.saves);
         };
-    grows = λ r fits never.
-        subst (λ o. Grows (after (reads given false (length given)) r) o) (sym (goes r never))
-        (record { output = ([], sym (append-nil r.output) ∙ sym (append-nil (r.output ++ []))); saves = ([], sym (append-nil r.saves) ∙ sym (append-nil (r.saves ++ []))) });
+    grows = λ r fits.
+        let d : Deed = mended (reads given false (length given)) in
+        let silent = expect_silent (longer (length given + 1) r.terminal) c (with_run (before d r) x) in
+        silent_grows given false (length given) r (run_after (expect_of (longer (length given + 1) r.terminal) a u c (with_run (before d r) x))) (record { output = silent.output; saves = silent.saves; wear = silent.wear });
     input = λ r fits never none.
         ap (λ o. o.input) (goes r never) ∙ ap (λ l. unread u (given ++ l)) none ∙ h.unread [] ∙ unread_nothing left;
     answers = λ r fits never none. ap (λ o. o.answers) (goes r never) ∙ none;
@@ -470,10 +500,13 @@ key_broke c d x same = record {
         run = record r { terminal = longer 0 r.terminal };
         ends = ap (λ t. terminal_call (longer 0 t) c (with_run (record r { terminal = longer 0 r.terminal }) x) (λ x. key_of x.run.input c x)) none;
         input = refl;
+        output = sym (append-nil r.output);
         saves = sym (append-nil r.saves);
       };
-  grows = λ r fits never.
-      subst (λ o. Grows (after (reads [] false 0) r) o) (sym (goes r never)) (grown r r.input);
+  grows = λ r fits.
+      let o : Outcome World = key_of_run c x (before (mended (reads [] false 0)) r) in
+      let goes_on : run_after o ≡ (key_run r.input (with_run r x)).run = ap run_after (call-well r.terminal c (with_run r x) (λ x. key_of x.run.input c x)) ∙ after_key r.input c (with_run r x) in
+      silent_grows [] false 0 r (run_after o) (subst (λ q. IsSilent r q) (sym goes_on) (key_silent r r.input));
   input = λ r fits never none. ap (λ o. o.input) (goes r never) ∙ ap (λ l. (key_run l (with_run (record r { terminal = longer 0 r.terminal }) x)).run.input) none;
   answers = λ r fits never none. subst (λ o. o.answers ≡ []) (sym (goes r never)) (kept r r.input none);
   failures = λ r fits never none. subst (λ o. o.failures ≡ r.failures + 0) (sym (goes r never)) (few r r.input);
@@ -484,9 +517,9 @@ key_broke c d x same = record {
         ap (λ t. run_after (terminal_call (longer 0 t) c (with_run (record r { terminal = longer 0 r.terminal }) x) (λ x. key_of x.run.input c x))) never
         ∙ after_key r.input c (with_run (record r { terminal = longer 0 r.terminal }) x)
 
-    grown : (r : Run) (input : List ℕ) → Grows (after (reads [] false 0) r) (key_run input (with_run (record r { terminal = longer 0 r.terminal }) x)).run
-    grown r [] = record { output = ([], sym (append-nil r.output) ∙ sym (append-nil (r.output ++ []))); saves = ([], sym (append-nil r.saves) ∙ sym (append-nil (r.saves ++ []))) }
-    grown r (b ∷ input) = record { output = ([], sym (append-nil r.output) ∙ sym (append-nil (r.output ++ []))); saves = ([], sym (append-nil r.saves) ∙ sym (append-nil (r.saves ++ []))) }
+    key_silent : (r : Run) (input : List ℕ) → IsSilent r (key_run input (with_run r x)).run
+    key_silent r [] = record { output = refl; saves = refl; wear = refl }
+    key_silent r (b ∷ input) = record { output = refl; saves = refl; wear = refl }
 
     kept : (r : Run) (input : List ℕ) → r.answers ≡ [] → (key_run input (with_run (record r { terminal = longer 0 r.terminal }) x)).run.answers ≡ []
     kept r [] none = none

@@ -3,6 +3,7 @@ pub mod Frugal
 pub mod Same
 pub mod Enter
 pub mod Beside
+pub mod Wearing
 pub mod Reaching
 pub mod Settling
 pub mod Answered
@@ -35,6 +36,7 @@ pub mod Stepping
 pub mod Looking
 pub mod Finding
 pub mod Taking
+mod Telling
 pub mod Added
 pub mod Treating
 pub mod Advancing

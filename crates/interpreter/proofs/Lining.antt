@@ -16,7 +16,7 @@ use Rattle.interpreter.specs.declared.fault.Stop.TheVariants as stop
 use Rattle.interpreter.specs.declared.lines.LineEnd.{LineEnd}
 use Rattle.interpreter.specs.declared.lines.LineEnd.TheVariants as end
 use Rattle.interpreter.specs.declared.forth.Forth.{Forth}
-use Rattle.interpreter.specs.Deeds.{Deed, then, before, after, Fits}
+use Rattle.interpreter.specs.Deeds.{Deed, then, before, after, mended, Fits}
 use Rattle.interpreter.specs.FaultNames.{fault_name}
 use Rattle.interpreter.specs.Law.{run_after, Grows}
 use Rattle.interpreter.specs.Lines as lines
@@ -24,7 +24,7 @@ use Rattle.interpreter.specs.State as lines_state
 use Rattle.interpreter.specs.Law.{left}
 use Rattle.interpreter.specs.Lines.{line, line_if, with_line, text_of_line, Ended, at_rest, dropped, with_empty_stack, broken, replied, reply, after_fault, end_of_line, ended}
 use Rattle.interpreter.specs.Promise.{HasRisenBy}
-use Rattle.interpreter.specs.State.{World, Run, with_run}
+use Rattle.interpreter.specs.State.{World, Run, with_run, with_output}
 use Rattle.interpreter.specs.Stops.{ending_of}
 use Rattle.interpreter.specs.Text.{compiling}
 use Rattle.interpreter.specs.Terminal.{AppendsSome, Begins}
@@ -34,11 +34,13 @@ use Rattle.interpreter.specs.Serving.{Comes, IsLike, Left, Broke, BreaksOff, Hea
 use Rattle.block_words.specs.declared.Blocks.{Blocks}
 use Rattle.journal.specs.Store.{device_of}
 use Rattle.interpreter.specs.Lining.{line_end, is_broken, heard_of, LineLeft, LineBroke, LineBreaksOff, LineComes, LineCame, Lined, IsLikely, HasSpace}
-use Rattle.interpreter.proofs.Deeds.{printing, after-then}
+use Rattle.interpreter.proofs.Deeds.{printing, trying, after-then, mended-then}
 use Rattle.interpreter.proofs.Calls.{print-well, print-fails}
 use Rattle.interpreter.proofs.Running.{OnlyNow, maps_same}
 use Rattle.block_words.proofs.Counted.{risen_then}
 use Rattle.interpreter.proofs.Then.{fits_second, both_come, heard_none, heard_then, maps_then}
+use Rattle.block_words.specs.Words.{no_wear}
+use Rattle.interpreter.proofs.Wearing.{within_same, within_then}
 
 -- an end that isn't that of a failed terminal
 pub line_left : (start : Run → Ended) (deed : Deed) (e : LineEnd) (c : Core) (x : World) → is_broken e ≡ false → LineLeft start deed e c x → LineComes start deed e c x
@@ -63,8 +65,8 @@ replied_run e (Ends i c x) = refl
 
 pub replied_broke : (e : lines.LineEnd) (start : Run → Outcome World) (deed : Deed) (c : Core) (x : World) (h : Broke start deed c x) → LineBroke (λ r. replied e (start r)) deed (with_empty_stack (at_rest h.core)) (dropped x)
 replied_broke e start deed c x h = record {
-  breaks = λ r fits none. let b : BreaksOff start deed h.core x r = h.breaks r fits none in record { run = b.run; ends = ap (λ o. replied e o) b.ends; input = b.input; saves = b.saves };
-  grows = λ r fits never. subst (λ q. Grows (after deed r) q) (sym (replied_run e (start (before deed r)))) (h.grows r fits never);
+  breaks = λ r fits none. let b : BreaksOff start deed h.core x r = h.breaks r fits none in record { run = b.run; ends = ap (λ o. replied e o) b.ends; input = b.input; output = b.output; saves = b.saves };
+  grows = λ r fits. subst (λ q. Grows (after (mended deed) r) q) (sym (replied_run e (start (before (mended deed) r)))) (h.grows r fits);
   input = λ r fits never none. subst (λ q. q.input ≡ []) (sym (replied_run e (start (before deed r)))) (h.input r fits never none);
   failures = λ r fits never none. subst (λ q. q.failures ≡ (after deed r).failures) (sym (replied_run e (start (before deed r)))) (h.failures r fits never none);
 }
@@ -103,13 +105,13 @@ module _ {D T : Type 0} (G : Ghosts D) (H : TerminalGhosts T) (only_now : OnlyNo
       → H.input u ≡ H.input t → AppendsSome (H.output t) (H.output u) bytes
       → Lined H (λ r. replied e (print bytes c (with_run r x))) end.Io old.at_end old new t u x
   said_broke e bytes old new t u c x rests blocks at_end likely after_rests input printed = record {
-    deed = printing bytes 0;
+    deed = trying bytes;
     world = dropped x;
     rests = after_rests;
     came = λ model.
         let h = print-fails bytes c x in
-        record { core = with_empty_stack (at_rest h.core); likely = likely h.core h.like; comes = replied_broke e (λ r. print bytes c (with_run r x)) (printing bytes 0) c x h };
-    heard = subst (λ f. Heard H (Err stop.Io) (printing bytes 0) old.at_end f t u) (sym at_end)
+        record { core = with_empty_stack (at_rest h.core); likely = likely h.core h.like; comes = replied_broke e (λ r. print bytes c (with_run r x)) (trying bytes) c x h };
+    heard = subst (λ f. Heard H (Err stop.Io) (trying bytes) old.at_end f t u) (sym at_end)
         (record {
           given = subst (λ i. Consumes (H.input t) i []) (sym input) (Consumes-nil (H.input t));
           at_end = λ was no. absurd (let f : false ≡ true = no in cc);
@@ -119,7 +121,7 @@ module _ {D T : Type 0} (G : Ghosts D) (H : TerminalGhosts T) (only_now : OnlyNo
         });
     cause = ap (λ (b : Blocks D G). G.failures (device_of (store_of b))) blocks;
     keeps = λ model.
-        subst (λ (b : Blocks D G). MapsKept G x.maps x.maps (device old) (device_of (store_of b)) []) (sym blocks) (maps_same G only_now (store_of old.blocks) x.maps (rests.maps model));
+        subst (λ (b : Blocks D G). MapsKept G x.maps x.maps (device old) (device_of (store_of b)) [] no_wear) (sym blocks) (maps_same G only_now (store_of old.blocks) x.maps (rests.maps model));
   }
 
 -- ---- one after another
@@ -134,8 +136,8 @@ module _ {D T : Type 0} {G : Ghosts D} (H : TerminalGhosts T) where
       comes end.Quit k = record { ends = λ r fits. same (before deed r) ∙ k.ends r fits }
       comes (end.Fault f) k = record { ends = λ r fits. same (before deed r) ∙ k.ends r fits }
       comes end.Io k = record {
-        breaks = λ r fits none. let b : LineBreaksOff start deed h.core x r = k.breaks r fits none in record { run = b.run; ends = same (before deed r) ∙ b.ends; input = b.input; saves = b.saves };
-        grows = λ r fits never. subst (λ o. Grows (after deed r) o.world.run) (sym (same (before deed r))) (k.grows r fits never);
+        breaks = λ r fits none. let b : LineBreaksOff start deed h.core x r = k.breaks r fits none in record { run = b.run; ends = same (before deed r) ∙ b.ends; input = b.input; output = b.output; saves = b.saves };
+        grows = λ r fits. subst (λ o. Grows (after (mended deed) r) o.world.run) (sym (same (before (mended deed) r))) (k.grows r fits);
         input = λ r fits never none. subst (λ o. o.world.run.input ≡ []) (sym (same (before deed r))) (k.input r fits never none);
         failures = λ r fits never none. subst (λ o. o.world.run.failures ≡ (after deed r).failures) (sym (same (before deed r))) (k.failures r fits never none);
       }
@@ -152,8 +154,8 @@ module _ {D T : Type 0} {G : Ghosts D} (H : TerminalGhosts T) where
     heard = subst (λ f. Heard H (heard_of e) h.deed f new.at_end t u) at_end h.heard;
     cause = subst (λ (b : Blocks D G). HasRisenBy h.deed.failures (G.failures (device_of (store_of b))) (G.failures (device new))) blocks h.cause;
     keeps = λ model.
-        subst (λ (b : Blocks D G). MapsKept G y.maps h.world.maps (device_of (store_of b)) (device new) h.deed.saves) blocks
-        (subst (λ m. MapsKept G m h.world.maps (device mid) (device new) h.deed.saves) maps (h.keeps (same_model old.blocks mid.blocks blocks model)));
+        subst (λ (b : Blocks D G). MapsKept G y.maps h.world.maps (device_of (store_of b)) (device new) h.deed.saves h.deed.wear) blocks
+        (subst (λ m. MapsKept G m h.world.maps (device mid) (device new) h.deed.saves h.deed.wear) maps (h.keeps (same_model old.blocks mid.blocks blocks model)));
   }
 
 -- ---- what came before the reply
@@ -179,9 +181,12 @@ line_comes_then start start2 d e first none how c x h = pick how h
     pick end.Io k = record {
       breaks = λ r fits none.
           let b : LineBreaksOff start2 e c x (after d r) = k.breaks (after d r) (seconds r fits) none in
-          record { run = b.run; ends = comes_of r fits ∙ b.ends; input = b.input; saves = b.saves ∙ append_assoc r.saves d.saves e.saves };
-      grows = λ r fits never.
-          subst (λ o. Grows (after (then d e) r) o.world.run) (sym (comes_of r fits)) (subst (λ f. Grows f (start2 (before e (after d r))).world.run) (sym (after-then d e r)) (k.grows (after d r) (seconds r fits) never));
+          record { run = b.run; ends = comes_of r fits ∙ b.ends; input = b.input; output = b.output ∙ append_assoc r.output d.printed e.printed; saves = b.saves ∙ append_assoc r.saves d.saves e.saves };
+      grows = λ r fits.
+          let f : Deed = mended e in
+          subst (λ b. Grows (after b r) (start (before b r)).world.run) (sym (mended-then d e))
+          (subst (λ o. Grows (after (then d f) r) o.world.run) (sym (both_come start start2 d f first none r fits))
+          (subst (λ q. Grows q (start2 (before f (after d r))).world.run) (sym (after-then d f r)) (k.grows (after d r) (seconds r fits))));
       input = λ r fits never none. subst (λ o. o.world.run.input ≡ []) (sym (comes_of r fits)) (k.input (after d r) (seconds r fits) never none);
       failures = λ r fits never none.
           subst (λ o. o.world.run.failures ≡ (after (then d e) r).failures) (sym (comes_of r fits))
@@ -194,7 +199,7 @@ module _ {D T : Type 0} (G : Ghosts D) (H : TerminalGhosts T) (counts_now : (d :
   pub lined_then : {start start2 : Run → Ended} {e : LineEnd} {was is : Bool} {old mid new : Forth D G} {t u v : T} {x w : World} (d : Deed)
       → Lasts G H (Ok tt) (device old) (device mid) t u → Lasts G H (heard_of e) (device mid) (device new) u v
       → Heard H (Ok tt) d was is t u → HasRisenBy d.failures (G.failures (device old)) (G.failures (device mid))
-      → (HasModel old → MapsKept G x.maps w.maps (device old) (device mid) d.saves)
+      → (HasModel old → MapsKept G x.maps w.maps (device old) (device mid) d.saves d.wear)
       → (HasModel old → (r : Run) → Fits d r → start (before d r) ≡ start2 (after d r))
       → Lined H start2 e is mid new u v w → Lined H start e was old new t v x
   lined_then {start} {start2} {e} {was} {is} {old} {mid} {new} {t} {u} {v} {x} {w} d on on_then heard cause keeps first h = record {
@@ -207,7 +212,7 @@ module _ {D T : Type 0} (G : Ghosts D) (H : TerminalGhosts T) (counts_now : (d :
     heard = heard_then H heard h.heard;
     cause = risen_then d.failures h.deed.failures (G.failures (device old)) (G.failures (device mid)) (G.failures (device new)) cause h.cause;
     keeps = λ model.
-        maps_then G counts_now widens only_now x.maps w.maps h.world.maps (device old) (device mid) (device new) d.saves h.deed.saves on.time on_then.time
+        maps_then G counts_now widens only_now x.maps w.maps h.world.maps (device old) (device mid) (device new) d.saves h.deed.saves d.wear h.deed.wear on.time on_then.time
         (keeps model) (h.keeps (subst IsTrue (sym on.model) model));
   }
 
@@ -218,17 +223,17 @@ record Follows (p q : Run) : Type 0 where
   input : q.input ≡ p.input
   failures : q.failures ≡ p.failures
 
-follows_of : (p q : Run) (bytes : List ℕ) → q.output ≡ p.output ++ bytes → q.saves ≡ p.saves → q.input ≡ p.input → q.failures ≡ p.failures → Follows p q
-follows_of p q bytes out saves input failures =
-    record { grows = record { output = (bytes, out); saves = ([], saves ∙ sym (append-nil p.saves)) }; input = input; failures = failures }
+follows_of : (p q : Run) (bytes : List ℕ) → q.output ≡ p.output ++ bytes → q.saves ≡ p.saves → q.input ≡ p.input → q.failures ≡ p.failures → q.wear ≡ p.wear → Follows p q
+follows_of p q bytes out saves input failures wear =
+    record { grows = record { output = (bytes, out); saves = ([], saves ∙ sym (append-nil p.saves)); wear = within_same p.wear q.wear wear }; input = input; failures = failures }
 
-call_follows : (e : lines.LineEnd) (o : Option ℕ) (c : Core) (p : Run) (bytes : List ℕ) (y : World) → y.run.output ≡ p.output ++ bytes → y.run.saves ≡ p.saves → y.run.input ≡ p.input → y.run.failures ≡ p.failures → Follows p (replied e (terminal_call o c y (λ x. Did c x))).world.run
-call_follows e None c p bytes y out saves input failures = follows_of p y.run bytes out saves input failures
-call_follows e (Some zero) c p bytes y out saves input failures = follows_of p y.run bytes out saves input failures
-call_follows e (Some (suc k)) c p bytes y out saves input failures = follows_of p (record y.run { terminal = Some k }) bytes out saves input failures
+call_follows : (e : lines.LineEnd) (o : Option ℕ) (c : Core) (bytes : List ℕ) (y : World) → Follows y.run (replied e (terminal_call o c y (λ x. Did c (with_output (x.run.output ++ bytes) x)))).world.run
+call_follows e None c bytes y = follows_of y.run (record y.run { output = y.run.output ++ bytes }) bytes refl refl refl refl refl
+call_follows e (Some zero) c bytes y = follows_of y.run y.run [] (sym (append-nil y.run.output)) refl refl refl refl
+call_follows e (Some (suc k)) c bytes y = follows_of y.run (record y.run { output = y.run.output ++ bytes; terminal = Some k }) bytes refl refl refl refl refl
 
 said_follows : (e : lines.LineEnd) (bytes : List ℕ) (c : Core) (x : World) → Follows x.run (reply e bytes c x).world.run
-said_follows e bytes c x = call_follows e x.run.terminal c x.run bytes (with_run (record x.run { output = x.run.output ++ bytes }) x) refl refl refl refl
+said_follows e bytes c x = call_follows e x.run.terminal c bytes x
 
 line_follows : (b : Bool) (c : Core) (x : World) → Follows x.run (end_of_line b c x).world.run
 line_follows true c x = said_follows lines.LineEnd.Compiling (10 ∷ []) c x
@@ -237,7 +242,7 @@ line_follows false c x = said_follows lines.LineEnd.Interpreting (codes " ok" ++
 ends_follow : (e : Ending) (c : Core) (x : World) → Follows x.run (ended (Ends e c x)).world.run
 ends_follow Quits c x = said_follows lines.LineEnd.Quit (10 ∷ []) (at_rest c) (dropped x)
 ends_follow Aborts c x = said_follows lines.LineEnd.Quit (10 ∷ []) (with_empty_stack (at_rest c)) (dropped x)
-ends_follow Breaks c x = follows_of x.run x.run [] (sym (append-nil x.run.output)) refl refl refl
+ends_follow Breaks c x = follows_of x.run x.run [] (sym (append-nil x.run.output)) refl refl refl refl
 ends_follow (Faults f) c x = said_follows (lines.LineEnd.Fails f) (codes " ? " ++ (fault_name f ++ 10 ∷ [])) (with_empty_stack (at_rest c)) (dropped x)
 
 ended_follows : (o : Outcome World) → Follows (run_after o) (ended o).world.run
@@ -248,13 +253,14 @@ pub begins_then : {A : Type 0} (a b c : List A) → Begins a b → Begins b c �
 begins_then a b c h k = (h.0 ++ k.0, k.1 ∙ ap (λ l. l ++ k.0) h.1 ∙ append_assoc a h.0 k.0)
 
 pub grows_then : (p q s : Run) → Grows p q → Grows q s → Grows p s
-grows_then p q s h k = record { output = begins_then p.output q.output s.output h.output k.output; saves = begins_then p.saves q.saves s.saves h.saves k.saves }
+grows_then p q s h k = record { output = begins_then p.output q.output s.output h.output k.output; saves = begins_then p.saves q.saves s.saves h.saves k.saves; wear = within_then p.wear q.wear s.wear h.wear k.wear }
 
 -- the terminal failed before the reply
 pub ended_broke : (start : Run → Outcome World) (deed : Deed) (c : Core) (x : World) (h : Broke start deed c x) → LineBroke (λ r. ended (start r)) deed (with_empty_stack (at_rest h.core)) (dropped x)
 ended_broke start deed c x h = record {
-  breaks = λ r fits none. let b : BreaksOff start deed h.core x r = h.breaks r fits none in record { run = b.run; ends = ap (λ o. ended o) b.ends; input = b.input; saves = b.saves };
-  grows = λ r fits never. grows_then (after deed r) (run_after (start (before deed r))) (ended (start (before deed r))).world.run (h.grows r fits never) (ended_follows (start (before deed r))).grows;
+  breaks = λ r fits none. let b : BreaksOff start deed h.core x r = h.breaks r fits none in record { run = b.run; ends = ap (λ o. ended o) b.ends; input = b.input; output = b.output; saves = b.saves };
+  grows = λ r fits.
+      let o : Outcome World = start (before (mended deed) r) in grows_then (after (mended deed) r) (run_after o) (ended o).world.run (h.grows r fits) (ended_follows o).grows;
   input = λ r fits never none. (ended_follows (start (before deed r))).input ∙ h.input r fits never none;
   failures = λ r fits never none. let f = h.failures r fits never none in let e = (ended_follows (start (before deed r))).failures in omega (arith, f, e);
 }
@@ -347,5 +353,5 @@ module _ {D T : Type 0} (G : Ghosts D) (H : TerminalGhosts T) (counts_now : (d :
         came_as H start' end.Io opens (record { core = with_empty_stack (at_rest l.core); likely = likely l.core (record { space = l.like }); comes = ended_broke start h.deed (core mid) h.world l });
     heard = subst (λ f. Heard H (Err stop.Io) h.deed old.at_end f t u) (sym at_end) h.heard;
     cause = subst (λ (b : Blocks D G). HasRisenBy h.deed.failures (G.failures (device old)) (G.failures (device_of (store_of b)))) (sym blocks) h.cause;
-    keeps = λ model. subst (λ (b : Blocks D G). MapsKept G x.maps h.world.maps (device old) (device_of (store_of b)) h.deed.saves) (sym blocks) (h.keeps model);
+    keeps = λ model. subst (λ (b : Blocks D G). MapsKept G x.maps h.world.maps (device old) (device_of (store_of b)) h.deed.saves h.deed.wear) (sym blocks) (h.keeps model);
   }

@@ -5,12 +5,12 @@ use Rattle.journal.specs.Maps.{any_pending, committed, contents, spilled}
 use Rattle.block_buffers.specs.declared.Assigned.{Assigned}
 use Rattle.block_buffers.specs.Buffers.{Buffers, assigned, oldest, updated_ones, unmarked, none_assigned}
 use Rattle.block_words.specs.declared.BlockFault.TheVariants.{Memory}
-use Rattle.block_words.specs.Words.{Blocks as State, BlockOutcome, Gives, Fails, first_answer, later_answers, answered, bytes_of, spill, spill_if, spill_oldest, give_buffer, assign, open_store, with_buffer, if_block, is_block, block, buffer, mark_current, update, next_map, spill_each, commit, returned, save_and, save_buffers, flush, source_of, source}
+use Rattle.block_words.specs.Words.{worn, spill_wear, commit_wear, pending_number, Blocks as State, BlockOutcome, Gives, Fails, first_answer, later_answers, answered, bytes_of, spill, spill_if, spill_oldest, give_buffer, assign, open_store, with_buffer, if_block, is_block, block, buffer, mark_current, update, next_map, spill_each, commit, returned, save_and, save_buffers, flush, source_of, source}
 use Rattle.cell_machine.specs.Fault.{Faults, Breaks, EndOfInput}
 use Rattle.cell_machine.specs.Frames.{Core, Level}
 use Rattle.cell_machine.specs.Value.{Outcome, Did}
 use Rattle.cell_machine.proofs.Linked.{did, ends, parted, strayed}
-use Rattle.interpreter.specs.State.{World, Run, with_run, with_input, with_terminal, block_state, blocks_done, world_with, fault_of}
+use Rattle.interpreter.specs.State.{World, Run, with_run, with_input, with_output, with_terminal, block_state, blocks_done, world_with, fault_of}
 use Rattle.interpreter.specs.Terminals.{terminal_call, print, key_of, expect_of, expect_done, asked, stored, unread, meets_end, store_input}
 use Rattle.interpreter.specs.Law.{left, run_after}
 use Rattle.interpreter.proofs.Beside as next
@@ -34,7 +34,7 @@ module _ (n : ℕ) where
       subst (λ l. Quiet (answered (first_answer l) s well failed)) (sym h.0) (k (record s { answers = later_answers s.answers }) (ap later_answers h.0, h.1))
 
   spill-q : {A : Type 0} (x : Assigned) (s : State) (go : State → BlockOutcome A) → IsStill s → ((t : State) → IsStill t → Quiet (go t)) → Quiet (spill x s go)
-  spill-q x s go h k = call-q s _ _ h (λ t ht. k (record t { maps = spilled t.maps x.block (bytes_of t x) }) ht)
+  spill-q x s go h k = call-q (worn spill_wear s) _ _ h (λ t ht. k (record t { maps = spilled t.maps x.block (bytes_of t x) }) ht)
 
   spill_if-q : {A : Type 0} (b : Bool) (x : Assigned) (s : State) (go : State → BlockOutcome A) → IsStill s → ((t : State) → IsStill t → Quiet (go t)) → Quiet (spill_if b x s go)
   spill_if-q true x s go h k = spill-q x s go h k
@@ -58,7 +58,7 @@ module _ (n : ℕ) where
 
   commit-q : (b : Bool) (s : State) (go : State → BlockOutcome (Unit {0})) → IsStill s → ((t : State) → IsStill t → Quiet (go t)) → Quiet (commit b s go)
   commit-q false s go h k = k (record s { maps = committed s.maps }) h
-  commit-q true s go h k = call-q s _ _ h (λ t ht. k (record t { maps = committed t.maps }) ht)
+  commit-q true s go h k = call-q (worn (commit_wear (pending_number s.maps.pending)) s) _ _ h (λ t ht. k (record t { maps = committed t.maps }) ht)
 
   assign-q : (b : ℕ) (bytes : List ℕ) (s : State) → IsStill s → Quiet (assign b bytes s)
   assign-q b bytes s h = spill_oldest-q (oldest s.buffers) s _ h (λ t ht. call-q t (λ s. give_buffer b bytes s) (λ s. Fails Memory s) ht (λ u hu. hu))
@@ -109,7 +109,7 @@ module _ (most : ℕ) where
   terminal_call-li (Some (suc n)) c x go h k = k (with_terminal (Some n) x) h
 
   prints-li : (bytes : List ℕ) (c : Core) (x : World) → Q x.run → Linked (print bytes c x) (print bytes c x)
-  prints-li bytes c x h = terminal_call-li x.run.terminal c (with_run (record x.run { output = x.run.output ++ bytes }) x) (λ x. Did c x) h (λ y hy. did c y hy)
+  prints-li bytes c x h = terminal_call-li x.run.terminal c x (λ x. Did c (with_output (x.run.output ++ bytes) x)) h (λ y hy. did c (with_output (y.run.output ++ bytes) y) hy)
 
   key_of-li : (input : List ℕ) (c : Core) (x : World) → Q x.run → Linked (key_of input c x) (key_of input c x)
   key_of-li [] c x h = ends (Faults EndOfInput) c (with_input [] true x) h

@@ -16,7 +16,7 @@ use Rattle.interpreter.specs.declared.fault.Fault.{Fault}
 use Rattle.interpreter.specs.declared.fault.Stop.{Stop}
 use Rattle.interpreter.specs.declared.fault.Stop.TheVariants as stop
 use Rattle.interpreter.specs.declared.forth.Forth.{Forth}
-use Rattle.interpreter.specs.Deeds.{Deed, nothing, before, after}
+use Rattle.interpreter.specs.Deeds.{Deed, nothing, before, after, mended}
 use Rattle.interpreter.specs.State.{World, Run, with_run}
 use Rattle.interpreter.specs.Stops.{fault_of}
 use Rattle.interpreter.specs.Standing.{core, device, Rests, Stands, StandsAfter}
@@ -25,6 +25,8 @@ use Rattle.block_words.specs.declared.Blocks.{Blocks}
 use Rattle.interpreter.specs.Promise.{HasRisenBy}
 use Rattle.interpreter.specs.Law.{run_after, Grows}
 use Rattle.interpreter.proofs.Deeds.{before-nothing, after-nothing}
+use Rattle.block_words.specs.Words.{no_wear}
+use Rattle.block_words.proofs.Worn.{wears_none}
 
 -- ---- what comes of the line before it may be said otherwise
 
@@ -33,8 +35,8 @@ comes_as start start' deed (Ok v) c x same h = λ r fits. same (before deed r) �
 comes_as start start' deed (Err stop.Io) c x same h = record {
   core = h.core;
   like = h.like;
-  breaks = λ r fits none. let b = h.breaks r fits none in record { run = b.run; ends = same (before deed r) ∙ b.ends; input = b.input; saves = b.saves };
-  grows = λ r fits never. subst (λ o. Grows (after deed r) (run_after o)) (sym (same (before deed r))) (h.grows r fits never);
+  breaks = λ r fits none. let b = h.breaks r fits none in record { run = b.run; ends = same (before deed r) ∙ b.ends; input = b.input; output = b.output; saves = b.saves };
+  grows = λ r fits. subst (λ o. Grows (after (mended deed) r) (run_after o)) (sym (same (before (mended deed) r))) (h.grows r fits);
   input = λ r fits never none. subst (λ o. (run_after o).input ≡ []) (sym (same (before deed r))) (h.input r fits never none);
   answers = λ r fits never none. subst (λ o. (run_after o).answers ≡ []) (sym (same (before deed r))) (h.answers r fits never none);
   failures = λ r fits never none. subst (λ o. (run_after o).failures ≡ (after deed r).failures) (sym (same (before deed r))) (h.failures r fits never none);
@@ -48,14 +50,14 @@ comes_as start start' deed (Err (stop.Fault f)) c x same h = record { core = h.c
 abbrev pub OnlyNow : {D : Type 0} → Ghosts D → Type 0
 OnlyNow {D} G = (d : D) (c : Image) → G.left_since d (G.time d) c → MayLeave (G.disk d) c
 
-pub maps_same : {D : Type 0} (G : Ghosts D) → OnlyNow G → (store : Store D G) (m : Maps) → StandsFor store m → MapsKept G m m store.device store.device []
-maps_same G only_now store m stands = record { kept = keeps_store G store m only_now stands; shuts = λ h. h; none = λ h. refl; last = λ h. refl }
+pub maps_same : {D : Type 0} (G : Ghosts D) → OnlyNow G → (store : Store D G) (m : Maps) → StandsFor store m → MapsKept G m m store.device store.device [] no_wear
+maps_same G only_now store m stands = record { kept = keeps_store G store m only_now stands; shuts = λ h. h; none = λ h. refl; last = λ h. refl; wears = wears_none G store.device }
 
-pub heard_nothing : {T : Type 0} (H : TerminalGhosts T) (result : Result (Unit {0}) Stop) (flag : Bool) (t : T) → Printed result (H.output t) (H.output t) [] → Heard H result nothing flag flag t t
+pub heard_nothing : {T : Type 0} (H : TerminalGhosts T) (result : Result (Unit {0}) Stop) (flag : Bool) (t : T) → Printed result (H.output t) (H.output t) [] [] → Heard H result nothing flag flag t t
 heard_nothing H result flag t printed =
     record { given = Consumes-nil (H.input t); at_end = λ was no. absurd (let e : false ≡ true = no in cc); met = refl; no_more = λ h. (refl, refl); printed = printed }
 
-pub printed_nothing : (result : Result (Unit {0}) Fault) (o : Option (List ℕ)) → Printed (stopped result) o o []
+pub printed_nothing : (result : Result (Unit {0}) Fault) (o : Option (List ℕ)) → Printed (stopped result) o o [] []
 printed_nothing (Ok v) o = Appends-nil o
 printed_nothing (Err f) o = Appends-nil o
 
@@ -87,8 +89,8 @@ module _ {D T : Type 0} (G : Ghosts D) (H : TerminalGhosts T) where
     heard = subst (λ f. Heard H (stopped result) nothing old.at_end f t t) (sym at_end) (heard_nothing H (stopped result) old.at_end t (printed_nothing result (H.output t)));
     cause = ap (λ (b : Blocks D G). G.failures (device_of (store_of b))) blocks;
     keeps = λ model.
-        subst (λ (b : Blocks D G). MapsKept G x.maps h.world.maps (device old) (device_of (store_of b)) []) (sym blocks)
-        (subst (λ m. MapsKept G x.maps m (device old) (device old) []) (sym h.maps) (maps_same G only_now (store_of old.blocks) x.maps (stands.rests.maps model)));
+        subst (λ (b : Blocks D G). MapsKept G x.maps h.world.maps (device old) (device_of (store_of b)) [] no_wear) (sym blocks)
+        (subst (λ m. MapsKept G x.maps m (device old) (device old) [] no_wear) (sym h.maps) (maps_same G only_now (store_of old.blocks) x.maps (stands.rests.maps model)));
   }
 
 module _ {D T : Type 0} {G : Ghosts D} (H : TerminalGhosts T) where
@@ -103,5 +105,5 @@ module _ {D T : Type 0} {G : Ghosts D} (H : TerminalGhosts T) where
     comes = λ model. comes_as start start' h.deed result (core new) h.world same (h.comes (subst (λ (b : Blocks D G). IsTrue (G.keeps_model (device_of (store_of b)))) (sym blocks) model));
     heard = subst (λ f. Heard H result h.deed f new.at_end t t') at_end h.heard;
     cause = subst (λ (b : Blocks D G). HasRisenBy h.deed.failures (G.failures (device_of (store_of b))) (G.failures (device new))) blocks h.cause;
-    keeps = λ model. subst (λ (b : Blocks D G). MapsKept G x.maps h.world.maps (device_of (store_of b)) (device new) h.deed.saves) blocks (h.keeps (subst (λ (b : Blocks D G). IsTrue (G.keeps_model (device_of (store_of b)))) (sym blocks) model));
+    keeps = λ model. subst (λ (b : Blocks D G). MapsKept G x.maps h.world.maps (device_of (store_of b)) (device new) h.deed.saves h.deed.wear) blocks (h.keeps (subst (λ (b : Blocks D G). IsTrue (G.keeps_model (device_of (store_of b)))) (sym blocks) model));
   }

@@ -8,7 +8,7 @@ use Rattle.interpreter.specs.declared.terminal.Terminal.{Ghosts as TerminalGhost
 use Rattle.interpreter.specs.declared.fault.Stop.{Stop}
 use Rattle.interpreter.specs.declared.fault.Stop.TheVariants as stop
 use Rattle.interpreter.specs.declared.forth.Forth.{Forth}
-use Rattle.interpreter.specs.Deeds.{Deed, before, after}
+use Rattle.interpreter.specs.Deeds.{Deed, before, after, mended}
 use Rattle.interpreter.specs.Law.{left, run_after, Grows}
 use Rattle.interpreter.specs.State.{World, Run}
 use Rattle.interpreter.specs.Standing.{core}
@@ -17,11 +17,12 @@ use Rattle.interpreter.specs.Turns.{turn_of, Turned}
 use Rattle.interpreter.proofs.Lasting.{only_grows, begins_itself, holds, no_input_lasts}
 use Rattle.interpreter.proofs.Answered.{left-li}
 use Rattle.interpreter.proofs.Quiet.{stays_quiet}
+use Rattle.interpreter.proofs.Wearing.{within_itself}
 use Rattle.interpreter.proofs.Lining.{grows_then}
 
 -- without input, none comes
 no_input : (n : ℕ) (levels : List Level) (c : Core) (x : World) → x.run.input ≡ [] → (run_after (left n levels c x)).input ≡ []
-no_input n levels c x none = holds (λ r. r.input ≡ []) (λ l. ⊤) no_input_lasts _ _ (left-li true (λ r. r.input ≡ []) (λ l. ⊤) no_input_lasts n levels c x none)
+no_input n levels c x none = holds (λ r. r.input ≡ []) (λ w l. ⊤) no_input_lasts _ _ (left-li true (λ r. r.input ≡ []) (λ w l. ⊤) no_input_lasts n levels c x none)
 
 -- without answers, no call of the device fails, and none come
 pub record IsQuiet (x : World) (r : Run) : Type 0 where
@@ -37,7 +38,7 @@ module _ (n : ℕ) (levels : List Level) where
 
   grows_on : (o : Outcome World) → Grows (run_after o) (run_after (on o))
   grows_on (Did c x) = only_grows n levels c x
-  grows_on (Ends e c x) = record { output = begins_itself x.run.output; saves = begins_itself x.run.saves }
+  grows_on (Ends e c x) = record { output = begins_itself x.run.output; saves = begins_itself x.run.saves; wear = within_itself x.run.wear }
 
   input_on : (o : Outcome World) → (run_after o).input ≡ [] → (run_after (on o)).input ≡ []
   input_on (Did c x) none = no_input n levels c x none
@@ -55,8 +56,9 @@ module _ (n : ℕ) (levels : List Level) where
   broke_on {start} {deed} {c} {x} h = record {
     core = h.core;
     like = h.like;
-    breaks = λ r fits none. let b : BreaksOff start deed h.core x r = h.breaks r fits none in record { run = b.run; ends = ap on b.ends; input = b.input; saves = b.saves };
-    grows = λ r fits never. grows_then (after deed r) (run_after (start (before deed r))) (run_after (on (start (before deed r)))) (h.grows r fits never) (grows_on (start (before deed r)));
+    breaks = λ r fits none. let b : BreaksOff start deed h.core x r = h.breaks r fits none in record { run = b.run; ends = ap on b.ends; input = b.input; output = b.output; saves = b.saves };
+    grows = λ r fits.
+        let o : Outcome World = start (before (mended deed) r) in grows_then (after (mended deed) r) (run_after o) (run_after (on o)) (h.grows r fits) (grows_on o);
     input = λ r fits never none. input_on (start (before deed r)) (h.input r fits never none);
     answers = λ r fits never none. answers_on (start (before deed r)) (h.answers r fits never none);
     failures = λ r fits never none. failures_on (start (before deed r)) (after deed r).failures (h.answers r fits never none) (h.failures r fits never none);

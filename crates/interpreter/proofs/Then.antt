@@ -7,7 +7,7 @@ use Rattle.sector_disk.specs.Disk.{Image, MayLeave}
 use Rattle.sector_disk.specs.Moments.{Elapses}
 use Rattle.sector_disk.specs.declared.device.SectorDevice.{Ghosts}
 use Rattle.journal.specs.Maps.{Maps}
-use Rattle.block_words.specs.Words.{Save}
+use Rattle.block_words.specs.Words.{Wear, add_wear, Save}
 use Rattle.block_words.specs.Kept.{last_map}
 use Rattle.block_words.proofs.Then.{keeps_then}
 use Rattle.cell_machine.specs.Fault.{Ending}
@@ -16,12 +16,13 @@ use Rattle.cell_machine.specs.Value.{Outcome, Did, Ends}
 use Rattle.interpreter.specs.declared.terminal.Terminal.{Ghosts as TerminalGhosts}
 use Rattle.interpreter.specs.declared.fault.Stop.{Stop}
 use Rattle.interpreter.specs.declared.fault.Stop.TheVariants as stop
-use Rattle.interpreter.specs.Deeds.{Deed, then, before, after, Fits}
+use Rattle.interpreter.specs.Deeds.{Deed, then, before, after, mended, Fits}
 use Rattle.interpreter.specs.Law.{run_after, Grows}
 use Rattle.interpreter.specs.State.{World, Run, with_run}
 use Rattle.interpreter.specs.Stops.{ending_of}
 use Rattle.interpreter.specs.Serving.{Left, Broke, BreaksOff, Comes, Heard, Printed, MapsKept}
-use Rattle.interpreter.proofs.Deeds.{before-then, after-then, or-assoc}
+use Rattle.interpreter.proofs.Deeds.{before-then, after-then, mended-then, or-assoc}
+use Rattle.block_words.proofs.Worn.{wears_then}
 
 -- ---- what comes of the line
 
@@ -74,10 +75,12 @@ module _ (start start2 : Run → Outcome World) (d e : Deed) (first : (r : Run) 
     like = h.like;
     breaks = λ r fits none.
         let b : BreaksOff start2 e h.core x (after d r) = h.breaks (after d r) (seconds r fits) none in
-        record { run = b.run; ends = comes_of r fits ∙ b.ends; input = b.input; saves = b.saves ∙ append_assoc r.saves d.saves e.saves };
-    grows = λ r fits never.
-        subst (λ o. Grows (after (then d e) r) (run_after o)) (sym (comes_of r fits))
-        (subst (λ f. Grows f (run_after (start2 (before e (after d r))))) (sym (after-then d e r)) (h.grows (after d r) (seconds r fits) never));
+        record { run = b.run; ends = comes_of r fits ∙ b.ends; input = b.input; output = b.output ∙ append_assoc r.output d.printed e.printed; saves = b.saves ∙ append_assoc r.saves d.saves e.saves };
+    grows = λ r fits.
+        let f : Deed = mended e in
+        subst (λ b. Grows (after b r) (run_after (start (before b r)))) (sym (mended-then d e))
+        (subst (λ o. Grows (after (then d f) r) (run_after o)) (sym (both_come start start2 d f first none r fits))
+        (subst (λ q. Grows q (run_after (start2 (before f (after d r))))) (sym (after-then d f r)) (h.grows (after d r) (seconds r fits))));
     input = λ r fits never none. subst (λ o. (run_after o).input ≡ []) (sym (comes_of r fits)) (h.input (after d r) (seconds r fits) never none);
     answers = λ r fits never none. subst (λ o. (run_after o).answers ≡ []) (sym (comes_of r fits)) (h.answers (after d r) (seconds r fits) never none);
     failures = λ r fits never none.
@@ -97,13 +100,13 @@ module _ (start start2 : Run → Outcome World) (d e : Deed) (first : (r : Run) 
 end_still : (a b : Option (List ℕ)) → b ≡ a → a ≡ Some [] → b ≡ Some []
 end_still a b same h = same ∙ h
 
-printed_then : (result : Result (Unit {0}) Stop) (a b c : Option (List ℕ)) (bs cs : List ℕ) → Appends a b bs → Printed result b c cs → Printed result a c (bs ++ cs)
-printed_then (Ok v) a b c bs cs p q = Appends-trans a b c bs cs p q
-printed_then (Err stop.Io) a b c bs cs p q =
-    (bs ++ q.0, (q.1.0, ap (λ l. bs ++ l) q.1.1 ∙ sym (append_assoc bs q.0 q.1.0)), Appends-trans a b c bs q.0 p q.2)
-printed_then (Err stop.Quit) a b c bs cs p q = Appends-trans a b c bs cs p q
-printed_then (Err stop.Abort) a b c bs cs p q = Appends-trans a b c bs cs p q
-printed_then (Err (stop.Fault f)) a b c bs cs p q = Appends-trans a b c bs cs p q
+printed_then : (result : Result (Unit {0}) Stop) (a b c : Option (List ℕ)) (bs cs tried : List ℕ) → Appends a b bs → Printed result b c cs tried → Printed result a c (bs ++ cs) tried
+printed_then (Ok v) a b c bs cs tried p q = Appends-trans a b c bs cs p q
+printed_then (Err stop.Io) a b c bs cs tried p q =
+    (q.0, q.1, subst (λ l. Appends a c l) (sym (append_assoc bs cs q.0)) (Appends-trans a b c bs (cs ++ q.0) p q.2))
+printed_then (Err stop.Quit) a b c bs cs tried p q = Appends-trans a b c bs cs p q
+printed_then (Err stop.Abort) a b c bs cs tried p q = Appends-trans a b c bs cs p q
+printed_then (Err (stop.Fault f)) a b c bs cs tried p q = Appends-trans a b c bs cs p q
 
 module _ {T : Type 0} (H : TerminalGhosts T) where
   pub heard_none : {d e : Deed} {result : Result (Unit {0}) Stop} {f g h : Bool} {t u v : T} → Heard H (Ok tt) d f g t u → Heard H result e g h u v → d.met ≡ true → e.given ≡ []
@@ -118,7 +121,7 @@ module _ {T : Type 0} (H : TerminalGhosts T) where
         let one = first.no_more was in
         let two = second.no_more (first.met ∙ or-right d.met f was) in
         (ap (λ l. l ++ e.given) one.0 ∙ two.0, two.1 ∙ one.1);
-    printed = printed_then result (H.output t) (H.output u) (H.output v) d.printed e.printed first.printed second.printed;
+    printed = printed_then result (H.output t) (H.output u) (H.output v) d.printed e.printed e.tried first.printed second.printed;
   }
     where
       by_first : f ≡ false → (e.met || d.met) ≡ true → (b : Bool) → d.met ≡ b → H.input v ≡ Some []
@@ -136,13 +139,14 @@ module _ {D : Type 0} (G : Ghosts D) (counts_now : (d : D) (t : ℕ) (c : Image)
   last_append map [] more = refl
   last_append map (s ∷ made) more = last_append s.map made more
 
-  pub maps_then : (m m' m'' : Maps) (old mid new : D) (made more : List Save) → Elapses G.time G.left_since old mid → Elapses G.time G.left_since mid new
-      → MapsKept G m m' old mid made → MapsKept G m' m'' mid new more → MapsKept G m m'' old new (made ++ more)
-  maps_then m m' m'' old mid new made more on on_then first second = record {
+  pub maps_then : (m m' m'' : Maps) (old mid new : D) (made more : List Save) (wear later : Wear) → Elapses G.time G.left_since old mid → Elapses G.time G.left_since mid new
+      → MapsKept G m m' old mid made wear → MapsKept G m' m'' mid new more later → MapsKept G m m'' old new (made ++ more) (add_wear wear later)
+  maps_then m m' m'' old mid new made more wear later on on_then first second = record {
     kept = keeps_then G counts_now widens only_now m.closed m'.closed old mid new m.saved m'.saved made more on on_then first.shuts first.last second.none first.kept second.kept;
     shuts = λ h. second.shuts (first.shuts h);
     none = λ h. ap (λ l. l ++ more) (first.none h) ∙ second.none (first.shuts h);
     last = λ h. second.last h ∙ after_both m'.closed refl h;
+    wears = wears_then G old mid new wear later first.wears second.wears;
   }
     where
       after_both : (t : Bool) → m'.closed ≡ t → m''.closed ≡ false → last_map m'.saved more ≡ last_map m.saved (made ++ more)

@@ -1,12 +1,13 @@
 -- Turns of a line's loop, one after another.
 use Rattle.std.proofs.Common.{◌≡◌, ℕ, ◌≤◌, IsTrue, true, List, [], Result, Ok, Err, refl, sym, ap, subst, ◌∙◌, arith}
 use Rattle.sector_disk.specs.Disk.{Image, MayLeave}
-use Rattle.sector_disk.specs.Counting.{HasRisen}
+use Rattle.sector_disk.specs.Counting.{count_up}
 use Rattle.sector_disk.specs.declared.device.SectorDevice.{Ghosts}
 use Rattle.sector_disk.proofs.Moments.{elapses_refl, elapses_then}
 use Rattle.block_words.specs.Parts.{store_of}
 use Rattle.cell_machine.specs.Frames.{Core, Level}
 use Rattle.cell_machine.specs.Value.{Outcome, Did, Ends}
+use Rattle.block_words.specs.Words.{no_wear}
 use Rattle.interpreter.specs.declared.terminal.Terminal.{Ghosts as TerminalGhosts}
 use Rattle.interpreter.specs.declared.fault.Stop.{Stop}
 use Rattle.interpreter.specs.declared.fault.Stop.TheVariants as stop
@@ -31,9 +32,9 @@ use Rattle.std.proofs.KnownBytes.{Appends-nil}
 
 -- ---- at any device and terminal
 
-broke_then : (result : Result (Unit {0}) Stop) (a b c : ℕ) → b ≡ a → WhereBroke result (HasRisen b c) (c ≡ b) → WhereBroke result (HasRisen a c) (c ≡ a)
+broke_then : (result : Result (Unit {0}) Stop) (a b c : ℕ) → b ≡ a → WhereBroke result (c ≡ count_up b) (c ≡ b) → WhereBroke result (c ≡ count_up a) (c ≡ a)
 broke_then (Ok v) a b c same h = h ∙ same
-broke_then (Err stop.Io) a b c same h = subst (λ n. HasRisen n c) same h
+broke_then (Err stop.Io) a b c same h = h ∙ ap count_up same
 broke_then (Err stop.Quit) a b c same h = h ∙ same
 broke_then (Err stop.Abort) a b c same h = h ∙ same
 broke_then (Err (stop.Fault f)) a b c same h = h ∙ same
@@ -98,7 +99,7 @@ module _ {D T : Type 0} (G : Ghosts D) (H : TerminalGhosts T) (counts_now : (d :
     heard = heard_then H first.heard second.heard;
     cause = risen_then first.deed.failures second.deed.failures (G.failures (device old)) (G.failures (device mid)) (G.failures (device new)) first.cause second.cause;
     keeps = λ model.
-        maps_then G counts_now widens only_now x.maps first.world.maps second.world.maps (device old) (device mid) (device new) first.deed.saves second.deed.saves on.time on_then.time
+        maps_then G counts_now widens only_now x.maps first.world.maps second.world.maps (device old) (device mid) (device new) first.deed.saves second.deed.saves first.deed.wear second.deed.wear on.time on_then.time
         (first.keeps model) (second.keeps (subst IsTrue (sym on.model) model));
   }
 
@@ -129,14 +130,14 @@ module _ {D T : Type 0} {G : Ghosts D} (H : TerminalGhosts T) (n : ℕ) where
     comes = λ model. turn_comes_as n start start' h.deed result h.levels (core new) h.world same (h.comes (subst (λ (b : Blocks D G). IsTrue (G.keeps_model (device_of (store_of b)))) (sym blocks) model));
     heard = subst (λ f. Heard H (seen result) h.deed f new.at_end t u) at_end h.heard;
     cause = subst (λ (b : Blocks D G). HasRisenBy h.deed.failures (G.failures (device_of (store_of b))) (G.failures (device new))) blocks h.cause;
-    keeps = λ model. subst (λ (b : Blocks D G). MapsKept G x.maps h.world.maps (device_of (store_of b)) (device new) h.deed.saves) blocks (h.keeps (subst (λ (b : Blocks D G). IsTrue (G.keeps_model (device_of (store_of b)))) (sym blocks) model));
+    keeps = λ model. subst (λ (b : Blocks D G). MapsKept G x.maps h.world.maps (device_of (store_of b)) (device new) h.deed.saves h.deed.wear) blocks (h.keeps (subst (λ (b : Blocks D G). IsTrue (G.keeps_model (device_of (store_of b)))) (sym blocks) model));
   }
 
 -- the machine ends the line
 module _ {D T : Type 0} (G : Ghosts D) (H : TerminalGhosts T) (only_now : OnlyNow G) (n : ℕ) where
   pub turned_left : {start : Run → Outcome World} (s : Stop) (old new : Forth D G) (t : T) {x : World}
       → Rests new x → new.blocks ≡ old.blocks → new.at_end ≡ old.at_end → new.steps ≤ old.steps
-      → Comes start nothing (Err s) (core new) x → Printed (Err s) (H.output t) (H.output t) [] → Turned H n start (Err s) old new t t x
+      → Comes start nothing (Err s) (core new) x → Printed (Err s) (H.output t) (H.output t) [] [] → Turned H n start (Err s) old new t t x
   turned_left {start} s old new t {x} rests blocks at_end less comes printed = record {
     deed = nothing;
     levels = [];
@@ -147,7 +148,7 @@ module _ {D T : Type 0} (G : Ghosts D) (H : TerminalGhosts T) (only_now : OnlyNo
     heard = subst (λ f. Heard H (Err s) nothing old.at_end f t t) (sym at_end) (heard_nothing H (Err s) old.at_end t printed);
     cause = ap (λ (b : Blocks D G). G.failures (device_of (store_of b))) blocks;
     keeps = λ model.
-        subst (λ (b : Blocks D G). MapsKept G x.maps x.maps (device_of (store_of b)) (device new) []) blocks
+        subst (λ (b : Blocks D G). MapsKept G x.maps x.maps (device_of (store_of b)) (device new) [] no_wear) blocks
         (maps_same G only_now (store_of new.blocks) x.maps (rests.maps (subst (λ (b : Blocks D G). IsTrue (G.keeps_model (device_of (store_of b)))) (sym blocks) model)));
   }
 

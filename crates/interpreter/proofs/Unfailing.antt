@@ -4,7 +4,7 @@ use Rattle.journal.specs.Maps.{any_pending, committed, contents, spilled}
 use Rattle.block_buffers.specs.declared.Assigned.{Assigned}
 use Rattle.block_buffers.specs.Buffers.{Buffers, assigned, oldest, updated_ones, unmarked, none_assigned}
 use Rattle.block_words.specs.declared.BlockFault.TheVariants.{Device, Memory}
-use Rattle.block_words.specs.Words.{Answer, Blocks as State, BlockOutcome, Gives, Fails, first_answer, later_answers, answered, device_call, with_closed, bytes_of, spill, spill_if, spill_oldest, give_buffer, assign, open_store, with_buffer, if_block, is_block, block, buffer, mark_current, update, next_map, spill_each, commit, returned, save_and, save_buffers, flush, source_of, source}
+use Rattle.block_words.specs.Words.{Answer, worn, spill_wear, commit_wear, pending_number, Blocks as State, BlockOutcome, Gives, Fails, first_answer, later_answers, answered, device_call, with_closed, bytes_of, spill, spill_if, spill_oldest, give_buffer, assign, open_store, with_buffer, if_block, is_block, block, buffer, mark_current, update, next_map, spill_each, commit, returned, save_and, save_buffers, flush, source_of, source}
 use Rattle.std.specs.Prelude.{replicate}
 use Rattle.cell_machine.specs.Frames.{Core}
 use Rattle.cell_machine.specs.Value.{Outcome}
@@ -41,7 +41,7 @@ module _ {A : Type 0} where
 
   spilled_well : (x : Assigned) (s : State) (go : State → BlockOutcome A) → Quiet s → ((t : State) → Quiet t → QuietEnd (go t)) → QuietEnd (spill x s go)
   spilled_well x s go h k =
-      called s (λ s. go (record s { maps = spilled s.maps x.block (bytes_of s x) })) (λ s. Fails Device (with_closed s)) h
+      called (worn spill_wear s) (λ s. go (record s { maps = spilled s.maps x.block (bytes_of s x) })) (λ s. Fails Device (with_closed s)) h
       (λ t ht. k (record t { maps = spilled t.maps x.block (bytes_of t x) }) ht)
 
   spilled_if : (b : Bool) (x : Assigned) (s : State) (go : State → BlockOutcome A) → Quiet s → ((t : State) → Quiet t → QuietEnd (go t)) → QuietEnd (spill_if b x s go)
@@ -88,7 +88,7 @@ spill_each_quiet (x ∷ xs) s go h k = spilled_well x s (λ s. spill_each xs s g
 commit_quiet : (b : Bool) (s : State) (go : State → BlockOutcome (Unit {0})) → Quiet s → ((t : State) → Quiet t → QuietEnd (go t)) → QuietEnd (commit b s go)
 commit_quiet false s go h k = k (record s { maps = committed s.maps }) h
 commit_quiet true s go h k =
-    called s (λ s. go (record s { maps = committed s.maps })) (λ s. Fails Device (with_closed s)) h (λ t ht. k (record t { maps = committed t.maps }) ht)
+    called (worn (commit_wear (pending_number s.maps.pending)) s) (λ s. go (record s { maps = committed s.maps })) (λ s. Fails Device (with_closed s)) h (λ t ht. k (record t { maps = committed t.maps }) ht)
 
 save_quiet : (change : Buffers → Buffers) (s : State) → Quiet s → QuietEnd (save_and change s)
 save_quiet change s h =

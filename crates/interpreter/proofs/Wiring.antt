@@ -19,7 +19,7 @@ use Rattle.interpreter.specs.declared.fault.Stop.{Stop}
 use Rattle.interpreter.specs.declared.fault.Stop.TheVariants as stop
 use Rattle.interpreter.specs.declared.interpreting.Turn.{Turn}
 use Rattle.interpreter.specs.declared.forth.Forth.{Forth}
-use Rattle.interpreter.specs.Deeds.{Deed, before, after}
+use Rattle.interpreter.specs.Deeds.{Deed, before, after, mended}
 use Rattle.interpreter.specs.Law.{left, run_after, Grows}
 use Rattle.interpreter.specs.State.{World, Run}
 use Rattle.interpreter.specs.Text.{user_kind, user_word}
@@ -101,8 +101,8 @@ broke_aborts : {start : Run → Outcome World} {deed : Deed} {c : Core} {x : Wor
 broke_aborts {start} {deed} {c} {x} h = record {
   core = h.core;
   like = h.like;
-  breaks = λ r fits none. let b : BreaksOff start deed h.core x r = h.breaks r fits none in record { run = b.run; ends = ap aborts b.ends; input = b.input; saves = b.saves };
-  grows = λ r fits never. subst (λ q. Grows (after deed r) q) (sym (same_run (start (before deed r)))) (h.grows r fits never);
+  breaks = λ r fits none. let b : BreaksOff start deed h.core x r = h.breaks r fits none in record { run = b.run; ends = ap aborts b.ends; input = b.input; output = b.output; saves = b.saves };
+  grows = λ r fits. subst (λ q. Grows (after (mended deed) r) q) (sym (same_run (start (before (mended deed) r)))) (h.grows r fits);
   input = λ r fits never none. subst (λ (q : Run). q.input ≡ []) (sym (same_run (start (before deed r)))) (h.input r fits never none);
   answers = λ r fits never none. subst (λ (q : Run). q.answers ≡ []) (sym (same_run (start (before deed r)))) (h.answers r fits never none);
   failures = λ r fits never none. subst (λ (q : Run). q.failures ≡ (after deed r).failures) (sym (same_run (start (before deed r)))) (h.failures r fits never none);

@@ -1,5 +1,5 @@
 -- What a whole line promises, before it is said as a turn.
-use Rattle.std.specs.Prelude.{◌≡◌, Bool, true, false, [], ◌++◌, Some, None, Result, Ok, Err}
+use Rattle.std.specs.Prelude.{◌≡◌, ℕ, Bool, true, false, [], ◌++◌, Some, None, Result, Ok, Err}
 use Rattle.sector_disk.specs.declared.device.SectorDevice.{Ghosts}
 use Rattle.cell_machine.specs.Frames.{Core}
 use Rattle.interpreter.specs.declared.terminal.Terminal.{Ghosts as TerminalGhosts}
@@ -8,11 +8,11 @@ use Rattle.interpreter.specs.declared.fault.Stop.TheVariants as stop
 use Rattle.interpreter.specs.declared.lines.LineEnd.{LineEnd}
 use Rattle.interpreter.specs.declared.lines.LineEnd.TheVariants as end
 use Rattle.interpreter.specs.declared.forth.Forth.{Forth}
-use Rattle.interpreter.specs.Deeds.{Deed, before, after, Fits}
+use Rattle.interpreter.specs.Deeds.{Deed, before, after, Fits, mended}
 use Rattle.interpreter.specs.Law.{Grows}
 use Rattle.interpreter.specs.Lines as lines
 use Rattle.interpreter.specs.Lines.{Ended}
-use Rattle.interpreter.specs.Promise.{HasRisenBy}
+use Rattle.interpreter.specs.Promise.{HasRisenBy, CountsDevice}
 use Rattle.interpreter.specs.State as lines_state
 use Rattle.interpreter.specs.State.{World, Run, with_run}
 use Rattle.interpreter.specs.Stops.{fault_of}
@@ -39,6 +39,10 @@ heard_of _ = Ok tt
 abbrev pub LastsLine : {D T : Type 0} → Ghosts D → TerminalGhosts T → LineEnd → (old new : D) (terminal terminal' : T) → Type 0
 LastsLine G H e old new terminal terminal' = Lasts G H (heard_of e) old new terminal terminal'
 
+-- the device's count of failures, by a line's end
+abbrev pub Counts : LineEnd → (before after : ℕ) → Type 0
+Counts e before after = CountsDevice (line_end e) before after
+
 -- the line ends so, in each run
 pub record LineLeft (start : Run → Ended) (deed : Deed) (e : LineEnd) (c : Core) (x : World) : Type 0 where
   pub ends : (r : Run) → Fits deed r → start (before deed r) ≡ record { ending = line_end e; core = c; world = with_run (after deed r) x }
@@ -48,11 +52,12 @@ pub record LineBreaksOff (start : Run → Ended) (deed : Deed) (c : Core) (x : W
   pub run : Run
   pub ends : start (before deed r) ≡ record { ending = lines.LineEnd.Io; core = c; world = with_run run x }
   pub input : run.input ≡ r.input
+  pub output : run.output ≡ r.output ++ deed.printed
   pub saves : run.saves ≡ r.saves ++ deed.saves
 
 pub record LineBroke (start : Run → Ended) (deed : Deed) (c : Core) (x : World) : Type 0 where
   pub breaks : (r : Run) → Fits deed r → r.terminal ≡ Some 0 → LineBreaksOff start deed c x r
-  pub grows : (r : Run) → Fits deed r → r.terminal ≡ None → Grows (after deed r) (start (before deed r)).world.run
+  pub grows : (r : Run) → Fits deed r → Grows (after (mended deed) r) (start (before (mended deed) r)).world.run
   pub input : (r : Run) → Fits deed r → r.terminal ≡ None → r.input ≡ [] → (start (before deed r)).world.run.input ≡ []
   pub failures : (r : Run) → Fits deed r → r.terminal ≡ None → r.answers ≡ [] → (start (before deed r)).world.run.failures ≡ (after deed r).failures
 
@@ -94,4 +99,4 @@ module _ {D T : Type 0} {G : Ghosts D} (H : TerminalGhosts T) where
     pub came : HasModel old → LineCame start deed e new world
     pub heard : Heard H (heard_of e) deed was new.at_end terminal terminal'
     pub cause : HasRisenBy deed.failures (G.failures (device old)) (G.failures (device new))
-    pub keeps : HasModel old → MapsKept G x.maps world.maps (device old) (device new) deed.saves
+    pub keeps : HasModel old → MapsKept G x.maps world.maps (device old) (device new) deed.saves deed.wear

@@ -1,13 +1,13 @@
 -- What each service promises: what comes of the line's value where it is done, and what terminal and device saw of it.
 use Rattle.std.specs.Prelude.{◌≡◌, ℕ, ◌≤◌, Bool, true, false, ◌||◌, List, [], ◌++◌, Option, Some, None, Result, Ok, Err}
 use Rattle.std.specs.Io.KnownBytes.{Appends, Consumes}
-use Rattle.sector_disk.specs.Counting.{HasRisen}
+use Rattle.sector_disk.specs.Counting.{count_up}
 use Rattle.sector_disk.specs.Moments.{Elapses}
 use Rattle.sector_disk.specs.declared.device.SectorDevice.{Ghosts}
 use Rattle.journal.specs.Maps.{Maps}
-use Rattle.block_words.specs.Words.{Answer, Save}
+use Rattle.block_words.specs.Words.{Answer, Save, Wear}
 use Rattle.block_words.specs.Kept.{last_map}
-use Rattle.block_words.specs.Calls.{CallKeeps}
+use Rattle.block_words.specs.Calls.{CallKeeps, WearsAtMost}
 use Rattle.cell_machine.specs.Fault.{Ending, Quits, Breaks, Faults}
 use Rattle.cell_machine.specs.Frames.{Core, Around, Level, around_of}
 use Rattle.cell_machine.specs.Value.{Outcome, Did, Ends}
@@ -17,12 +17,12 @@ use Rattle.interpreter.specs.declared.fault.Stop.{Stop}
 use Rattle.interpreter.specs.declared.fault.Stop.TheVariants as stop
 use Rattle.interpreter.specs.declared.forth.Forth.{Forth}
 use Rattle.interpreter.specs.Stops.{fault_of, ending_of}
-use Rattle.interpreter.specs.Deeds.{Deed, before, after, Fits, asking}
+use Rattle.interpreter.specs.Deeds.{Deed, before, after, Fits, mended, asking}
 use Rattle.interpreter.specs.Law.{run_after, Grows}
 use Rattle.interpreter.specs.Promise.{HasRisenBy}
 use Rattle.interpreter.specs.State.{World, Run, with_run}
 use Rattle.interpreter.specs.Standing.{core, device, HasModel, Stands, StandsAfter}
-use Rattle.interpreter.specs.Terminal.{AppendsSome}
+use Rattle.interpreter.specs.Terminal.{Begins}
 
 -- ---- what comes of it
 
@@ -42,15 +42,17 @@ pub record BreaksOff (start : Run → Outcome World) (deed : Deed) (said : Core)
   pub run : Run
   pub ends : start (before deed r) ≡ Ends Breaks said (with_run run x)
   pub input : run.input ≡ r.input
+  pub output : run.output ≡ r.output ++ deed.printed
   pub saves : run.saves ≡ r.saves ++ deed.saves
 
--- The terminal fails at the last call: what it was given to print counts as printed. With one that doesn't fail, output and
--- saves go on from there, without input none comes, and without answers no more failure.
+-- The terminal fails at the last call, and prints nothing in it. With one that lasts longer that call prints all that it was
+-- given, and output and saves go on from there. With one that doesn't fail none comes without input, and no more failure
+-- without answers.
 pub record Broke (start : Run → Outcome World) (deed : Deed) (c : Core) (x : World) : Type 0 where
   pub core : Core
   pub like : core.space ≡ c.space
   pub breaks : (r : Run) → Fits deed r → r.terminal ≡ Some 0 → BreaksOff start deed core x r
-  pub grows : (r : Run) → Fits deed r → r.terminal ≡ None → Grows (after deed r) (run_after (start (before deed r)))
+  pub grows : (r : Run) → Fits deed r → Grows (after (mended deed) r) (run_after (start (before (mended deed) r)))
   pub input : (r : Run) → Fits deed r → r.terminal ≡ None → r.input ≡ [] → (run_after (start (before deed r))).input ≡ []
   pub answers : (r : Run) → Fits deed r → r.terminal ≡ None → r.answers ≡ [] → (run_after (start (before deed r))).answers ≡ []
   pub failures : (r : Run) → Fits deed r → r.terminal ≡ None → r.answers ≡ [] → (run_after (start (before deed r))).failures ≡ (after deed r).failures
@@ -75,10 +77,10 @@ Hands {B} start deed (Err f) c x =
 
 -- ---- what terminal and device saw
 
--- all was printed, or a beginning of it where the terminal failed
-abbrev pub Printed : Result (Unit {0}) Stop → Option (List ℕ) → Option (List ℕ) → List ℕ → Type 0
-Printed (Err stop.Io) output printed bytes = AppendsSome output printed bytes
-Printed _ output printed bytes = Appends output printed bytes
+-- all was printed, and where the terminal failed a beginning of what it was given then
+abbrev pub Printed : Result (Unit {0}) Stop → (output printed : Option (List ℕ)) → (bytes tried : List ℕ) → Type 0
+Printed (Err stop.Io) output printed bytes tried = (part : List ℕ) × Begins part tried × Appends output printed (bytes ++ part)
+Printed _ output printed bytes tried = Appends output printed bytes
 
 -- Once the line met the end of the input, nothing more is asked of the terminal.
 pub record Heard {T : Type 0} (H : TerminalGhosts T) (result : Result (Unit {0}) Stop) (deed : Deed) (was is : Bool) (old new : T) : Type 0 where
@@ -86,14 +88,20 @@ pub record Heard {T : Type 0} (H : TerminalGhosts T) (result : Result (Unit {0})
   pub at_end : was ≡ false → deed.met ≡ true → H.input new ≡ Some []
   pub met : is ≡ (deed.met || was)
   pub no_more : was ≡ true → (deed.given ≡ []) × (H.input new ≡ H.input old)
-  pub printed : Printed result (H.output old) (H.output new) deed.printed
+  pub printed : Printed result (H.output old) (H.output new) deed.printed deed.tried
 
--- what a stop may have left since these maps were those of an open store
-pub record MapsKept {D : Type 0} (G : Ghosts D) (m m' : Maps) (old new : D) (made : List Save) : Type 0 where
+-- what a stop may have left since these maps were those of an open store, and how much the device began since
+pub record MapsKept {D : Type 0} (G : Ghosts D) (m m' : Maps) (old new : D) (made : List Save) (wear : Wear) : Type 0 where
   pub kept : CallKeeps G m.closed old new m.saved made
   pub shuts : m.closed ≡ true → m'.closed ≡ true
   pub none : m.closed ≡ true → made ≡ []
   pub last : m'.closed ≡ false → m'.saved ≡ last_map m.saved made
+  pub wears : WearsAtMost G old new wear
+
+-- the device's count of failures after a call, by what an error makes of it
+abbrev pub count_after : {A E : Type 0} → (E → ℕ → ℕ) → Result A E → ℕ → ℕ
+count_after of (Ok value) count = count
+count_after of (Err error) count = of error count
 
 -- P where the terminal failed, else Q
 abbrev pub WhereBroke : Result (Unit {0}) Stop → Type 0 → Type 0 → Type 0
@@ -105,7 +113,7 @@ pub record Lasts {D T : Type 0} (G : Ghosts D) (H : TerminalGhosts T) (result : 
   pub time : Elapses G.time G.left_since old new
   pub model : G.keeps_model new ≡ G.keeps_model old
   pub device_failures : G.failures old ≤ G.failures new
-  pub terminal_failures : WhereBroke result (HasRisen (H.failures terminal) (H.failures terminal')) (H.failures terminal' ≡ H.failures terminal)
+  pub terminal_failures : WhereBroke result (H.failures terminal' ≡ count_up (H.failures terminal)) (H.failures terminal' ≡ H.failures terminal)
   pub no_more : H.may_give terminal' ≤ H.may_give terminal
   pub same : H.identity terminal' ≡ H.identity terminal
 
@@ -141,14 +149,15 @@ module _ {D : Type 0} {G : Ghosts D} where
   pub record Consulted (start : Run → Outcome World) (result : Result (Unit {0}) Fault) (old new : Forth D G) (levels : List Level) (x : World) : Type 0 where
     pub answers : List Answer
     pub failures : ℕ
+    pub wear : Wear
     pub saves : List Save
     pub world : World
     pub stands : StandsAfter result new levels world
     pub steps : new.steps ≤ old.steps
     pub at_end : new.at_end ≡ old.at_end
-    pub comes : HasModel old → Comes start (asking answers failures saves) (stopped result) (core new) world
+    pub comes : HasModel old → Comes start (asking answers failures wear saves) (stopped result) (core new) world
     pub cause : HasRisenBy failures (G.failures (device old)) (G.failures (device new))
-    pub keeps : HasModel old → MapsKept G x.maps world.maps (device old) (device new) saves
+    pub keeps : HasModel old → MapsKept G x.maps world.maps (device old) (device new) saves wear
 
   abbrev pub Consults : (does : Around → Core → World → Outcome World) → (result : Result (Unit {0}) Fault) → (old new : Forth D G) → Type 0
   Consults does result old new =
@@ -159,19 +168,24 @@ module _ {D : Type 0} {G : Ghosts D} where
   pub record Handed {B : Type 0} (start : Run → (B → Core → World → Outcome World) → Outcome World) (result : Result B Fault) (old new : Forth D G) (levels : List Level) (x : World) : Type 0 where
     pub answers : List Answer
     pub failures : ℕ
+    pub wear : Wear
     pub saves : List Save
     pub world : World
     pub stands : StandsAfter result new levels world
     pub steps : new.steps ≤ old.steps
     pub at_end : new.at_end ≡ old.at_end
-    pub hands : HasModel old → Hands start (asking answers failures saves) result (core new) world
+    pub hands : HasModel old → Hands start (asking answers failures wear saves) result (core new) world
     pub cause : HasRisenBy failures (G.failures (device old)) (G.failures (device new))
-    pub keeps : HasModel old → MapsKept G x.maps world.maps (device old) (device new) saves
+    pub keeps : HasModel old → MapsKept G x.maps world.maps (device old) (device new) saves wear
 
   abbrev pub HandsOn : {B : Type 0} → (takes : Core → World → (B → Core → World → Outcome World) → Outcome World) → (result : Result B Fault) → (old new : Forth D G) → Type 0
   HandsOn {B} takes result old new =
       (levels : List Level) (x : World) → Stands old levels x
       → Handed (λ r go. takes (core old) (with_run r x) go) result old new levels x
+
+  -- At any device, one failure more is counted where the result tells it, and else as many as before.
+  abbrev pub Tells : {A E : Type 0} → (E → ℕ → ℕ) → Result A E → (old new : Forth D G) → Type 0
+  Tells of result old new = G.failures (device new) ≡ count_after of result (G.failures (device old))
 
   -- it leaves these alone at any device
   pub record Spares (old new : Forth D G) : Type 0 where
@@ -189,7 +203,7 @@ module _ {D T : Type 0} {G : Ghosts D} (H : TerminalGhosts T) where
     pub comes : HasModel old → Comes start deed result (core new) world
     pub heard : Heard H result deed old.at_end new.at_end terminal terminal'
     pub cause : HasRisenBy deed.failures (G.failures (device old)) (G.failures (device new))
-    pub keeps : HasModel old → MapsKept G x.maps world.maps (device old) (device new) deed.saves
+    pub keeps : HasModel old → MapsKept G x.maps world.maps (device old) (device new) deed.saves deed.wear
 
   -- a service
   abbrev pub Serves : (does : Around → Core → World → Outcome World) → (result : Result (Unit {0}) Stop) → (old new : Forth D G) → (terminal terminal' : T) → Type 0

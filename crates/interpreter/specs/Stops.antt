@@ -1,4 +1,8 @@
 -- The stops of the code, as the endings of the definitions.
+use Rattle.std.specs.Prelude.{ℕ}
+use Rattle.sector_disk.specs.Counting.{count_up}
+use Rattle.block_words.specs.declared.BlockFault.{BlockFault}
+use Rattle.block_words.specs.declared.BlockFault.TheVariants as blocks
 use Rattle.cell_machine.specs.Fault as fault
 use Rattle.cell_machine.specs.Fault.{Ending, Faults, Quits, Aborts, Breaks}
 use Rattle.interpreter.specs.declared.fault.Fault.{Fault}
@@ -41,3 +45,18 @@ ending_of (stop.Fault f) = Faults (fault_of f)
 ending_of stop.Quit = Quits
 ending_of stop.Abort = Aborts
 ending_of stop.Io = Breaks
+
+-- the device's count of failures where a fault is told: one more for DEVICE
+abbrev pub fault_count : Fault → ℕ → ℕ
+fault_count found.Device count = count_up count
+fault_count _ count = count
+
+-- the same where the blocks refused a word
+abbrev pub block_count : BlockFault → ℕ → ℕ
+block_count blocks.Device count = count_up count
+block_count _ count = count
+
+-- the same where the line is stopped
+abbrev pub stop_count : Stop → ℕ → ℕ
+stop_count (stop.Fault f) count = fault_count f count
+stop_count _ count = count

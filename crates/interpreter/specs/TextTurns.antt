@@ -1,7 +1,7 @@
 -- What a turn at the text comes to: a word of the stream is done, or the text is at its end.
 use Rattle.std.specs.Prelude.{◌≡◌, ℕ, ◌≤◌, ◌/◌, ◌%◌, List, [], ◌∷◌, Result, Ok, Err}
 use Rattle.sector_disk.specs.declared.device.SectorDevice.{Ghosts}
-use Rattle.block_words.specs.Words.{Answer, Save}
+use Rattle.block_words.specs.Words.{Answer, Save, Wear}
 use Rattle.cell_machine.specs.Fault.{Faults}
 use Rattle.cell_machine.specs.Frames.{Core, Level, Load, Around, charge, branch, around_of}
 use Rattle.cell_machine.specs.Value.{Outcome, Did, Ends, and_then, word_value}
@@ -73,12 +73,13 @@ module _ {D : Type 0} {G : Ghosts D} where
   pub record Advanced (n : ℕ) (start : Run → Outcome World) (result : Result Turn Fault) (old new : Forth D G) (x : World) : Type 0 where
     pub answers : List Answer
     pub failures : ℕ
+    pub wear : Wear
     pub saves : List Save
     pub levels : List Level
     pub world : World
     pub stands : StandsAfterTurn (stopped result) new levels world
     pub steps : new.steps ≤ old.steps
     pub at_end : new.at_end ≡ old.at_end
-    pub comes : HasModel old → TurnComes n start (asking answers failures saves) (stopped result) levels (core new) world
+    pub comes : HasModel old → TurnComes n start (asking answers failures wear saves) (stopped result) levels (core new) world
     pub cause : HasRisenBy failures (G.failures (device old)) (G.failures (device new))
-    pub keeps : HasModel old → MapsKept G x.maps world.maps (device old) (device new) saves
+    pub keeps : HasModel old → MapsKept G x.maps world.maps (device old) (device new) saves wear

@@ -64,7 +64,7 @@ module _ {D T : Type 0} {G : Ghosts D} (H : TerminalGhosts T) (n : ℕ) where
     pub comes : HasModel old → TurnComes n start deed result levels (core new) world
     pub heard : Heard H (seen result) deed old.at_end new.at_end terminal terminal'
     pub cause : HasRisenBy deed.failures (G.failures (device old)) (G.failures (device new))
-    pub keeps : HasModel old → MapsKept G x.maps world.maps (device old) (device new) deed.saves
+    pub keeps : HasModel old → MapsKept G x.maps world.maps (device old) (device new) deed.saves deed.wear
 
 -- nothing is left to do above the text of the line, or of the innermost load
 abbrev pub IsAtText : List Level → Type 0

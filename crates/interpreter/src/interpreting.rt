@@ -1,7 +1,7 @@
 //! The text interpreter: a line's loop over what the machine asks for and what the stream holds.
-ghost use Rattle.std.specs.Prelude.{◌≡◌};
+ghost use Rattle.std.specs.Prelude.{◌≡◌, ℕ};
 ghost use Rattle.cell_machine.specs.Events.{fault_of as machine_fault_of};
-ghost use Rattle.interpreter.specs.Stops.{fault_of};
+ghost use Rattle.interpreter.specs.Stops.{fault_of, fault_count};
 
 use crate::fault::{Fault, Stop};
 use crate::forth::Forth;
@@ -21,7 +21,8 @@ pub enum Turn {
 
 /// The fault that the machine found.
 fn machine_fault(fault: MachineFault) -> Fault
-    ensures { fault_of result ≡ machine_fault_of fault }
+    ensures fault { fault_of result ≡ machine_fault_of fault }
+    ensures tells { (count : ℕ) → fault_count result count ≡ count }
 {
     match fault {
         MachineFault::StackEmpty => Fault::StackEmpty,
@@ -39,7 +40,8 @@ impl<D: SectorDevice> Forth<D> {
     ghost use Rattle.interpreter.specs.Law.{left};
     ghost use Rattle.interpreter.specs.State.{World, with_run};
     ghost use Rattle.interpreter.specs.Standing.{core, device, Stands, IsSound};
-    ghost use Rattle.interpreter.specs.Serving.{Ran, Lasts};
+    ghost use Rattle.interpreter.specs.Serving.{Ran, Lasts, Tells};
+    ghost use Rattle.interpreter.specs.Stops.{stop_count};
     ghost use Rattle.interpreter.specs.Turns.{Turned, LastsTurn, weight, GoesDown, IsAtText};
 
     /// What is left to do in the machine, up to what it asks for; and that, or a word of the text.
@@ -49,6 +51,7 @@ impl<D: SectorDevice> Forth<D> {
             → Turned T.Terminal n (λ r. left n levels (core self.old) (with_run r x)) result self.old self.new terminal.old terminal.new x }
         ensures down { GoesDown result (weight self.old) (weight self.new) }
         ensures lasts { LastsTurn D.SectorDevice T.Terminal result (device self.old) (device self.new) terminal.old terminal.new }
+        ensures tells { Tells stop_count result self.old self.new }
         ensures budget { self.new.budget ≡ self.old.budget }
     {
         services();
@@ -77,6 +80,7 @@ impl<D: SectorDevice> Forth<D> {
             → Turned T.Terminal n (λ r. left n levels (core self.old) (with_run r x)) result self.old self.new terminal.old terminal.new x }
         ensures down { GoesDown result (weight self.old) (weight self.new) }
         ensures lasts { LastsTurn D.SectorDevice T.Terminal result (device self.old) (device self.new) terminal.old terminal.new }
+        ensures tells { Tells stop_count result self.old self.new }
         ensures budget { self.new.budget ≡ self.old.budget }
     {
         let _ = terminal;
@@ -92,6 +96,7 @@ impl<D: SectorDevice> Forth<D> {
         ensures ran { (n : ℕ) (levels : List Level) (x : World) → self.old.steps < n → Stands self.old levels x
             → Ran T.Terminal (λ r. left n levels (core self.old) (with_run r x)) result self.old self.new terminal.old terminal.new [] x }
         ensures lasts { Lasts D.SectorDevice T.Terminal result (device self.old) (device self.new) terminal.old terminal.new }
+        ensures tells { Tells stop_count result self.old self.new }
         ensures budget { self.new.budget ≡ self.old.budget }
     {
         'turns: loop {

@@ -2,7 +2,7 @@
 ghost use Rattle.std.specs.Prelude.{◌≡◌, ◌++◌, ◌∷◌, [], ◌≤◌, ◌+◌, length, codes};
 ghost use Rattle.arrayvec.specs.ArrayVec.{array_vec_len};
 ghost use Rattle.interpreter.specs.FaultNames.{fault_name};
-ghost use Rattle.interpreter.specs.Stops.{fault_of};
+ghost use Rattle.interpreter.specs.Stops.{fault_of, fault_count};
 
 use crate::fault::{Fault, Stop};
 use crate::forth::Forth;
@@ -58,7 +58,7 @@ impl<D: SectorDevice> Forth<D> {
     ghost use Rattle.interpreter.specs.Lines.{replied, ended, after_fault, end_of_line, at_rest, dropped, with_empty_stack, with_line, line};
     ghost use Rattle.interpreter.specs.State.{World, Forth as Abstract, with_run};
     ghost use Rattle.interpreter.specs.Standing.{core, device, Rests, IsAtRest, Stands};
-    ghost use Rattle.interpreter.specs.Lining.{Lined, LastsLine, line_end, IsLikely, HasSpace, Waits, IsSystem, is_broken};
+    ghost use Rattle.interpreter.specs.Lining.{Lined, LastsLine, line_end, IsLikely, HasSpace, Waits, IsSystem, is_broken, Counts};
     ghost use Rattle.block_words.specs.Words.{Save};
     ghost use Rattle.interpreter.specs.Promise.{Answers, Keeps};
     ghost use Rattle.interpreter.specs.Serving.{Spares};
@@ -93,6 +93,8 @@ impl<D: SectorDevice> Forth<D> {
         ensures lined { (c : Core) (x : World) → IsLikely c self.old → Rests self.old x
             → Lined T.Terminal (λ r. replied (line_end end) (print bytes.now c (with_run r x))) result self.old.at_end self.old self.new terminal.old terminal.new x }
         ensures lasts { LastsLine D.SectorDevice T.Terminal result (device self.old) (device self.new) terminal.old terminal.new }
+        ensures tells { D.failures (device self.new) ≡ D.failures (device self.old) }
+        ensures counts { (before after : ℕ) → Counts end before after → Counts result before after }
         ensures budget { self.new.budget ≡ self.old.budget }
     {
         match terminal.emit(bytes) {
@@ -109,6 +111,8 @@ impl<D: SectorDevice> Forth<D> {
         ensures lined { (c : Core) (x : World) → HasSpace c self.old → Rests self.old x
             → Lined T.Terminal (λ r. after_fault (fault_of fault) c (with_run r x)) result self.old.at_end self.old self.new terminal.old terminal.new x }
         ensures lasts { LastsLine D.SectorDevice T.Terminal result (device self.old) (device self.new) terminal.old terminal.new }
+        ensures tells { D.failures (device self.new) ≡ D.failures (device self.old) }
+        ensures counts { (count : ℕ) → Counts result count (fault_count fault count) }
         ensures budget { self.new.budget ≡ self.old.budget }
     {
         self.abandon();
@@ -121,6 +125,8 @@ impl<D: SectorDevice> Forth<D> {
         ensures lined { (c : Core) (x : World) → IsLikely c self.old → Rests self.old x
             → Lined T.Terminal (λ r. ended (Ends Quits c (with_run r x))) result self.old.at_end self.old self.new terminal.old terminal.new x }
         ensures lasts { LastsLine D.SectorDevice T.Terminal result (device self.old) (device self.new) terminal.old terminal.new }
+        ensures tells { D.failures (device self.new) ≡ D.failures (device self.old) }
+        ensures counts { (count : ℕ) → Counts result count count }
         ensures budget { self.new.budget ≡ self.old.budget }
     {
         self.close();
@@ -132,6 +138,8 @@ impl<D: SectorDevice> Forth<D> {
         ensures lined { (c : Core) (x : World) → HasSpace c self.old → Rests self.old x
             → Lined T.Terminal (λ r. ended (Ends Aborts c (with_run r x))) result self.old.at_end self.old self.new terminal.old terminal.new x }
         ensures lasts { LastsLine D.SectorDevice T.Terminal result (device self.old) (device self.new) terminal.old terminal.new }
+        ensures tells { D.failures (device self.new) ≡ D.failures (device self.old) }
+        ensures counts { (count : ℕ) → Counts result count count }
         ensures budget { self.new.budget ≡ self.old.budget }
     {
         self.abandon();
@@ -150,6 +158,8 @@ impl<D: SectorDevice> Forth<D> {
         ensures lined { (c : Core) (x : World) → IsLikely c self.old → Rests self.old x
             → Lined T.Terminal (λ r. end_of_line (compiling c) c (with_run r x)) result self.old.at_end self.old self.new terminal.old terminal.new x }
         ensures lasts { LastsLine D.SectorDevice T.Terminal result (device self.old) (device self.new) terminal.old terminal.new }
+        ensures tells { D.failures (device self.new) ≡ D.failures (device self.old) }
+        ensures counts { (count : ℕ) → Counts result count count }
         ensures budget { self.new.budget ≡ self.old.budget }
     {
         if self.is_compiling() {
@@ -184,11 +194,12 @@ impl<D: SectorDevice> Forth<D> {
         ensures sound { IsAtRest self.new }
         ensures runs { (opening : Abstract) → IsSystem self.old opening
             → (closing : Abstract) × (made : List Save) × IsSystem self.new closing
-            × Answers (line_end result) opening text.now closing
+            × Answers D.SectorDevice (line_end result) opening text.now closing
             (T.input terminal.old) (T.input terminal.new) (T.output terminal.old) (T.output terminal.new)
-            (D.failures (device self.old)) (D.failures (device self.new)) made
+            (device self.old) (device self.new) made
             × Keeps D.SectorDevice opening closing (device self.old) (device self.new) made }
         ensures lasts { LastsLine D.SectorDevice T.Terminal result (device self.old) (device self.new) terminal.old terminal.new }
+        ensures tells { Counts result (D.failures (device self.old)) (D.failures (device self.new)) }
     {
         self.line(text, terminal)
     }
@@ -199,6 +210,7 @@ impl<D: SectorDevice> Forth<D> {
         ensures lined { (opening : Abstract) → Waits opening self.old
             → Lined T.Terminal (λ r. line opening text.now r) result false self.old self.new terminal.old terminal.new opening.world }
         ensures lasts { LastsLine D.SectorDevice T.Terminal result (device self.old) (device self.new) terminal.old terminal.new }
+        ensures tells { Counts result (D.failures (device self.old)) (D.failures (device self.new)) }
         ensures budget { self.new.budget ≡ self.old.budget }
     {
         self.at_end = false;

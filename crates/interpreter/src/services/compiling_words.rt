@@ -1,6 +1,6 @@
 //! Words on the open definition.
 ghost use Rattle.std.specs.Prelude.{◌≡◌, ◌≤◌, ◌<◌, ℕ, List, take, Ok};
-ghost use Rattle.interpreter.specs.Stops.{fault_of};
+ghost use Rattle.interpreter.specs.Stops.{fault_of, fault_count};
 ghost use Rattle.compiler.specs.Promise.{fault_of as compile_fault_of};
 ghost use Rattle.lexicon.specs.Promise.{fault_of as refusal_fault_of};
 
@@ -12,7 +12,8 @@ use sector_disk::SectorDevice;
 
 /// Why the open definition refused something, as the line says it.
 pub(crate) fn compile_fault(refusal: CompileRefusal) -> Fault
-    ensures { fault_of result ≡ compile_fault_of refusal }
+    ensures fault { fault_of result ≡ compile_fault_of refusal }
+    ensures tells { (count : ℕ) → fault_count result count ≡ count }
 {
     match refusal {
         CompileRefusal::NoDefinition => Fault::NoDefinition,
@@ -24,7 +25,8 @@ pub(crate) fn compile_fault(refusal: CompileRefusal) -> Fault
 
 /// Why the lexicon refused something, as the line says it.
 pub(crate) fn lexicon_fault(refusal: Refusal) -> Fault
-    ensures { fault_of result ≡ refusal_fault_of refusal }
+    ensures fault { fault_of result ≡ refusal_fault_of refusal }
+    ensures tells { (count : ℕ) → fault_count result count ≡ count }
 {
     match refusal {
         Refusal::DefinitionOpen => Fault::DefinitionOpen,
@@ -50,7 +52,7 @@ impl<D: SectorDevice> Forth<D> {
     ghost use Rattle.interpreter.specs.Lexicon.{language_of};
     ghost use Rattle.interpreter.specs.Naming.{give_part};
     ghost use Rattle.interpreter.specs.Standing.{core, device, Stands};
-    ghost use Rattle.interpreter.specs.Serving.{Alters, Altered, Spares, Consults, LastsAlone};
+    ghost use Rattle.interpreter.specs.Serving.{Alters, Altered, Spares, Consults, LastsAlone, Tells};
     ghost use Rattle.lexicon.specs.Stands.{IsSound, IsPart};
 
     /// A structure word, or `DOES>`.
@@ -58,6 +60,7 @@ impl<D: SectorDevice> Forth<D> {
         requires sound { IsSound self.old.lexicon }
         ensures alters { Alters (λ a c x. on_compile (structure_word structure) c x) result self.old self.new }
         ensures spares { Spares self.old self.new }
+        ensures tells { Tells fault_count result self.old self.new }
     {
         match self.lexicon.add_structure(structure) {
             Ok(()) => Ok(()),
@@ -70,6 +73,7 @@ impl<D: SectorDevice> Forth<D> {
         requires sound { IsSound self.old.lexicon }
         ensures alters { Alters (λ a c x. changing (λ used. add_literal used cell) c x) result self.old self.new }
         ensures spares { Spares self.old self.new }
+        ensures tells { Tells fault_count result self.old self.new }
     {
         match self.lexicon.literal(cell) {
             Ok(()) => Ok(()),
@@ -84,6 +88,7 @@ impl<D: SectorDevice> Forth<D> {
         requires most { token ≤ most_tokens }
         ensures alters { Alters (λ a c x. compile_word token c x) result self.old self.new }
         ensures spares { Spares self.old self.new }
+        ensures tells { Tells fault_count result self.old self.new }
     {
         match self.lexicon.compile(token) {
             Ok(()) => Ok(()),
@@ -96,6 +101,7 @@ impl<D: SectorDevice> Forth<D> {
         requires sound { IsSound self.old.lexicon }
         ensures alters { Alters (λ a c x. on_compile Literal c x) result self.old self.new }
         ensures spares { Spares self.old self.new }
+        ensures tells { Tells fault_count result self.old self.new }
     {
         if !self.lexicon.is_open() {
             return Err(Fault::NoDefinition);
@@ -111,6 +117,7 @@ impl<D: SectorDevice> Forth<D> {
         requires sound { IsSound self.old.lexicon }
         ensures alters { Alters (λ a c x. on_compile Semicolon c x) result self.old self.new }
         ensures spares { Spares self.old self.new }
+        ensures tells { Tells fault_count result self.old self.new }
     {
         match self.lexicon.finish() {
             Ok(()) => {
@@ -129,6 +136,7 @@ impl<D: SectorDevice> Forth<D> {
         ensures spares { Spares self.old self.new }
         ensures steps { self.new.steps ≡ self.old.steps }
         ensures returns { self.new.returns ≡ self.old.returns }
+        ensures tells { Tells fault_count result self.old self.new }
     {
         match self.lexicon.give_part(place) {
             Ok(()) => Ok(()),
@@ -153,6 +161,7 @@ impl<D: SectorDevice> Forth<D> {
         requires sound { IsSound self.old.lexicon }
         ensures consults { Consults (λ a c x. on_compile Colon c x) result self.old self.new }
         ensures lasts { LastsAlone D.SectorDevice (device self.old) (device self.new) }
+        ensures tells { Tells fault_count result self.old self.new }
         ensures budget { self.new.budget ≡ self.old.budget }
     {
         match self.take_new_word() {
@@ -169,6 +178,7 @@ impl<D: SectorDevice> Forth<D> {
         requires sound { IsSound self.old.lexicon }
         ensures consults { Consults (λ a c x. on_compile CompileTick c x) result self.old self.new }
         ensures lasts { LastsAlone D.SectorDevice (device self.old) (device self.new) }
+        ensures tells { Tells fault_count result self.old self.new }
         ensures budget { self.new.budget ≡ self.old.budget }
     {
         if !self.lexicon.is_open() {
@@ -185,6 +195,7 @@ impl<D: SectorDevice> Forth<D> {
         requires sound { IsSound self.old.lexicon }
         ensures consults { Consults (λ a c x. on_compile BracketCompile c x) result self.old self.new }
         ensures lasts { LastsAlone D.SectorDevice (device self.old) (device self.new) }
+        ensures tells { Tells fault_count result self.old self.new }
         ensures budget { self.new.budget ≡ self.old.budget }
     {
         if !self.lexicon.is_open() {
@@ -202,6 +213,7 @@ impl<D: SectorDevice> Forth<D> {
         requires within { count ≤ 1024 }
         ensures alters { Alters (λ a c x. changing (λ used. add_text used (kind_of kind) (take count self.old.text)) c x) result self.old self.new }
         ensures spares { Spares self.old self.new }
+        ensures tells { Tells fault_count result self.old self.new }
     {
         match self.lexicon.add_text(kind, &self.text[..count]) {
             Ok(()) => Ok(()),
@@ -214,6 +226,7 @@ impl<D: SectorDevice> Forth<D> {
         requires sound { IsSound self.old.lexicon }
         ensures consults { Consults (λ a c x. compile_text (kind_of kind) c x) result self.old self.new }
         ensures lasts { LastsAlone D.SectorDevice (device self.old) (device self.new) }
+        ensures tells { Tells fault_count result self.old self.new }
         ensures budget { self.new.budget ≡ self.old.budget }
     {
         if !self.lexicon.is_open() {

@@ -22,7 +22,8 @@ impl<D: SectorDevice> Forth<D> {
     ghost use Rattle.interpreter.specs.Law.{left};
     ghost use Rattle.interpreter.specs.Text.{serve, on_service, may_execute};
     ghost use Rattle.interpreter.specs.Standing.{core, Rests, Stands};
-    ghost use Rattle.interpreter.specs.Serving.{Spares};
+    ghost use Rattle.interpreter.specs.Serving.{Spares, Tells};
+    ghost use Rattle.interpreter.specs.Stops.{fault_count};
     ghost use Rattle.interpreter.specs.Turns.{Entered};
 
     /// May `EXECUTE` run the word of this token?
@@ -44,6 +45,7 @@ impl<D: SectorDevice> Forth<D> {
         ensures entered { (m : ℕ) (levels : List Level) (x : World) → self.old.steps ≤ m → Stands self.old levels x
             → Entered (suc m) (λ r. and_then (on_service (suc m) (λ a due c x. serve m a due c x) Execute (around_of levels) (core self.old) (with_run r x)) (λ c x. left (suc m) levels c x)) result self.old self.new x }
         ensures spares { Spares self.old self.new }
+        ensures tells { Tells fault_count result self.old self.new }
     {
         let Ok(token) = self.stack.pop() else {
             return Err(Fault::StackEmpty);
@@ -63,6 +65,7 @@ impl<D: SectorDevice> Forth<D> {
         ensures entered { (m : ℕ) (levels : List Level) (x : World) → self.old.steps ≤ m → Stands self.old levels x
             → Entered (suc m) (λ r. and_then (on_service (suc m) (λ a due c x. serve m a due c x) LoadBlock (around_of levels) (core self.old) (with_run r x)) (λ c x. left (suc m) levels c x)) result self.old self.new x }
         ensures spares { Spares self.old self.new }
+        ensures tells { Tells fault_count result self.old self.new }
     {
         let Ok(block) = self.stack.pop() else {
             return Err(Fault::StackEmpty);

@@ -21,7 +21,8 @@ pub(crate) struct Look {
 
 impl<D: SectorDevice> Forth<D> {
     ghost use Rattle.interpreter.specs.Standing.{device};
-    ghost use Rattle.interpreter.specs.Serving.{HandsOn, LastsAlone};
+    ghost use Rattle.interpreter.specs.Serving.{HandsOn, LastsAlone, Tells};
+    ghost use Rattle.interpreter.specs.Stops.{fault_count};
     ghost use Rattle.interpreter.specs.Taken.{line_of};
     ghost use Rattle.interpreter.specs.Looking.{look, looked, seen_from, seen_in};
 
@@ -32,6 +33,7 @@ impl<D: SectorDevice> Forth<D> {
         ensures lasts { LastsAlone D.SectorDevice (device self.old) (device self.new) }
         ensures within { IfOk result (λ l. l.count ≤ 1024) }
         ensures whole { IfOk result (λ l. length (take l.count self.new.text) ≡ l.count) }
+        ensures tells { Tells fault_count result self.old self.new }
     {
         match cell_of(&self.space, BLK) {
             0 => Ok(self.look_at_line()),
@@ -60,6 +62,7 @@ impl<D: SectorDevice> Forth<D> {
         ensures lasts { LastsAlone D.SectorDevice (device self.old) (device self.new) }
         ensures within { IfOk result (λ l. l.count ≤ 1024) }
         ensures whole { IfOk result (λ l. length (take l.count self.new.text) ≡ l.count) }
+        ensures tells { Tells fault_count result self.old self.new }
     {
         let mut text = [0; 1024];
         match self.blocks.source(&self.space, block, &mut text) {

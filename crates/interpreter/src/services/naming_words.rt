@@ -42,12 +42,14 @@ impl<D: SectorDevice> Forth<D> {
     ghost use Rattle.dictionary.specs.Words.{entry};
     ghost use Rattle.lexicon.specs.Language.{Language};
     ghost use Rattle.lexicon.specs.Stands.{Stands as Means, IsSound, IsWord};
-    ghost use Rattle.interpreter.specs.Serving.{Alters, Spares, Consults, LastsAlone};
+    ghost use Rattle.interpreter.specs.Serving.{Alters, Spares, Consults, LastsAlone, Tells};
+    ghost use Rattle.interpreter.specs.Stops.{fault_count};
 
     /// `HERE`.
     pub(crate) fn here(&mut self) -> Result<(), Fault>
         ensures alters { Alters (λ a c x. on_naming Here a c x) result self.old self.new }
         ensures spares { Spares self.old self.new }
+        ensures tells { Tells fault_count result self.old self.new }
     {
         let here = self.lexicon.here();
         self.push(here)
@@ -58,6 +60,7 @@ impl<D: SectorDevice> Forth<D> {
         requires sound { IsSound self.old.lexicon }
         ensures alters { Alters (λ a c x. on_naming Comma a c x) result self.old self.new }
         ensures spares { Spares self.old self.new }
+        ensures tells { Tells fault_count result self.old self.new }
     {
         let cell = match self.stack.pop() {
             Ok(cell) => cell,
@@ -77,6 +80,7 @@ impl<D: SectorDevice> Forth<D> {
         requires sound { IsSound self.old.lexicon }
         ensures alters { Alters (λ a c x. on_naming Pad a c x) result self.old self.new }
         ensures spares { Spares self.old self.new }
+        ensures tells { Tells fault_count result self.old self.new }
     {
         let here = self.lexicon.here();
         self.push(here + PAD_OFFSET)
@@ -86,6 +90,7 @@ impl<D: SectorDevice> Forth<D> {
     pub(crate) fn allot(&mut self) -> Result<(), Fault>
         ensures alters { Alters (λ a c x. on_naming Allot a c x) result self.old self.new }
         ensures spares { Spares self.old self.new }
+        ensures tells { Tells fault_count result self.old self.new }
     {
         let n = match self.stack.pop() {
             Ok(n) => n,
@@ -107,6 +112,7 @@ impl<D: SectorDevice> Forth<D> {
         requires { length self.old.stack < 256 }
         ensures alters { Alters (λ a c x. pushing top (record c { stack = under ∷ c.stack }) x) result self.old self.new }
         ensures spares { Spares self.old self.new }
+        ensures tells { Tells fault_count result self.old self.new }
     {
         let _ = self.stack.push(under);
         self.push(top)
@@ -127,6 +133,7 @@ impl<D: SectorDevice> Forth<D> {
     pub(crate) fn find(&mut self) -> Result<(), Fault>
         ensures alters { Alters (λ a c x. on_naming Find a c x) result self.old self.new }
         ensures spares { Spares self.old self.new }
+        ensures tells { Tells fault_count result self.old self.new }
     {
         let s = match self.stack.pop() {
             Ok(s) => s,
@@ -147,6 +154,7 @@ impl<D: SectorDevice> Forth<D> {
     pub(crate) fn to_body(&mut self) -> Result<(), Fault>
         ensures alters { Alters (λ a c x. on_naming ToBody a c x) result self.old self.new }
         ensures spares { Spares self.old self.new }
+        ensures tells { Tells fault_count result self.old self.new }
     {
         let token = match self.stack.pop() {
             Ok(token) => token,
@@ -179,6 +187,7 @@ impl<D: SectorDevice> Forth<D> {
         requires sound { IsSound self.old.lexicon }
         ensures alters { Alters (λ a c x. on_naming Immediate a c x) result self.old self.new }
         ensures spares { Spares self.old self.new }
+        ensures tells { Tells fault_count result self.old self.new }
     {
         match self.lexicon.set_immediate() {
             Ok(()) => Ok(()),
@@ -202,6 +211,7 @@ impl<D: SectorDevice> Forth<D> {
         requires sound { IsSound self.old.lexicon }
         ensures consults { Consults (λ a c x. on_naming Create a c x) result self.old self.new }
         ensures lasts { LastsAlone D.SectorDevice (device self.old) (device self.new) }
+        ensures tells { Tells fault_count result self.old self.new }
         ensures budget { self.new.budget ≡ self.old.budget }
     {
         match self.take_new_word() {
@@ -229,6 +239,7 @@ impl<D: SectorDevice> Forth<D> {
         requires sound { IsSound self.old.lexicon }
         ensures consults { Consults (λ a c x. on_naming MakeConstant a c x) result self.old self.new }
         ensures lasts { LastsAlone D.SectorDevice (device self.old) (device self.new) }
+        ensures tells { Tells fault_count result self.old self.new }
         ensures budget { self.new.budget ≡ self.old.budget }
     {
         let Ok(cell) = self.stack.pop() else {
@@ -259,6 +270,7 @@ impl<D: SectorDevice> Forth<D> {
         requires sound { IsSound self.old.lexicon }
         ensures consults { Consults (λ a c x. on_naming MakeVocabulary a c x) result self.old self.new }
         ensures lasts { LastsAlone D.SectorDevice (device self.old) (device self.new) }
+        ensures tells { Tells fault_count result self.old self.new }
         ensures budget { self.new.budget ≡ self.old.budget }
     {
         match self.take_new_word() {
@@ -277,6 +289,7 @@ impl<D: SectorDevice> Forth<D> {
         requires fits { MayBeAdded self.old.lexicon (take count self.old.text) }
         ensures alters { Alters (λ a c x. variable (take count self.old.text) c x) result self.old self.new }
         ensures spares { Spares self.old self.new }
+        ensures tells { Tells fault_count result self.old self.new }
     {
         let here = self.lexicon.here();
         if here > LAST_HERE - 2 {
@@ -293,6 +306,7 @@ impl<D: SectorDevice> Forth<D> {
         requires sound { IsSound self.old.lexicon }
         ensures consults { Consults (λ a c x. on_naming Variable a c x) result self.old self.new }
         ensures lasts { LastsAlone D.SectorDevice (device self.old) (device self.new) }
+        ensures tells { Tells fault_count result self.old self.new }
         ensures budget { self.new.budget ≡ self.old.budget }
     {
         match self.take_new_word() {
@@ -305,6 +319,7 @@ impl<D: SectorDevice> Forth<D> {
     pub(crate) fn tick(&mut self) -> Result<(), Fault>
         ensures consults { Consults (λ a c x. on_naming Tick a c x) result self.old self.new }
         ensures lasts { LastsAlone D.SectorDevice (device self.old) (device self.new) }
+        ensures tells { Tells fault_count result self.old self.new }
         ensures budget { self.new.budget ≡ self.old.budget }
     {
         match self.take_token() {
@@ -318,6 +333,7 @@ impl<D: SectorDevice> Forth<D> {
         requires word { (x : Language) × (Means self.old.lexicon x × IsWord x token) }
         ensures alters { Alters (λ a c x. stepped (forgetting token a.running (language_of x)) (λ c. c) c x) result self.old self.new }
         ensures spares { Spares self.old self.new }
+        ensures tells { Tells fault_count result self.old self.new }
     {
         match self.lexicon.forget(token, &self.machine, &self.returns) {
             Ok(()) => Ok(()),
@@ -330,6 +346,7 @@ impl<D: SectorDevice> Forth<D> {
         requires sound { IsSound self.old.lexicon }
         ensures consults { Consults (λ a c x. on_naming Forget a c x) result self.old self.new }
         ensures lasts { LastsAlone D.SectorDevice (device self.old) (device self.new) }
+        ensures tells { Tells fault_count result self.old self.new }
         ensures budget { self.new.budget ≡ self.old.budget }
     {
         if self.lexicon.is_open() {

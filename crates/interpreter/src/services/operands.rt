@@ -7,12 +7,14 @@ use sector_disk::SectorDevice;
 
 impl<D: SectorDevice> Forth<D> {
     ghost use Rattle.interpreter.specs.State.{pushing};
-    ghost use Rattle.interpreter.specs.Serving.{Alters, Spares};
+    ghost use Rattle.interpreter.specs.Serving.{Alters, Spares, Tells};
+    ghost use Rattle.interpreter.specs.Stops.{fault_count};
 
     /// Pushes a cell, or STACK FULL.
     pub(crate) fn push(&mut self, cell: u16) -> Result<(), Fault>
         ensures alters { Alters (λ a c x. pushing cell c x) result self.old self.new }
         ensures spares { Spares self.old self.new }
+        ensures tells { Tells fault_count result self.old self.new }
     {
         match self.stack.push(cell) {
             Ok(()) => Ok(()),
@@ -27,6 +29,7 @@ impl<D: SectorDevice> Forth<D> {
         ensures rest { self.new ≡ record self.old { stack = self.new.stack } }
         ensures fault { IfErr result (λ f. f ≡ Fault.StackEmpty) }
         ensures bound { length self.old.stack ≤ 256 }
+        ensures tells { Tells fault_count result self.old self.new }
     {
         match self.stack.pop() {
             Ok(upper) => match self.stack.pop() {
@@ -44,6 +47,7 @@ impl<D: SectorDevice> Forth<D> {
         ensures rest { self.new ≡ record self.old { stack = self.new.stack } }
         ensures fault { IfErr result (λ f. f ≡ Fault.StackEmpty) }
         ensures bound { length self.old.stack ≤ 256 }
+        ensures tells { Tells fault_count result self.old self.new }
     {
         match self.stack.pop() {
             Ok(first) => match self.pop_two() {

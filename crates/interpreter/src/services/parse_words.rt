@@ -17,13 +17,15 @@ impl<D: SectorDevice> Forth<D> {
     ghost use Rattle.interpreter.specs.Text.{on_parse};
     ghost use Rattle.interpreter.specs.Standing.{device, IsSound};
     ghost use Rattle.lexicon.specs.Stands.{IsSound as IsSoundIn};
-    ghost use Rattle.interpreter.specs.Serving.{Alters, Spares, Consults, LastsAlone, Serves, Lasts};
+    ghost use Rattle.interpreter.specs.Serving.{Alters, Spares, Consults, LastsAlone, Serves, Lasts, Tells};
+    ghost use Rattle.interpreter.specs.Stops.{fault_count, stop_count};
 
     /// `WORD`.
     pub(crate) fn word(&mut self) -> Result<(), Fault>
         requires sound { IsSound self.old }
         ensures consults { Consults (λ a c x. on_parse ParseWord c x) result self.old self.new }
         ensures lasts { LastsAlone D.SectorDevice (device self.old) (device self.new) }
+        ensures tells { Tells fault_count result self.old self.new }
         ensures budget { self.new.budget ≡ self.old.budget }
     {
         match self.stack.pop() {
@@ -42,6 +44,7 @@ impl<D: SectorDevice> Forth<D> {
         requires whole { length (take count self.old.text) ≡ count }
         ensures alters { Alters (λ a c x. pushing x.here (record c { space = with_bytes c.space x.here (counted (take count self.old.text)) }) x) result self.old self.new }
         ensures spares { Spares self.old self.new }
+        ensures tells { Tells fault_count result self.old self.new }
     {
         let here = self.lexicon.here();
         let kept = count.min(LONGEST) as u16;
@@ -56,6 +59,7 @@ impl<D: SectorDevice> Forth<D> {
     pub(crate) fn comment(&mut self) -> Result<(), Fault>
         ensures consults { Consults (λ a c x. on_parse Comment c x) result self.old self.new }
         ensures lasts { LastsAlone D.SectorDevice (device self.old) (device self.new) }
+        ensures tells { Tells fault_count result self.old self.new }
         ensures budget { self.new.budget ≡ self.old.budget }
     {
         match self.take_text(b')') {
@@ -68,6 +72,7 @@ impl<D: SectorDevice> Forth<D> {
     pub(crate) fn print_text<T: Terminal>(&mut self, terminal: &mut T) -> Result<(), Stop>
         ensures serves { Serves T.Terminal (λ a c x. on_parse PrintText c x) result self.old self.new terminal.old terminal.new }
         ensures lasts { Lasts D.SectorDevice T.Terminal result (device self.old) (device self.new) terminal.old terminal.new }
+        ensures tells { Tells stop_count result self.old self.new }
         ensures budget { self.new.budget ≡ self.old.budget }
     {
         match self.take_text(b')') {

@@ -53,13 +53,15 @@ impl<D: SectorDevice> Forth<D> {
     ghost use Rattle.interpreter.specs.Pictures.{convert_from};
     ghost use Rattle.lexicon.specs.Stands.{IsSound};
     ghost use Rattle.interpreter.specs.Pictures.{hold, hold_all, push_double, on_picture};
-    ghost use Rattle.interpreter.specs.Serving.{Alters, Spares, Serves, Lasts};
+    ghost use Rattle.interpreter.specs.Serving.{Alters, Spares, Serves, Lasts, Tells};
+    ghost use Rattle.interpreter.specs.Stops.{fault_count, stop_count};
 
     /// Holds a byte in front of the others, or HOLD.
     pub(crate) fn hold(&mut self, byte: u8) -> Result<(), Fault>
         ensures alters { Alters (λ a c x. hold byte c x (λ c x. Did c x)) result self.old self.new }
         ensures spares { Spares self.old self.new }
         ensures stack { self.new.stack ≡ self.old.stack }
+        ensures tells { Tells fault_count result self.old self.new }
     {
         let Picture { end, held } = self.picture;
         if held >= CAPACITY {
@@ -76,6 +78,7 @@ impl<D: SectorDevice> Forth<D> {
     pub(crate) fn hold_byte(&mut self) -> Result<(), Fault>
         ensures alters { Alters (λ a c x. on_picture HoldByte c x) result self.old self.new }
         ensures spares { Spares self.old self.new }
+        ensures tells { Tells fault_count result self.old self.new }
     {
         match self.stack.pop() {
             Ok(cell) => self.hold((cell % 256) as u8),
@@ -87,6 +90,7 @@ impl<D: SectorDevice> Forth<D> {
     pub(crate) fn sign(&mut self) -> Result<(), Fault>
         ensures alters { Alters (λ a c x. on_picture Sign c x) result self.old self.new }
         ensures spares { Spares self.old self.new }
+        ensures tells { Tells fault_count result self.old self.new }
     {
         match self.stack.pop() {
             Ok(cell) => {
@@ -115,6 +119,7 @@ impl<D: SectorDevice> Forth<D> {
     pub(crate) fn unsigned_dot<T: Terminal>(&mut self, terminal: &mut T) -> Result<(), Stop>
         ensures serves { Serves T.Terminal (λ a c x. on_picture UnsignedDot c x) result self.old self.new terminal.old terminal.new }
         ensures lasts { Lasts D.SectorDevice T.Terminal result (device self.old) (device self.new) terminal.old terminal.new }
+        ensures tells { Tells stop_count result self.old self.new }
         ensures budget { self.new.budget ≡ self.old.budget }
     {
         match self.stack.pop() {
@@ -130,6 +135,7 @@ impl<D: SectorDevice> Forth<D> {
     pub(crate) fn digit(&mut self) -> Result<(), Fault>
         ensures alters { Alters (λ a c x. on_picture Digit c x) result self.old self.new }
         ensures spares { Spares self.old self.new }
+        ensures tells { Tells fault_count result self.old self.new }
     {
         match self.pop_two() {
             Ok((high, low)) => match self.base() {
@@ -147,6 +153,7 @@ impl<D: SectorDevice> Forth<D> {
         requires room { length self.old.stack < 255 }
         ensures alters { Alters (λ a c x. hold (digit_char (double low high % base)) c x (λ d y. push_double (double low high / base) d y)) result self.old self.new }
         ensures spares { Spares self.old self.new }
+        ensures tells { Tells fault_count result self.old self.new }
     {
         let number = u32::from(high) * 65536 + u32::from(low);
         let base = u32::from(base);
@@ -167,6 +174,7 @@ impl<D: SectorDevice> Forth<D> {
         requires sound { IsSound self.old.lexicon }
         ensures alters { Alters (λ a c x. on_picture Begin c x) result self.old self.new }
         ensures spares { Spares self.old self.new }
+        ensures tells { Tells fault_count result self.old self.new }
     {
         self.picture = Picture {
             end: self.lexicon.here() + UNDER_PAD,
@@ -179,6 +187,7 @@ impl<D: SectorDevice> Forth<D> {
     pub(crate) fn end_picture(&mut self) -> Result<(), Fault>
         ensures alters { Alters (λ a c x. on_picture Finish c x) result self.old self.new }
         ensures spares { Spares self.old self.new }
+        ensures tells { Tells fault_count result self.old self.new }
     {
         match self.pop_two() {
             Ok(_) => {
@@ -196,6 +205,7 @@ impl<D: SectorDevice> Forth<D> {
     pub(crate) fn digits(&mut self) -> Result<(), Fault>
         ensures alters { Alters (λ a c x. on_picture Digits c x) result self.old self.new }
         ensures spares { Spares self.old self.new }
+        ensures tells { Tells fault_count result self.old self.new }
     {
         match self.pop_two() {
             Ok((high, low)) => match self.base() {
@@ -213,6 +223,7 @@ impl<D: SectorDevice> Forth<D> {
         requires room { length self.old.stack < 255 }
         ensures alters { Alters (λ a c x. hold_all (reverse (digits_of base (double low high))) c x (λ d y. push_double 0 d y)) result self.old self.new }
         ensures spares { Spares self.old self.new }
+        ensures tells { Tells fault_count result self.old self.new }
     {
         match self.hold_digits(u32::from(high) * 65536 + u32::from(low), base) {
             Ok(()) => {
@@ -231,6 +242,7 @@ impl<D: SectorDevice> Forth<D> {
         ensures alters { Alters (λ a c x. hold_all (reverse (digits_of base number)) c x (λ c x. Did c x)) result self.old self.new }
         ensures spares { Spares self.old self.new }
         ensures stack { self.new.stack ≡ self.old.stack }
+        ensures tells { Tells fault_count result self.old self.new }
     {
         let base = u32::from(base);
         let mut rest = number;
@@ -247,6 +259,7 @@ impl<D: SectorDevice> Forth<D> {
     pub(crate) fn convert(&mut self) -> Result<(), Fault>
         ensures alters { Alters (λ a c x. on_picture Convert c x) result self.old self.new }
         ensures spares { Spares self.old self.new }
+        ensures tells { Tells fault_count result self.old self.new }
     {
         match self.pop_three() {
             Ok((address, high, low)) => match self.base() {
@@ -264,6 +277,7 @@ impl<D: SectorDevice> Forth<D> {
         requires room { length self.old.stack < 254 }
         ensures alters { Alters (λ a c x. convert_from base address (double low high) c x) result self.old self.new }
         ensures spares { Spares self.old self.new }
+        ensures tells { Tells fault_count result self.old self.new }
     {
         let number = u32::from(high) * 65536 + u32::from(low);
         let (_, text) = self.space.bytes().split_at(usize::from(address) + 1);
@@ -281,6 +295,7 @@ impl<D: SectorDevice> Forth<D> {
     pub(crate) fn dot<T: Terminal>(&mut self, terminal: &mut T) -> Result<(), Stop>
         ensures serves { Serves T.Terminal (λ a c x. on_picture Dot c x) result self.old self.new terminal.old terminal.new }
         ensures lasts { Lasts D.SectorDevice T.Terminal result (device self.old) (device self.new) terminal.old terminal.new }
+        ensures tells { Tells stop_count result self.old self.new }
         ensures budget { self.new.budget ≡ self.old.budget }
     {
         match self.stack.pop() {

@@ -19,7 +19,8 @@ impl<D: SectorDevice> Forth<D> {
     ghost use Rattle.interpreter.specs.Terminals.{expect_of, on_terminal};
     ghost use Rattle.cell_machine.specs.Words.{Expect, Key};
     ghost use Rattle.interpreter.specs.Standing.{device};
-    ghost use Rattle.interpreter.specs.Serving.{Serves, Heard, Lasts};
+    ghost use Rattle.interpreter.specs.Serving.{Serves, Heard, Lasts, Tells};
+    ghost use Rattle.interpreter.specs.Stops.{stop_count};
     ghost use Rattle.interpreter.specs.Reading.{io_of, asking_of, StepOf};
 
     /// The next byte of the input, or `None` at its end, at which the terminal is asked once.
@@ -28,6 +29,7 @@ impl<D: SectorDevice> Forth<D> {
         ensures heard { Heard T.Terminal (io_of result) (asking_of result) self.old.at_end self.new.at_end terminal.old terminal.new }
         ensures lasts { Lasts D.SectorDevice T.Terminal (io_of result) (device self.old) (device self.old) terminal.old terminal.new }
         ensures fewer { IfOk result (λ key. OnSome key (T.may_give terminal.new < T.may_give terminal.old)) }
+        ensures tells { D.failures (device self.new) ≡ D.failures (device self.old) }
     {
         if self.at_end {
             return Ok(None);
@@ -54,6 +56,7 @@ impl<D: SectorDevice> Forth<D> {
         requires within { a + left ≤ 65536 }
         ensures step { StepOf T.Terminal a left result self.old self.new terminal.old terminal.new }
         ensures lasts { Lasts D.SectorDevice T.Terminal (io_of result) (device self.old) (device self.new) terminal.old terminal.new }
+        ensures tells { D.failures (device self.new) ≡ D.failures (device self.old) }
         ensures budget { self.new.budget ≡ self.old.budget }
     {
         match self.ask(terminal) {
@@ -75,6 +78,7 @@ impl<D: SectorDevice> Forth<D> {
     fn end_reading(&mut self, count: u16, some: bool) -> Result<(), Stop>
         ensures result { result ≡ (if some then Ok tt else Err (Stop.Fault Fault.EndOfInput)) }
         ensures after { self.new ≡ (if some then record self.old { space = with_cell self.old.space 26 count } else self.old) }
+        ensures tells { Tells stop_count result self.old self.new }
     {
         if some {
             self.space.set_cell(SPAN, count);
@@ -89,6 +93,7 @@ impl<D: SectorDevice> Forth<D> {
         requires within { a + u ≤ 65536 }
         ensures serves { Serves T.Terminal (λ _ c x. expect_of x.run.terminal a u c x) result self.old self.new terminal.old terminal.new }
         ensures lasts { Lasts D.SectorDevice T.Terminal result (device self.old) (device self.new) terminal.old terminal.new }
+        ensures tells { Tells stop_count result self.old self.new }
         ensures budget { self.new.budget ≡ self.old.budget }
     {
         let mut room = Room { count: 0, left: u };
@@ -113,6 +118,7 @@ impl<D: SectorDevice> Forth<D> {
     pub(crate) fn expect<T: Terminal>(&mut self, terminal: &mut T) -> Result<(), Stop>
         ensures serves { Serves T.Terminal (λ a c x. on_terminal Expect c x) result self.old self.new terminal.old terminal.new }
         ensures lasts { Lasts D.SectorDevice T.Terminal result (device self.old) (device self.new) terminal.old terminal.new }
+        ensures tells { Tells stop_count result self.old self.new }
         ensures budget { self.new.budget ≡ self.old.budget }
     {
         match self.pop_two() {
@@ -130,6 +136,7 @@ impl<D: SectorDevice> Forth<D> {
     pub(crate) fn key<T: Terminal>(&mut self, terminal: &mut T) -> Result<(), Stop>
         ensures serves { Serves T.Terminal (λ a c x. on_terminal Key c x) result self.old self.new terminal.old terminal.new }
         ensures lasts { Lasts D.SectorDevice T.Terminal result (device self.old) (device self.new) terminal.old terminal.new }
+        ensures tells { Tells stop_count result self.old self.new }
         ensures budget { self.new.budget ≡ self.old.budget }
     {
         if self.stack.depth() >= 256 {

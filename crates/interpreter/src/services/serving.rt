@@ -50,7 +50,8 @@ impl<D: SectorDevice> Forth<D> {
     ghost use Rattle.interpreter.specs.Falls.{IsFree};
     ghost use Rattle.interpreter.specs.Services.{quiet_word, device_word, terminal_word, service_in};
     ghost use Rattle.interpreter.specs.Standing.{core, device, Stands, IsSound};
-    ghost use Rattle.interpreter.specs.Serving.{Alters, Altered, Spares, Consults, LastsAlone, Serves, Lasts};
+    ghost use Rattle.interpreter.specs.Serving.{Alters, Altered, Spares, Consults, LastsAlone, Serves, Lasts, Tells};
+    ghost use Rattle.interpreter.specs.Stops.{fault_count, stop_count};
     ghost use Rattle.interpreter.specs.Turns.{Turned, LastsTurn, weight};
 
     /// A word that reaches neither device nor terminal.
@@ -58,6 +59,7 @@ impl<D: SectorDevice> Forth<D> {
         requires sound { IsSoundLexicon self.old.lexicon }
         ensures alters { (f : ℕ) (inner : Serve World) → Alters (λ a c x. on_service f inner (quiet_word word) a c x) result self.old self.new }
         ensures spares { Spares self.old self.new }
+        ensures tells { Tells fault_count result self.old self.new }
     {
         match word {
             QuietWord::BeginPicture => self.begin_picture(),
@@ -94,6 +96,7 @@ impl<D: SectorDevice> Forth<D> {
         requires sound { IsSoundLexicon self.old.lexicon }
         ensures consults { (f : ℕ) (inner : Serve World) → Consults (λ a c x. on_service f inner (device_word word) a c x) result self.old self.new }
         ensures lasts { LastsAlone D.SectorDevice (device self.old) (device self.new) }
+        ensures tells { Tells fault_count result self.old self.new }
         ensures budget { self.new.budget ≡ self.old.budget }
     {
         match word {
@@ -122,6 +125,7 @@ impl<D: SectorDevice> Forth<D> {
     fn on_terminal<T: Terminal>(&mut self, word: TerminalWord, terminal: &mut T) -> Result<(), Stop>
         ensures serves { (f : ℕ) (inner : Serve World) → Serves T.Terminal (λ a c x. on_service f inner (terminal_word word) a c x) result self.old self.new terminal.old terminal.new }
         ensures lasts { Lasts D.SectorDevice T.Terminal result (device self.old) (device self.new) terminal.old terminal.new }
+        ensures tells { Tells stop_count result self.old self.new }
         ensures budget { self.new.budget ≡ self.old.budget }
     {
         match word {
@@ -146,6 +150,7 @@ impl<D: SectorDevice> Forth<D> {
         ensures turned { (m : ℕ) (levels : List Level) (x : World) → self.old.steps ≤ m → Stands self.old levels x
             → Turned T.Terminal (suc m) (λ r. and_then (on_service (suc m) (λ a due c x. serve m a due c x) (service_in service) (around_of levels) (core self.old) (with_run r x)) (λ c x. left (suc m) levels c x)) result self.old self.new terminal.old terminal.new x }
         ensures lasts { LastsTurn D.SectorDevice T.Terminal result (device self.old) (device self.new) terminal.old terminal.new }
+        ensures tells { Tells stop_count result self.old self.new }
         ensures budget { self.new.budget ≡ self.old.budget }
     {
         match service {
@@ -163,6 +168,7 @@ impl<D: SectorDevice> Forth<D> {
         ensures alters { (f : ℕ) (inner : Serve World) (levels : List Level) (x : World) → Stands self.old levels x → meanings (language_of x) token ≡ Outside
             → Altered (λ r. user_word f inner token (entry x.words token) (around_of levels) (core self.old) (with_run r x)) result self.old self.new levels x }
         ensures spares { Spares self.old self.new }
+        ensures tells { Tells fault_count result self.old self.new }
     {
         if !self.lexicon.is_vocabulary(token) {
             return Err(Fault::Token);
@@ -179,6 +185,7 @@ impl<D: SectorDevice> Forth<D> {
         ensures turned { (m : ℕ) (levels : List Level) (x : World) → self.old.steps ≤ m → Stands self.old levels x → meanings (language_of x) token ≡ Outside
             → Turned T.Terminal (suc m) (λ r. and_then (serve (suc m) (around_of levels) (Word token) (core self.old) (with_run r x)) (λ c x. left (suc m) levels c x)) result self.old self.new terminal.old terminal.new x }
         ensures lasts { LastsTurn D.SectorDevice T.Terminal result (device self.old) (device self.new) terminal.old terminal.new }
+        ensures tells { Tells stop_count result self.old self.new }
         ensures budget { self.new.budget ≡ self.old.budget }
     {
         match service_of(token) {
@@ -192,6 +199,7 @@ impl<D: SectorDevice> Forth<D> {
         requires text { (s : List ℕ) × TextAt self.old.lexicon.code place s }
         ensures serves { (s : List ℕ) → TextAt self.old.lexicon.code place s → Serves T.Terminal (λ a c x. print s c x) result self.old self.new terminal.old terminal.new }
         ensures lasts { Lasts D.SectorDevice T.Terminal result (device self.old) (device self.new) terminal.old terminal.new }
+        ensures tells { Tells stop_count result self.old self.new }
         ensures budget { self.new.budget ≡ self.old.budget }
     {
         let count = self.lexicon.text(place, &mut self.text);
@@ -204,6 +212,7 @@ impl<D: SectorDevice> Forth<D> {
         requires text { (s : List ℕ) × TextAt self.old.lexicon.code place s }
         ensures serves { (s : List ℕ) → TextAt self.old.lexicon.code place s → Serves T.Terminal (λ a c x. and_then (print s c x) (λ c x. Ends Aborts c x)) result self.old self.new terminal.old terminal.new }
         ensures lasts { Lasts D.SectorDevice T.Terminal result (device self.old) (device self.new) terminal.old terminal.new }
+        ensures tells { Tells stop_count result self.old self.new }
         ensures budget { self.new.budget ≡ self.old.budget }
     {
         match self.print_text_at(place, terminal) {
@@ -220,6 +229,7 @@ impl<D: SectorDevice> Forth<D> {
             → Turned T.Terminal n (λ r. and_then (serve n (around_of levels) due (core self.old) (with_run r x)) (λ c x. left n levels c x)) result self.old self.new terminal.old terminal.new x }
         ensures given { IsFree op (weight self.new ≤ weight self.old) }
         ensures lasts { LastsTurn D.SectorDevice T.Terminal result (device self.old) (device self.new) terminal.old terminal.new }
+        ensures tells { Tells stop_count result self.old self.new }
         ensures budget { self.new.budget ≡ self.old.budget }
     {
         match op {

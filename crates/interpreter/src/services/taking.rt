@@ -74,13 +74,15 @@ impl<D: SectorDevice> Forth<D> {
     ghost use Rattle.lexicon.specs.Adding.{MayBeAdded};
     ghost use Rattle.lexicon.specs.Stands.{Stands as Means, IsSound, IsWord};
     ghost use Rattle.interpreter.specs.Standing.{device};
-    ghost use Rattle.interpreter.specs.Serving.{HandsOn, LastsAlone};
+    ghost use Rattle.interpreter.specs.Serving.{HandsOn, LastsAlone, Tells};
+    ghost use Rattle.interpreter.specs.Stops.{fault_count};
     ghost use Rattle.interpreter.specs.Taken.{taken, take_cut, take_name, line_of, IsTaken};
 
     /// Takes the next word from the stream.
     pub(crate) fn take_word(&mut self, delimiter: u8) -> Result<usize, Fault>
         ensures hands { HandsOn (λ c x go. take_word delimiter c x go) (taken result self.new.text) self.old self.new }
         ensures lasts { LastsAlone D.SectorDevice (device self.old) (device self.new) }
+        ensures tells { Tells fault_count result self.old self.new }
         ensures budget { self.new.budget ≡ self.old.budget }
         ensures lexicon { self.new.lexicon ≡ self.old.lexicon }
         ensures within { IfOk result (λ count. count ≤ 1024) }
@@ -93,6 +95,7 @@ impl<D: SectorDevice> Forth<D> {
     pub(crate) fn take_text(&mut self, delimiter: u8) -> Result<usize, Fault>
         ensures hands { HandsOn (λ c x go. take_text delimiter c x go) (taken result self.new.text) self.old self.new }
         ensures lasts { LastsAlone D.SectorDevice (device self.old) (device self.new) }
+        ensures tells { Tells fault_count result self.old self.new }
         ensures budget { self.new.budget ≡ self.old.budget }
         ensures lexicon { self.new.lexicon ≡ self.old.lexicon }
         ensures within { IfOk result (λ count. count ≤ 1024) }
@@ -105,6 +108,7 @@ impl<D: SectorDevice> Forth<D> {
     fn take(&mut self, cut: Cut, delimiter: u8) -> Result<usize, Fault>
         ensures hands { HandsOn (λ c x go. take_cut cut delimiter c x go) (taken result self.new.text) self.old self.new }
         ensures lasts { LastsAlone D.SectorDevice (device self.old) (device self.new) }
+        ensures tells { Tells fault_count result self.old self.new }
         ensures budget { self.new.budget ≡ self.old.budget }
         ensures lexicon { self.new.lexicon ≡ self.old.lexicon }
         ensures within { IfOk result (λ count. count ≤ 1024) }
@@ -135,6 +139,7 @@ impl<D: SectorDevice> Forth<D> {
         requires loaded { 0 < block }
         ensures hands { HandsOn (λ c x go. take_cut cut delimiter c x go) (taken result self.new.text) self.old self.new }
         ensures lasts { LastsAlone D.SectorDevice (device self.old) (device self.new) }
+        ensures tells { Tells fault_count result self.old self.new }
         ensures budget { self.new.budget ≡ self.old.budget }
         ensures lexicon { self.new.lexicon ≡ self.old.lexicon }
         ensures within { IfOk result (λ count. count ≤ 1024) }
@@ -156,6 +161,7 @@ impl<D: SectorDevice> Forth<D> {
     fn take_name(&mut self) -> Result<usize, Fault>
         ensures hands { HandsOn (λ c x go. take_name c x go) (taken result self.new.text) self.old self.new }
         ensures lasts { LastsAlone D.SectorDevice (device self.old) (device self.new) }
+        ensures tells { Tells fault_count result self.old self.new }
         ensures budget { self.new.budget ≡ self.old.budget }
         ensures lexicon { self.new.lexicon ≡ self.old.lexicon }
         ensures within { IfOk result (λ count. count ≤ 1024) }
@@ -176,6 +182,7 @@ impl<D: SectorDevice> Forth<D> {
     pub(crate) fn take_token(&mut self) -> Result<u16, Fault>
         ensures hands { HandsOn (λ c x go. take_token c x go) result self.old self.new }
         ensures lasts { LastsAlone D.SectorDevice (device self.old) (device self.new) }
+        ensures tells { Tells fault_count result self.old self.new }
         ensures budget { self.new.budget ≡ self.old.budget }
         ensures lexicon { self.new.lexicon ≡ self.old.lexicon }
         ensures word { IfOk result (λ token. (x : Language) → Means self.new.lexicon x → IsWord x token) }
@@ -193,6 +200,7 @@ impl<D: SectorDevice> Forth<D> {
     pub(crate) fn take_current(&mut self) -> Result<u16, Fault>
         ensures hands { HandsOn (λ c x go. take_known in_current c x go) result self.old self.new }
         ensures lasts { LastsAlone D.SectorDevice (device self.old) (device self.new) }
+        ensures tells { Tells fault_count result self.old self.new }
         ensures budget { self.new.budget ≡ self.old.budget }
         ensures lexicon { self.new.lexicon ≡ self.old.lexicon }
         ensures word { IfOk result (λ token. (x : Language) → Means self.new.lexicon x → IsWord x token) }
@@ -211,6 +219,7 @@ impl<D: SectorDevice> Forth<D> {
         requires sound { IsSound self.old.lexicon }
         ensures hands { HandsOn (λ c x go. take_new_word c x go) (taken result self.new.text) self.old self.new }
         ensures lasts { LastsAlone D.SectorDevice (device self.old) (device self.new) }
+        ensures tells { Tells fault_count result self.old self.new }
         ensures budget { self.new.budget ≡ self.old.budget }
         ensures lexicon { self.new.lexicon ≡ self.old.lexicon }
         ensures within { IfOk result (λ count. count ≤ 1024) }

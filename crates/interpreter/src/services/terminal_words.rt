@@ -1,7 +1,7 @@
 //! Words that print or read.
 ghost use Rattle.std.specs.Prelude.{◌≡◌, ◌≤◌, nat_lt, if◌then◌else◌, replicate, OnOk, OnErr};
 ghost use Rattle.std.specs.Io.KnownBytes.{Appends};
-ghost use Rattle.sector_disk.specs.Counting.{HasRisen};
+ghost use Rattle.sector_disk.specs.Counting.{count_up};
 ghost use Rattle.interpreter.specs.Terminal.{AppendsSome};
 
 use crate::fault::{Fault, Stop};
@@ -25,7 +25,7 @@ fn emit_blanks<T: Terminal>(count: u16, terminal: &mut T) -> Result<(), IoFault>
     ensures err { OnErr result (AppendsSome (T.output terminal.old) (T.output terminal.new) (replicate count 32)) }
     ensures input { T.input terminal.new ≡ T.input terminal.old }
     ensures no_more { T.may_give terminal.new ≤ T.may_give terminal.old }
-    ensures failed { OnErr result (HasRisen (T.failures terminal.old) (T.failures terminal.new)) }
+    ensures failed { OnErr result (T.failures terminal.new ≡ count_up (T.failures terminal.old)) }
     ensures succeeded { OnOk result (T.failures terminal.new ≡ T.failures terminal.old) }
     ensures same { T.identity terminal.new ≡ T.identity terminal.old }
 {
@@ -45,12 +45,14 @@ impl<D: SectorDevice> Forth<D> {
     ghost use Rattle.cell_machine.specs.Words.{Emit, NewLine, Blank, Blanks, TypeText};
     ghost use Rattle.interpreter.specs.Terminals.{print, on_terminal};
     ghost use Rattle.interpreter.specs.Standing.{device};
-    ghost use Rattle.interpreter.specs.Serving.{Serves, Lasts};
+    ghost use Rattle.interpreter.specs.Serving.{Serves, Lasts, Tells};
+    ghost use Rattle.interpreter.specs.Stops.{stop_count};
 
     /// Prints these bytes, in one call of the terminal.
     pub(crate) fn print<T: Terminal>(&self, bytes: &[u8], terminal: &mut T) -> Result<(), Stop>
         ensures serves { Serves T.Terminal (λ a c x. print bytes.now c x) result self.now self.now terminal.old terminal.new }
         ensures lasts { Lasts D.SectorDevice T.Terminal result (device self.now) (device self.now) terminal.old terminal.new }
+        ensures tells { Tells stop_count result self.now self.now }
     {
         match terminal.emit(bytes) {
             Ok(()) => Ok(()),
@@ -62,6 +64,7 @@ impl<D: SectorDevice> Forth<D> {
     pub(crate) fn emit<T: Terminal>(&mut self, terminal: &mut T) -> Result<(), Stop>
         ensures serves { Serves T.Terminal (λ a c x. on_terminal Emit c x) result self.old self.new terminal.old terminal.new }
         ensures lasts { Lasts D.SectorDevice T.Terminal result (device self.old) (device self.new) terminal.old terminal.new }
+        ensures tells { Tells stop_count result self.old self.new }
         ensures budget { self.new.budget ≡ self.old.budget }
     {
         match self.stack.pop() {
@@ -74,6 +77,7 @@ impl<D: SectorDevice> Forth<D> {
     pub(crate) fn new_line<T: Terminal>(&mut self, terminal: &mut T) -> Result<(), Stop>
         ensures serves { Serves T.Terminal (λ a c x. on_terminal NewLine c x) result self.old self.new terminal.old terminal.new }
         ensures lasts { Lasts D.SectorDevice T.Terminal result (device self.old) (device self.new) terminal.old terminal.new }
+        ensures tells { Tells stop_count result self.old self.new }
         ensures budget { self.new.budget ≡ self.old.budget }
     {
         self.print(b"\n", terminal)
@@ -83,6 +87,7 @@ impl<D: SectorDevice> Forth<D> {
     pub(crate) fn blank<T: Terminal>(&mut self, terminal: &mut T) -> Result<(), Stop>
         ensures serves { Serves T.Terminal (λ a c x. on_terminal Blank c x) result self.old self.new terminal.old terminal.new }
         ensures lasts { Lasts D.SectorDevice T.Terminal result (device self.old) (device self.new) terminal.old terminal.new }
+        ensures tells { Tells stop_count result self.old self.new }
         ensures budget { self.new.budget ≡ self.old.budget }
     {
         self.print(b" ", terminal)
@@ -92,6 +97,7 @@ impl<D: SectorDevice> Forth<D> {
     pub(crate) fn blanks<T: Terminal>(&mut self, terminal: &mut T) -> Result<(), Stop>
         ensures serves { Serves T.Terminal (λ a c x. on_terminal Blanks c x) result self.old self.new terminal.old terminal.new }
         ensures lasts { Lasts D.SectorDevice T.Terminal result (device self.old) (device self.new) terminal.old terminal.new }
+        ensures tells { Tells stop_count result self.old self.new }
         ensures budget { self.new.budget ≡ self.old.budget }
     {
         match self.stack.pop() {
@@ -111,6 +117,7 @@ impl<D: SectorDevice> Forth<D> {
     fn print_blanks<T: Terminal>(&self, count: u16, terminal: &mut T) -> Result<(), Stop>
         ensures serves { Serves T.Terminal (λ a c x. print (replicate count 32) c x) result self.now self.now terminal.old terminal.new }
         ensures lasts { Lasts D.SectorDevice T.Terminal result (device self.now) (device self.now) terminal.old terminal.new }
+        ensures tells { Tells stop_count result self.now self.now }
     {
         match emit_blanks(count, terminal) {
             Ok(()) => Ok(()),
@@ -122,6 +129,7 @@ impl<D: SectorDevice> Forth<D> {
     pub(crate) fn type_text<T: Terminal>(&mut self, terminal: &mut T) -> Result<(), Stop>
         ensures serves { Serves T.Terminal (λ a c x. on_terminal TypeText c x) result self.old self.new terminal.old terminal.new }
         ensures lasts { Lasts D.SectorDevice T.Terminal result (device self.old) (device self.new) terminal.old terminal.new }
+        ensures tells { Tells stop_count result self.old self.new }
         ensures budget { self.new.budget ≡ self.old.budget }
     {
         match self.pop_two() {

@@ -1,6 +1,6 @@
 //! The block words.
-ghost use Rattle.std.specs.Prelude.{◌≡◌};
-ghost use Rattle.interpreter.specs.Stops.{fault_of};
+ghost use Rattle.std.specs.Prelude.{◌≡◌, ℕ};
+ghost use Rattle.interpreter.specs.Stops.{fault_of, fault_count, block_count};
 ghost use Rattle.interpreter.specs.State.{fault_of as block_fault_of};
 
 use crate::fault::Fault;
@@ -10,7 +10,8 @@ use sector_disk::SectorDevice;
 
 /// The fault of a word that the blocks refused.
 pub(crate) fn block_fault(fault: BlockFault) -> Fault
-    ensures { fault_of result ≡ block_fault_of fault }
+    ensures fault { fault_of result ≡ block_fault_of fault }
+    ensures tells { (count : ℕ) → fault_count result count ≡ block_count fault count }
 {
     match fault {
         BlockFault::NoBlock => Fault::NoBlock,
@@ -25,12 +26,13 @@ impl<D: SectorDevice> Forth<D> {
     ghost use Rattle.cell_machine.specs.Words.{Block, Buffer, Update, SaveBuffers, Flush};
     ghost use Rattle.interpreter.specs.Blocking.{on_blocks};
     ghost use Rattle.interpreter.specs.Standing.{device};
-    ghost use Rattle.interpreter.specs.Serving.{Consults, LastsAlone};
+    ghost use Rattle.interpreter.specs.Serving.{Consults, LastsAlone, Tells};
 
     /// `BLOCK`.
     pub(crate) fn block(&mut self) -> Result<(), Fault>
         ensures consults { Consults (λ a c x. on_blocks Block c x) result self.old self.new }
         ensures lasts { LastsAlone D.SectorDevice (device self.old) (device self.new) }
+        ensures tells { Tells fault_count result self.old self.new }
         ensures budget { self.new.budget ≡ self.old.budget }
     {
         match self.stack.pop() {
@@ -49,6 +51,7 @@ impl<D: SectorDevice> Forth<D> {
     pub(crate) fn buffer(&mut self) -> Result<(), Fault>
         ensures consults { Consults (λ a c x. on_blocks Buffer c x) result self.old self.new }
         ensures lasts { LastsAlone D.SectorDevice (device self.old) (device self.new) }
+        ensures tells { Tells fault_count result self.old self.new }
         ensures budget { self.new.budget ≡ self.old.budget }
     {
         match self.stack.pop() {
@@ -67,6 +70,7 @@ impl<D: SectorDevice> Forth<D> {
     pub(crate) fn update(&mut self) -> Result<(), Fault>
         ensures consults { Consults (λ a c x. on_blocks Update c x) result self.old self.new }
         ensures lasts { LastsAlone D.SectorDevice (device self.old) (device self.new) }
+        ensures tells { Tells fault_count result self.old self.new }
         ensures budget { self.new.budget ≡ self.old.budget }
     {
         match self.blocks.update() {
@@ -79,6 +83,7 @@ impl<D: SectorDevice> Forth<D> {
     pub(crate) fn save_buffers(&mut self) -> Result<(), Fault>
         ensures consults { Consults (λ a c x. on_blocks SaveBuffers c x) result self.old self.new }
         ensures lasts { LastsAlone D.SectorDevice (device self.old) (device self.new) }
+        ensures tells { Tells fault_count result self.old self.new }
         ensures budget { self.new.budget ≡ self.old.budget }
     {
         match self.blocks.save_buffers(&self.space) {
@@ -91,6 +96,7 @@ impl<D: SectorDevice> Forth<D> {
     pub(crate) fn flush(&mut self) -> Result<(), Fault>
         ensures consults { Consults (λ a c x. on_blocks Flush c x) result self.old self.new }
         ensures lasts { LastsAlone D.SectorDevice (device self.old) (device self.new) }
+        ensures tells { Tells fault_count result self.old self.new }
         ensures budget { self.new.budget ≡ self.old.budget }
     {
         match self.blocks.flush(&self.space) {

@@ -14,5 +14,5 @@ returns-in-Ok-clause-alters g c = λ levels x stands.
 
 pub returns-in-Err-clause-alters : goal.returns-in-Err-clause-alters
 returns-in-Err-clause-alters g c = λ levels x stands.
-    step_refused c.args.self.now _ c.args.self.now.lexicon (change (λ used. add_literal used c.args.cell)) as_it_is (core c.args.self.now) stands c.in-Err.ensures.refused c.compile_fault.ensures
+    step_refused c.args.self.now _ c.args.self.now.lexicon (change (λ used. add_literal used c.args.cell)) as_it_is (core c.args.self.now) stands c.in-Err.ensures.refused c.compile_fault.ensures.fault
     (λ r. changing_is (λ used. add_literal used c.args.cell) (core c.args.self.now) (with_run r x)) refl (omega arith)

@@ -28,7 +28,7 @@ returns-in-Err-block-clause-consults g c = λ levels x stands.
     let h = called g.D.SectorDevice (block c.in-Ok.u) (Err c.in-Err-block.fault) (λ m. []) old.blocks c.block.new.self old.space c.block.new.space
     e.runs (λ m shut. refl) e.asks.failures e.asks.continues.model stands.rests in
     consulted_failed old _ c.pop.new.self c.block.new.space leaving c.in-Err-block.fault c.block_fault.result h
-    (λ r. popping-one (core old) (with_run r x) _ _ _ c.in-Ok.ensures.ok) (rests_on h stands.rests) (omega arith) refl refl c.block_fault.ensures
+    (λ r. popping-one (core old) (with_run r x) _ _ _ c.in-Ok.ensures.ok) (rests_on h stands.rests) (omega arith) refl refl c.block_fault.ensures.fault
 
 pub returns-in-Err-clause-consults : goal.returns-in-Err-clause-consults
 returns-in-Err-clause-consults g c = λ levels x stands.

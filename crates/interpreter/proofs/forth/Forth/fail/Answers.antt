@@ -5,6 +5,8 @@ use Rattle.interpreter.specs.Lines as lines
 use Rattle.interpreter.specs.Lines.{at_rest, dropped, with_empty_stack, replied}
 use Rattle.interpreter.specs.Terminals.{print}
 use Rattle.interpreter.proofs.Lining.{lined_as}
+use Rattle.interpreter.proofs.Telling.{fault_counts}
+use Rattle.interpreter.specs.Stops.{fault_count}
 use Rattle.interpreter.proofs.forth.Forth.fail.Goals as goal
 
 pub returns-clause-lined : goal.returns-clause-lined
@@ -13,3 +15,6 @@ returns-clause-lined g c = λ d x space rests.
     (λ r. ap (λ l. replied (lines.LineEnd.Fails (fault_of c.args.fault)) (print l (with_empty_stack (at_rest d)) (with_run r (dropped x)))) (sym c.fault_text-text.ensures ∙ sym c.as_slice.ensures.value))
     c.abandon.ensures.spares.device c.abandon.ensures.spares.at_end refl
     (c.say.ensures.lined (with_empty_stack (at_rest d)) (dropped x) (c.abandon.ensures.likely d space) (c.abandon.ensures.closes x rests))
+
+pub returns-clause-counts : goal.returns-clause-counts
+returns-clause-counts g c = λ count. c.say.ensures.counts count (fault_count c.args.fault count) (fault_counts c.args.fault count)

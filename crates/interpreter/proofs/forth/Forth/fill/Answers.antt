@@ -11,6 +11,7 @@ bytes-init g c = record {
   begun = begun_none g.T.Terminal c.args.a c.args.u c.args.self.now c.args.terminal.now;
   room = omega arith;
   lasts = lasts_nothing g.D.SectorDevice g.T.Terminal _ _;
+  told = refl;
 }
 
 pub bytes-preserved : goal.bytes-preserved
@@ -22,6 +23,7 @@ bytes-preserved g c =
       begun = begun_then g.T.Terminal (c.args.a + c.bytes.room.count) refl b.begun step;
       room = omega (arith, step.filling.room, b.room);
       lasts = lasts_then g.D.SectorDevice g.T.Terminal g.met.D.SectorDevice.widens b.lasts e.ensures.lasts;
+      told = e.ensures.tells ∙ b.told;
     }
 
 pub returns-in-Ok-None-clause-serves : goal.returns-in-Ok-None-clause-serves

@@ -1,4 +1,4 @@
-use Rattle.std.proofs.Common.{◌+◌, ◌≤◌, Ok}
+use Rattle.std.proofs.Common.{◌+◌, ◌≡◌, ◌≤◌, Ok}
 use Rattle.interpreter.specs.Standing.{device}
 use Rattle.interpreter.specs.Serving.{Lasts}
 use Rattle.interpreter.proofs.Expecting.{Begun}
@@ -9,6 +9,7 @@ invariant-bytes g l = record {
   begun : Begun g.T.Terminal l.a l.u l.room.count l.room.left l.some l.fn.self l.self l.fn.terminal l.terminal;
   room : l.room.count + l.room.left ≤ l.u;
   lasts : Lasts g.D.SectorDevice g.T.Terminal (Ok tt) (device l.fn.self) (device l.self) l.fn.terminal l.terminal;
+  told : g.D.SectorDevice.failures (device l.self) ≡ g.D.SectorDevice.failures (device l.fn.self);
 }
 
 abbrev pub decreases-bytes : goal.decreases-bytes

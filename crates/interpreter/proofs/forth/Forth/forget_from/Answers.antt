@@ -19,4 +19,4 @@ returns-in-Ok-clause-alters g c = λ levels x stands.
 pub returns-in-Err-clause-alters : goal.returns-in-Err-clause-alters
 returns-in-Err-clause-alters g c = λ levels x stands.
     gave_refused c.args.self.now _ c.args.self.now.lexicon (forgetting c.args.token (around_of levels).running (language_of x)) (λ c. c) (core c.args.self.now) stands
-    (c.in-Err.ensures.refused.0 (language_of x) levels stands.rests.meant stands.left) c.in-Err.ensures.refused.1 c.lexicon_fault.ensures (λ r. refl) refl (omega arith)
+    (c.in-Err.ensures.refused.0 (language_of x) levels stands.rests.meant stands.left) c.in-Err.ensures.refused.1 c.lexicon_fault.ensures.fault (λ r. refl) refl (omega arith)

@@ -16,5 +16,5 @@ returns-in-Ok-clause-alters g c = λ owner parts levels x stands part.
 pub returns-in-Err-clause-alters : goal.returns-in-Err-clause-alters
 returns-in-Err-clause-alters g c = λ owner parts levels x stands part.
     gave_refused c.args.self.now _ c.args.self.now.lexicon (giving (record { owner = owner; parts = parts }) (language_of x)) as_it_is (core c.args.self.now) stands
-    (c.in-Err.ensures.refused.0 (language_of x) owner parts stands.rests.meant part) c.in-Err.ensures.refused.1 c.lexicon_fault.ensures
+    (c.in-Err.ensures.refused.0 (language_of x) owner parts stands.rests.meant part) c.in-Err.ensures.refused.1 c.lexicon_fault.ensures.fault
     (λ r. given_is (record { owner = owner; parts = parts }) (core c.args.self.now) (with_run r x)) refl (omega arith)

@@ -14,5 +14,5 @@ returns-in-Ok-clause-alters g c = λ levels x stands.
 
 pub returns-in-Err-clause-alters : goal.returns-in-Err-clause-alters
 returns-in-Err-clause-alters g c = λ levels x stands.
-    step_refused c.args.self.now _ c.args.self.now.lexicon marking as_it_is (core c.args.self.now) stands c.in-Err.ensures.refused c.lexicon_fault.ensures
+    step_refused c.args.self.now _ c.args.self.now.lexicon marking as_it_is (core c.args.self.now) stands c.in-Err.ensures.refused c.lexicon_fault.ensures.fault
     (λ r. marked_is (around_of levels) (core c.args.self.now) (with_run r x)) refl (omega arith)

@@ -7,6 +7,7 @@ turns-init g c = record {
   turned = λ n levels x less stands.
       turned_nothing g.D.SectorDevice g.T.Terminal g.met.D.SectorDevice.counts_now g.met.D.SectorDevice.widens g.met.D.SectorDevice.only_now n c.args.self.now levels x c.args.terminal.now stands;
   lasts = lasts_nothing g.D.SectorDevice g.T.Terminal _ _;
+  told = refl;
   budget = refl;
 }
 
@@ -26,6 +27,7 @@ turns-preserved g c =
           turned_then g.D.SectorDevice g.T.Terminal g.met.D.SectorDevice.counts_now g.met.D.SectorDevice.widens g.met.D.SectorDevice.only_now n c.turns.invariant.lasts lasts h
           (turned n h.levels h.world (omega (arith, h.steps, less)) h.stands);
       lasts = lasts_then g.D.SectorDevice g.T.Terminal g.met.D.SectorDevice.widens c.turns.invariant.lasts lasts;
+      told = c.in-Ok-GoesOn.ensures.tells ∙ c.turns.invariant.told;
       budget = c.in-Ok-GoesOn.ensures.budget ∙ c.turns.invariant.budget;
     }
 

@@ -12,6 +12,7 @@ invariant-turns g l = record {
   turned : (n : ℕ) (levels : List Level) (x : World) → l.fn.self.steps < n → Stands l.fn.self levels x
       → Turned g.T.Terminal n (λ r. left n levels (core l.fn.self) (with_run r x)) (Ok GoesOn) l.fn.self l.self l.fn.terminal l.terminal x;
   lasts : LastsTurn g.D.SectorDevice g.T.Terminal (Ok GoesOn) (device l.fn.self) (device l.self) l.fn.terminal l.terminal;
+  told : g.D.SectorDevice.failures (device l.self) ≡ g.D.SectorDevice.failures (device l.fn.self);
   budget : l.self.budget ≡ l.fn.self.budget;
 }
 

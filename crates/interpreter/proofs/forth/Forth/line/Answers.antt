@@ -1,9 +1,11 @@
-use Rattle.std.proofs.Common.{◌≡◌, true, false, refl, ap, suc, [], length, arith}
+use Rattle.std.proofs.Common.{◌≡◌, ◌∙◌, inl, true, false, refl, ap, suc, [], length, arith}
 use Rattle.std.specs.Prelude.{nat_le}
 use Rattle.std.proofs.lemmas.Bool.{lt-leb, le-leb}
 use Rattle.interpreter.specs.declared.fault.Stop.TheVariants as stop
 use Rattle.interpreter.specs.declared.lines.LineEnd.TheVariants as end
 use Rattle.interpreter.specs.Standing.{core}
+use Rattle.interpreter.specs.Stops.{fault_count}
+use Rattle.interpreter.proofs.Telling.{counts_as, same_count}
 use Rattle.interpreter.proofs.Lining.{lined_as, line_too_long, line_opens, over_lined, ends_lined, broke_lined}
 use Rattle.interpreter.proofs.forth.Forth.line.Goals as goal
 
@@ -72,3 +74,32 @@ returns-in-Err-Abort-clause-lined g c = λ opening waits.
     lined_as g.T.Terminal _ c.abort.result c.args.self.now opening.world (λ r. refl) c.take_line.ensures.device c.take_line.ensures.at_end refl
     (ends_lined g.D.SectorDevice g.T.Terminal D.counts_now D.widens D.only_now _ stop.Abort refl h opens lasts c.abort.ensures.lasts
     (λ d like. c.abort.ensures.lined d h.world (record { space = like }) h.stands))
+
+pub returns-then-text-gt-LINE_LIMIT-clause-tells : goal.returns-then-text-gt-LINE_LIMIT-clause-tells
+returns-then-text-gt-LINE_LIMIT-clause-tells g c = counts_as c.fail.result _ _ _ c.fail.ensures.tells (c.fail.ensures.counts _)
+
+pub returns-in-Ok-clause-tells : goal.returns-in-Ok-clause-tells
+returns-in-Ok-clause-tells g c =
+    counts_as c.finish.result _ _ _ (c.finish.ensures.tells ∙ c.in-Ok.ensures.tells ∙ same_count g.D.SectorDevice c.take_line.ensures.device) (c.finish.ensures.counts _)
+
+pub returns-in-Err-Fault-clause-tells : goal.returns-in-Err-Fault-clause-tells
+returns-in-Err-Fault-clause-tells g c =
+    let told = rw c.in-Err-Fault.field-0-is at c.in-Err-Fault.ensures.tells in
+    counts_as c.fail-in-Err-Fault.result _ _ _
+    (c.fail-in-Err-Fault.ensures.tells ∙ told ∙ ap (λ n. fault_count c.in-Err-Fault.fault n) (same_count g.D.SectorDevice c.take_line.ensures.device))
+    (c.fail-in-Err-Fault.ensures.counts _)
+
+pub returns-in-Err-Quit-clause-tells : goal.returns-in-Err-Quit-clause-tells
+returns-in-Err-Quit-clause-tells g c =
+    let told = rw c.in-Err-Quit.field-0-is at c.in-Err-Quit.ensures.tells in
+    counts_as c.quit.result _ _ _ (c.quit.ensures.tells ∙ told ∙ same_count g.D.SectorDevice c.take_line.ensures.device) (c.quit.ensures.counts _)
+
+pub returns-in-Err-Abort-clause-tells : goal.returns-in-Err-Abort-clause-tells
+returns-in-Err-Abort-clause-tells g c =
+    let told = rw c.in-Err-Abort.field-0-is at c.in-Err-Abort.ensures.tells in
+    counts_as c.abort.result _ _ _ (c.abort.ensures.tells ∙ told ∙ same_count g.D.SectorDevice c.take_line.ensures.device) (c.abort.ensures.counts _)
+
+pub returns-in-Err-Io-clause-tells : goal.returns-in-Err-Io-clause-tells
+returns-in-Err-Io-clause-tells g c =
+    let told = rw c.in-Err-Io.field-0-is at c.in-Err-Io.ensures.tells in
+    inl (same_count g.D.SectorDevice c.abandon.ensures.spares.device ∙ told ∙ same_count g.D.SectorDevice c.take_line.ensures.device)

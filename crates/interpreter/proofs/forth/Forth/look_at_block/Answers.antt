@@ -21,6 +21,7 @@ returns-in-Ok-clause-hands g c = λ levels x stands.
     record {
       answers = h.answers;
       failures = 0;
+      wear = h.wear;
       saves = h.saves;
       world = world h;
       stands = stands_on h stands;
@@ -42,6 +43,7 @@ returns-in-Err-clause-hands g c = λ levels x stands.
     record {
       answers = h.answers;
       failures = failed {A = List ℕ} (Err c.in-Err.fault);
+      wear = h.wear;
       saves = h.saves;
       world = world h;
       stands = rests_on h stands.rests;
@@ -52,7 +54,7 @@ returns-in-Err-clause-hands g c = λ levels x stands.
         refl,
         λ r go. from_block go c.args.block (core old) _ c.requires.block c.requires.loaded
             ∙ comes_of h model r (core old) (looks go)
-            ∙ ap (λ f. Ends (Faults f) (core old) (with_run (after (deed h) r) (world h))) (sym c.block_fault.ensures),
+            ∙ ap (λ f. Ends (Faults f) (core old) (with_run (after (deed h) r) (world h))) (sym c.block_fault.ensures.fault),
       );
       cause = h.cause;
       keeps = h.keeps;

@@ -2,7 +2,7 @@ use Rattle.std.proofs.Common.{◌≡◌, refl, sym, arith, true, false, [], subs
 use Rattle.std.specs.Io.KnownBytes.{Consumes}
 use Rattle.std.proofs.KnownBytes.{Consumes-nil}
 use Rattle.interpreter.specs.Standing.{core}
-use Rattle.interpreter.proofs.Deeds.{printing}
+use Rattle.interpreter.proofs.Deeds.{printing, trying}
 use Rattle.interpreter.proofs.Calls.{print-well, print-fails}
 use Rattle.interpreter.proofs.Running.{maps_same}
 use Rattle.interpreter.proofs.forth.Forth.print.Goals as goal
@@ -29,7 +29,7 @@ returns-in-Ok-clause-serves g c = λ levels x stands.
 pub returns-in-Err-clause-serves : goal.returns-in-Err-clause-serves
 returns-in-Err-clause-serves g c = λ levels x stands.
     record {
-      deed = printing c.args.bytes.now 0;
+      deed = trying c.args.bytes.now;
       world = x;
       stands = stands.rests;
       steps = omega arith;

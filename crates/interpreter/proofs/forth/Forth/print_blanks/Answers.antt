@@ -3,7 +3,7 @@ use Rattle.std.specs.Io.KnownBytes.{Consumes}
 use Rattle.std.proofs.KnownBytes.{Consumes-nil}
 use Rattle.std.specs.Prelude.{replicate}
 use Rattle.interpreter.specs.Standing.{core}
-use Rattle.interpreter.proofs.Deeds.{printing}
+use Rattle.interpreter.proofs.Deeds.{printing, trying}
 use Rattle.interpreter.proofs.Calls.{print-well, print-fails}
 use Rattle.interpreter.proofs.Running.{maps_same}
 use Rattle.interpreter.proofs.forth.Forth.print_blanks.Goals as goal
@@ -30,7 +30,7 @@ returns-in-Ok-clause-serves g c = λ levels x stands.
 pub returns-in-Err-clause-serves : goal.returns-in-Err-clause-serves
 returns-in-Err-clause-serves g c = λ levels x stands.
     record {
-      deed = printing (replicate c.args.count 32) 0;
+      deed = trying (replicate c.args.count 32);
       world = x;
       stands = stands.rests;
       steps = omega arith;

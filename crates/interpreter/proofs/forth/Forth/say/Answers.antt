@@ -1,6 +1,7 @@
 use Rattle.std.proofs.Common.{◌∙◌}
 use Rattle.interpreter.specs.Lining.{line_end}
 use Rattle.interpreter.proofs.Lining.{said_well, said_broke}
+use Rattle.interpreter.proofs.Telling.{cut_counts}
 use Rattle.interpreter.proofs.forth.Forth.say.Goals as goal
 
 pub returns-in-Ok-clause-lined : goal.returns-in-Ok-clause-lined
@@ -11,3 +12,6 @@ pub returns-in-Err-clause-lined : goal.returns-in-Err-clause-lined
 returns-in-Err-clause-lined g c = λ d x likely rests.
     said_broke g.D.SectorDevice g.T.Terminal g.met.D.SectorDevice.only_now (line_end c.args.end) c.args.bytes.now c.args.self.now _ c.args.terminal.now _ d x rests c.abandon.ensures.spares.device c.abandon.ensures.spares.at_end
     (λ said same. c.abandon.ensures.likely said (record { space = same ∙ likely.space })) (c.abandon.ensures.closes x rests) c.in-Err.ensures.input c.in-Err.ensures.err
+
+pub returns-in-Err-clause-counts : goal.returns-in-Err-clause-counts
+returns-in-Err-clause-counts g c = λ before after h. cut_counts c.args.end before after h

@@ -17,5 +17,5 @@ returns-in-Ok-clause-alters g c = λ levels x stands.
 
 pub returns-in-Err-clause-alters : goal.returns-in-Err-clause-alters
 returns-in-Err-clause-alters g c = λ levels x stands.
-    step_refused c.args.self.now _ c.args.self.now.lexicon ending (λ c. set_cell state_cell 0 c) (core c.args.self.now) stands c.in-Err.ensures.refused c.compile_fault.ensures
+    step_refused c.args.self.now _ c.args.self.now.lexicon ending (λ c. set_cell state_cell 0 c) (core c.args.self.now) stands c.in-Err.ensures.refused c.compile_fault.ensures.fault
     (λ r. semicolon_is (core c.args.self.now) (with_run r x)) refl (omega arith)

@@ -15,5 +15,5 @@ returns-in-Ok-clause-alters g c = λ levels x stands.
 
 pub returns-in-Err-clause-alters : goal.returns-in-Err-clause-alters
 returns-in-Err-clause-alters g c = λ levels x stands.
-    step_refused c.args.self.now _ c.args.self.now.lexicon (change (adding c.args.structure)) as_it_is (core c.args.self.now) stands c.in-Err.ensures.refused c.compile_fault.ensures
+    step_refused c.args.self.now _ c.args.self.now.lexicon (change (adding c.args.structure)) as_it_is (core c.args.self.now) stands c.in-Err.ensures.refused c.compile_fault.ensures.fault
     (λ r. structure_is c.args.structure (core c.args.self.now) (with_run r x) ∙ changing_is (adding c.args.structure) (core c.args.self.now) (with_run r x)) refl (omega arith)

@@ -36,4 +36,4 @@ returns-in-Err-check_new-clause-hands g c = λ levels x stands.
     let still : is_some h.world.definition ≡ false = sym (c.is_open.ensures (language_of h.world) (subst (λ (l : Lexicon). Means l (language_of h.world)) c.in-Ok.ensures.lexicon h.stands.rests.meant)) ∙ c.if-is_open.false in
     handed_refused new_name (λ r go. none-yes (core c.args.self.now) (with_run r x) _ none) h
     (λ r go. new_name-no (take c.in-Ok.count c.take_word.new.self.text) (core c.take_word.new.self) (with_run r h.world) go _ still (c.in-Err-check_new.ensures.refused.refused (language_of h.world) h.stands.rests.meant)
-    ∙ ap (λ f. Ends (Faults f) (core c.take_word.new.self) (with_run r h.world)) (sym c.lexicon_fault.ensures))
+    ∙ ap (λ f. Ends (Faults f) (core c.take_word.new.self) (with_run r h.world)) (sym c.lexicon_fault.ensures.fault))

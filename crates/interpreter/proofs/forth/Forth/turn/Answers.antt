@@ -44,7 +44,7 @@ returns-in-Fault-clause-turned g c = λ n levels x less stands.
     let runs = c.in-Fault.ensures.runs (language_of x) levels stands.rests.meant stands.left in
     turned_left g.D.SectorDevice g.T.Terminal g.met.D.SectorDevice.only_now n (stop.Fault c.machine_fault.result) c.args.self.now _ c.args.terminal.now stands.rests refl refl c.in-Fault.ensures.paid
     (left_so _ _ runs.1.0 _ x runs.1.1.1.0
-    (λ r. left_calls c.services.ensures n c.args.self.now.lexicon (with_run r x) runs.0 levels (core c.args.self.now) stands.rests.meant less ∙ ap (λ e. next n e (with_run r x)) runs.1.1.0 ∙ ap (λ f. Ends (Faults f) runs.1.0 (with_run r x)) (sym c.machine_fault.ensures)))
+    (λ r. left_calls c.services.ensures n c.args.self.now.lexicon (with_run r x) runs.0 levels (core c.args.self.now) stands.rests.meant less ∙ ap (λ e. next n e (with_run r x)) runs.1.1.0 ∙ ap (λ f. Ends (Faults f) runs.1.0 (with_run r x)) (sym c.machine_fault.ensures.fault)))
     (Appends-nil _)
 
 pub returns-in-Quit-clause-turned : goal.returns-in-Quit-clause-turned
