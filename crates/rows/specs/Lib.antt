@@ -8,6 +8,7 @@ pub mod Screens
 pub mod Loads
 pub mod Limits
 pub mod Saves
+pub mod Wears
 pub mod Images
 pub mod Stops
 pub mod Openings

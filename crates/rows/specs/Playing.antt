@@ -1,10 +1,10 @@
 -- How the worked sessions are written: each line beside its reply.
 use Rattle.std.specs.Prelude.{◌≡◌, ℕ, ◌-◌, List, [], ◌∷◌, ◌++◌, length, replicate, if◌then◌else◌, Option, Some, None}
 use Rattle.journal.specs.Maps.{fresh}
-use Rattle.block_words.specs.Words.{Answer}
+use Rattle.block_words.specs.Words.{Answer, Wear}
 use Rattle.interpreter.specs.State.{Forth}
 use Rattle.interpreter.specs.Lines.{new_forth}
-use Rattle.terminal.specs.Sessions.{output_of}
+use Rattle.terminal.specs.Sessions.{output_of, wear_of}
 use Rattle.terminal.specs.Playing.{Played, session}
 
 -- a line and its reply, both without the byte 10 at their end
@@ -63,3 +63,7 @@ RepliesIn steps xs = Plays (new_forth steps (fresh (image []))) [] xs
 -- the saved blocks after a session of these lines: what an image that is opened again has
 abbrev pub saved_after : Forth → List Answer → List Exchange → List (List ℕ)
 saved_after forth answers xs = (session forth (asked_lines xs) answers).forth.world.maps.saved
+
+-- how much the device may have begun in them
+abbrev pub wear_after : Forth → List Answer → List Exchange → Wear
+wear_after forth answers xs = wear_of (session forth (asked_lines xs) answers).turns

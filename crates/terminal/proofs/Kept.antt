@@ -1,5 +1,5 @@
 -- A line that was read, and what is kept of it.
-use Rattle.std.proofs.Common.{◌≡◌, ◌⊎◌, inl, inr, ℕ, ◌<◌, true, List, [], ◌∷◌, ◌++◌, length, map, take, Option, Some, None, refl, ap, sym, ◌∙◌, subst, append_assoc, append-nil, arith, take_all, length-take}
+use Rattle.std.proofs.Common.{◌≡◌, ◌⊎◌, inl, inr, ℕ, ◌+◌, ◌<◌, true, List, [], ◌∷◌, ◌++◌, length, map, take, Option, Some, None, refl, ap, sym, ◌∙◌, subst, append_assoc, append-nil, arith, take_all, length-take}
 use Rattle.std.proofs.lemmas.Bool.{cases_lt}
 use Rattle.std.specs.Io.BufRead.{strip_last}
 use Rattle.std.specs.Io.KnownBytes.{Consumes, IsAtEnd}
@@ -8,6 +8,7 @@ use Rattle.block_words.specs.Words.{Answer, Save}
 use Rattle.interpreter.specs.State.{Forth, Run, new_run}
 use Rattle.interpreter.specs.Lines.{Turn, Line, Broken, line, between_lines}
 use Rattle.interpreter.specs.Law.{LongLinesAreAlike}
+use Rattle.interpreter.specs.Terminal.{Begins}
 use Rattle.terminal.specs.Cut.{IsFirstLine, IsWhole, blank_for_tab, line_text}
 use Rattle.terminal.specs.Calls.{ReadsLine}
 use Rattle.terminal.specs.Sessions.{FirstTurn}
@@ -90,16 +91,19 @@ line_alike s bytes other turn closing alike l =
       printed = ap (λ e. e.world.run.output) same ∙ l.printed;
       saved = ap (λ e. e.world.run.saves) same ∙ l.saved;
       failed = ap (λ e. e.world.run.failures) same ∙ l.failed;
+      worn = ap (λ e. e.world.run.wear) same ∙ l.worn;
     }
 
-pub broken_alike : (s : Forth) (bytes other given : List ℕ) (answers : List Answer) (made : List Save) (closing : Forth) → Same s bytes other
-    → Broken s bytes given answers made closing → Broken s other given answers made closing
-broken_alike s bytes other given answers made closing alike b =
+pub broken_alike : (s : Forth) (bytes other given printed : List ℕ) (answers : List Answer) (made : List Save) (closing : Forth) → Same s bytes other
+    → Broken s bytes given printed answers made closing → Broken s other given printed answers made closing
+broken_alike s bytes other given printed answers made closing alike b =
     let same = sym (alike (new_run given answers (Some b.calls))) in
     record {
       calls = b.calls;
       breaks = ap (λ e. e.ending) same ∙ b.breaks;
       leaves = ap (λ e. between_lines s.budget e) same ∙ b.leaves;
       taken = ap (λ e. e.world.run.input) same ∙ b.taken;
+      printed_whole = subst (λ e. Begins e.world.run.output printed) (sym same) b.printed_whole;
+      printed_part = subst (λ e. Begins printed e.world.run.output) (alike (new_run given answers (Some (b.calls + 1)))) b.printed_part;
       saved = ap (λ e. e.world.run.saves) same ∙ b.saved;
     }

@@ -1,5 +1,6 @@
 -- What a run that broke off left of its input, told of the reader.
 use Rattle.std.proofs.Common.{◌≡◌, ℕ, ◌≤◌, ◌-◌, ◌^◌, inr, Bool, true, false, List, [], ◌∷◌, Option, Some, None, subst, arith}
+use Rattle.sector_disk.specs.declared.device.SectorDevice.{Ghosts}
 use Rattle.block_words.specs.Words.{Save}
 use Rattle.interpreter.specs.State.{Forth}
 use Rattle.interpreter.specs.Lines.{Turn}
@@ -16,9 +17,9 @@ cut_unknown fault before bytes turns over printed made closing (InLine c) =
 cut_unknown fault before bytes turns over printed made closing (InFlushing c) =
     InFlushing (record { side = c.side; whole = inr tt; one = c.one; printed_all = c.printed_all; saved_all = c.saved_all; after = c.after })
 
-module _ (fault : RunFault) (opening closing : Forth) (written written' : Option (List ℕ)) (before after give : ℕ) (made : List Save) where
+module _ {D : Type 0} (G : Ghosts D) (fault : RunFault) (opening closing : Forth) (written written' : Option (List ℕ)) (before after : D) (give : ℕ) (made : List Save) where
   abbrev Breaks : (left left' : Option (List ℕ)) → Type 0
-  Breaks left left' = BreaksOff fault opening closing left left' written written' before after made
+  Breaks left left' = BreaksOff G fault opening closing left left' written written' before after made
 
   broken_unknown : Breaks None (Some []) → Breaks None None
   broken_unknown b = record {
@@ -39,6 +40,7 @@ module _ (fault : RunFault) (opening closing : Forth) (written written' : Option
     output = b.output;
     all_saves = b.all_saves;
     cause = b.cause;
+    wears = b.wears;
   }
 
   -- no known byte is left behind the end of the input

@@ -3,15 +3,18 @@ use Rattle.std.proofs.Common.{◌≡◌, ℕ, List, [], ◌∷◌, ◌++◌, Opt
 use Rattle.std.specs.Io.KnownBytes.{Appends, Consumes, IsAtEnd}
 use Rattle.std.proofs.KnownBytes.{Appends-nil, Appends-trans, Consumes-nil, Consumes-trans}
 use Rattle.std.proofs.lemmas.Grind.{flat_map-append}
+use Rattle.sector_disk.specs.declared.device.SectorDevice.{Ghosts}
 use Rattle.block_words.specs.Words.{Save}
+use Rattle.block_words.specs.Calls.{WearsAtMost}
+use Rattle.block_words.proofs.Worn.{wears_none}
 use Rattle.interpreter.specs.State.{Forth}
 use Rattle.interpreter.specs.Lines.{Turn}
 use Rattle.interpreter.specs.Promise.{HasRisenBy}
 use Rattle.terminal.specs.declared.run_fault.RunFault.{RunFault}
-use Rattle.terminal.specs.Sessions.{Session, Completes, BreaksOff, output_of, saves_of, failures_of}
+use Rattle.terminal.specs.Sessions.{Session, Completes, BreaksOff, output_of, saves_of, failures_of, wear_of}
 use Rattle.terminal.specs.Calls.{TurnDone}
 use Rattle.terminal.proofs.Known.{Consumes-none, empty-parts}
-use Rattle.terminal.proofs.Rising.{failed_then, failed_once}
+use Rattle.terminal.proofs.Rising.{failed_then, failed_once, worn_then, worn_once}
 
 output_of-append : (ts us : List Turn) → output_of (ts ++ us) ≡ output_of ts ++ output_of us
 output_of-append ts us = flat_map-append (λ t. t.reply) ts us
@@ -20,34 +23,36 @@ saves_of-append : (ts us : List Turn) → saves_of (ts ++ us) ≡ saves_of ts ++
 saves_of-append ts us = flat_map-append (λ t. t.saves) ts us
 
 -- The lines so far: whatever session follows goes on from them. Nothing follows, where the end was met.
-pub record SoFar (opening now : Forth) (start left output written : Option (List ℕ)) (before after : ℕ) (made : List Save) : Type 0 where
+pub record SoFar {D : Type 0} (G : Ghosts D) (opening now : Forth) (start left output written : Option (List ℕ)) (before after : D) (made : List Save) : Type 0 where
   pub taken : List ℕ
   pub turns : List Turn
   pub read : Consumes start left taken
   pub replies : Appends output written (output_of turns)
   pub saves : made ≡ saves_of turns
-  pub cause : HasRisenBy (failures_of turns) before after
+  pub cause : HasRisenBy (failures_of turns) (G.failures before) (G.failures after)
+  pub wears : WearsAtMost G before after (wear_of turns)
   pub goes_on : (rest : List ℕ) (more : List Turn) (closing : Forth) → (left ≡ Some [] → rest ≡ []) → Session now rest more closing
       → Session opening (taken ++ rest) (turns ++ more) closing
 
-pub so_far_none : (opening : Forth) (start output : Option (List ℕ)) (before : ℕ) → SoFar opening opening start start output output before before []
-so_far_none opening start output before = record {
+pub so_far_none : {D : Type 0} (G : Ghosts D) (opening : Forth) (start output : Option (List ℕ)) (before : D) → SoFar G opening opening start start output output before before []
+so_far_none G opening start output before = record {
   taken = [];
   turns = [];
   read = Consumes-nil start;
   replies = Appends-nil output;
   saves = refl;
   cause = refl;
+  wears = wears_none G before;
   goes_on = λ rest more closing follows session. session;
 }
 
-module _ (opening now next : Forth) (start left left' output written written' : Option (List ℕ)) (before mid after : ℕ) (made more : List Save)
-    (so_far : SoFar opening now start left output written before mid made) where
+module _ {D : Type 0} (G : Ghosts D) (opening now next : Forth) (start left left' output written written' : Option (List ℕ)) (before mid after : D) (made more : List Save)
+    (so_far : SoFar G opening now start left output written before mid made) where
   -- where the end was met before, nothing more is taken
   none_taken : (bytes : List ℕ) → Consumes left left' bytes → left ≡ Some [] → (bytes ≡ []) × (left' ≡ Some [])
   none_taken bytes read none = Consumes-none left' bytes (rw (sym none) read)
 
-  pub so_far_turn : TurnDone now next left left' written written' mid after more → SoFar opening next start left' output written' before after (made ++ more)
+  pub so_far_turn : TurnDone G now next left left' written written' mid after more → SoFar G opening next start left' output written' before after (made ++ more)
   so_far_turn done = record {
     taken = so_far.taken ++ done.taken;
     turns = so_far.turns ++ done.turn ∷ [];
@@ -55,7 +60,8 @@ module _ (opening now next : Forth) (start left left' output written written' : 
     replies = subst (λ l. Appends output written' l) (ap (λ l. output_of so_far.turns ++ l) (sym (append-nil done.turn.reply)) ∙ sym (output_of-append so_far.turns (done.turn ∷ [])))
         (Appends-trans output written written' (output_of so_far.turns) done.turn.reply so_far.replies done.reply);
     saves = ap (λ l. l ++ more) so_far.saves ∙ ap (λ l. saves_of so_far.turns ++ l) (done.saves ∙ sym (append-nil done.turn.saves)) ∙ sym (saves_of-append so_far.turns (done.turn ∷ []));
-    cause = failed_then so_far.turns (done.turn ∷ []) before mid after so_far.cause (failed_once done.turn mid after done.cause);
+    cause = failed_then so_far.turns (done.turn ∷ []) (G.failures before) (G.failures mid) (G.failures after) so_far.cause (failed_once done.turn (G.failures mid) (G.failures after) done.cause);
+    wears = worn_then G so_far.turns (done.turn ∷ []) before mid after so_far.wears (worn_once G done.turn mid after done.wears);
     goes_on = λ rest turns closing follows session.
         let none : left ≡ Some [] → done.taken ++ rest ≡ [] = λ e.
         let ended = none_taken done.taken done.read e in
@@ -66,8 +72,8 @@ module _ (opening now next : Forth) (start left left' output written written' : 
         (subst (λ ts. Session opening (so_far.taken ++ (done.taken ++ rest)) ts closing) (sym (append_assoc so_far.turns (done.turn ∷ []) turns)) whole);
   }
 
-  pub so_far_cut : (fault : RunFault) → BreaksOff fault now next left left' written written' mid after more
-      → BreaksOff fault opening next start left' output written' before after (made ++ more)
+  pub so_far_cut : (fault : RunFault) → BreaksOff G fault now next left left' written written' mid after more
+      → BreaksOff G fault opening next start left' output written' before after (made ++ more)
   so_far_cut fault cut =
       let none : left ≡ Some [] → cut.front ++ cut.bytes ≡ [] = λ e. (none_taken (cut.front ++ cut.bytes) cut.read e).0 in
       record {
@@ -95,14 +101,16 @@ module _ (opening now next : Forth) (start left left' output written written' : 
             (Appends-trans output written written' (output_of so_far.turns) (output_of cut.turns ++ cut.printed) so_far.replies cut.output);
         all_saves = ap (λ l. l ++ more) so_far.saves ∙ ap (λ l. saves_of so_far.turns ++ l) cut.all_saves
             ∙ sym (append_assoc (saves_of so_far.turns) (saves_of cut.turns) cut.begun) ∙ ap (λ l. l ++ cut.begun) (sym (saves_of-append so_far.turns cut.turns));
-        cause = subst (λ ts. HasRisenBy (failures_of ts) before after) (sym (append_assoc so_far.turns cut.turns cut.last))
-            (failed_then so_far.turns (cut.turns ++ cut.last) before mid after so_far.cause cut.cause);
+        cause = subst (λ ts. HasRisenBy (failures_of ts) (G.failures before) (G.failures after)) (sym (append_assoc so_far.turns cut.turns cut.last))
+            (failed_then so_far.turns (cut.turns ++ cut.last) (G.failures before) (G.failures mid) (G.failures after) so_far.cause cut.cause);
+        wears = subst (λ ts. WearsAtMost G before after (wear_of ts)) (sym (append_assoc so_far.turns cut.turns cut.last))
+            (worn_then G so_far.turns (cut.turns ++ cut.last) before mid after so_far.wears cut.wears);
       }
 
-pub so_far_end : (opening now : Forth) (start left left' output written written' : Option (List ℕ)) (before after : ℕ) (made : List Save)
-    → SoFar opening now start left output written before after made
-    → Consumes left left' [] → left' ≡ Some [] → written' ≡ written → Completes opening now start left' output written' before after made
-so_far_end opening now start left left' output written written' before after made so_far none end silent = record {
+pub so_far_end : {D : Type 0} (G : Ghosts D) (opening now : Forth) (start left left' output written written' : Option (List ℕ)) (before after : D) (made : List Save)
+    → SoFar G opening now start left output written before after made
+    → Consumes left left' [] → left' ≡ Some [] → written' ≡ written → Completes G opening now start left' output written' before after made
+so_far_end G opening now start left left' output written written' before after made so_far none end silent = record {
   input = so_far.taken;
   turns = so_far.turns;
   session =
@@ -114,4 +122,5 @@ so_far_end opening now start left left' output written written' before after mad
   output = subst (λ o. Appends output o (output_of so_far.turns)) (sym silent) so_far.replies;
   saves = so_far.saves;
   cause = so_far.cause;
+  wears = so_far.wears;
 }

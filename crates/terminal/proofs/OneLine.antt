@@ -1,11 +1,13 @@
 -- One line of a run: answered whole, or cut short.
-use Rattle.std.proofs.Common.{◌≡◌, ◌≢◌, ℕ, ◌<◌, inr, ⊎_elim, List, [], ◌∷◌, ◌++◌, Option, Some, refl, ap, sym, ◌∙◌, subst, append-nil, arith}
+use Rattle.std.proofs.Common.{◌≡◌, ◌≢◌, ℕ, ◌<◌, inr, List, [], ◌∷◌, ◌++◌, Option, Some, refl, ap, sym, ◌∙◌, subst, append-nil, arith}
 use Rattle.std.specs.List.{AllByRecursion}
 use Rattle.std.specs.Io.BufRead.{strip_last}
 use Rattle.std.specs.Io.KnownBytes.{Consumes, Appends, Keeps}
 use Rattle.std.proofs.KnownBytes.{Appends-nil}
-use Rattle.sector_disk.specs.Counting.{HasRisen}
+use Rattle.sector_disk.specs.Counting.{count_up}
+use Rattle.sector_disk.specs.declared.device.SectorDevice.{Ghosts}
 use Rattle.block_words.specs.Words.{Save}
+use Rattle.block_words.proofs.Worn.{wears_none}
 use Rattle.interpreter.specs.State.{Forth}
 use Rattle.interpreter.specs.Lines.{LineEnd, Interpreting, Compiling, Quit, Io, Fails, Turn, Line, Broken, line}
 use Rattle.interpreter.specs.Promise.{HasRisenBy, Replied, Stopped, Answers, OnIo}
@@ -16,15 +18,15 @@ use Rattle.terminal.specs.Cut.{IsWhole, line_text}
 use Rattle.terminal.specs.Calls.{ReadsPart, TurnDone}
 use Rattle.terminal.specs.Sessions.{FirstTurn, BreaksOff, InReading, InLine, InFlushing}
 use Rattle.terminal.proofs.Known.{Appends-after}
-use Rattle.terminal.proofs.Rising.{failed_once}
+use Rattle.terminal.proofs.Rising.{failed_once, worn_once}
 use Rattle.terminal.proofs.Kept.{Kept, TakenLine, taken_line, first_turn, kept_alike, line_alike, broken_alike}
 
 -- ---- how the line ended
 
-module _ (opening : Forth) (bytes : List ℕ) (closing : Forth) (input left output printed : Option (List ℕ)) (before after : ℕ) (made : List Save) (f g : ℕ) where
+module _ {D : Type 0} (G : Ghosts D) (opening : Forth) (bytes : List ℕ) (closing : Forth) (input left output printed : Option (List ℕ)) (before after : D) (made : List Save) (f g : ℕ) where
   -- the terminal failed in it
-  pub was_stopped : (ending : LineEnd) → Answers ending opening bytes closing input left output printed before after made
-      → OnIo ending (HasRisen f g) (g ≡ f) → f ≡ 0 → 0 < g → Stopped opening bytes closing input left output printed before after made
+  pub was_stopped : (ending : LineEnd) → Answers G ending opening bytes closing input left output printed before after made
+      → OnIo ending (g ≡ count_up f) (g ≡ f) → f ≡ 0 → 0 < g → Stopped G opening bytes closing input left output printed before after made
   was_stopped Io h k zero some = h
   was_stopped Interpreting h k zero some = absurd (omega (arith, k, zero, some))
   was_stopped Compiling h k zero some = absurd (omega (arith, k, zero, some))
@@ -32,9 +34,9 @@ module _ (opening : Forth) (bytes : List ℕ) (closing : Forth) (input left outp
   was_stopped (Fails e) h k zero some = absurd (omega (arith, k, zero, some))
 
   -- the terminal did not fail
-  pub was_replied : (ending : LineEnd) → Answers ending opening bytes closing input left output printed before after made
-      → OnIo ending (HasRisen f g) (g ≡ f) → f ≡ 0 → g ≡ 0 → Replied ending opening bytes closing input left output printed before after made
-  was_replied Io h k zero none = absurd (⊎_elim (λ x. omega (arith, x, zero, none)) (λ x. omega (arith, x, none)) k)
+  pub was_replied : (ending : LineEnd) → Answers G ending opening bytes closing input left output printed before after made
+      → OnIo ending (g ≡ count_up f) (g ≡ f) → f ≡ 0 → g ≡ 0 → Replied G ending opening bytes closing input left output printed before after made
+  was_replied Io h k zero none = absurd (let e : 1 ≡ 0 = sym (k ∙ ap count_up zero) ∙ none in omega (arith, e))
   was_replied Interpreting h k zero none = h
   was_replied Compiling h k zero none = h
   was_replied Quit h k zero none = h
@@ -42,8 +44,8 @@ module _ (opening : Forth) (bytes : List ℕ) (closing : Forth) (input left outp
 
 -- ---- the line was read
 
-module _ (long_lines : LongLinesAreAlike) (opening : Forth) (a b c before during written : Option (List ℕ)) (items text : List ℕ) (kept : Kept a b items) (is : text ≡ strip_last 13 items)
-    (same : during ≡ before) (f g : ℕ) (made : List Save) (closing : Forth) where
+module _ {D : Type 0} (G : Ghosts D) (long_lines : LongLinesAreAlike) (opening : Forth) (a b c before during written : Option (List ℕ)) (items text : List ℕ) (kept : Kept a b items) (is : text ≡ strip_last 13 items)
+    (same : during ≡ before) (f g : D) (made : List Save) (closing : Forth) where
   abbrev bytes : List ℕ
   bytes = kept.0
 
@@ -54,17 +56,16 @@ module _ (long_lines : LongLinesAreAlike) (opening : Forth) (a b c before during
   taken_by given gave = taken_line given a b c bytes kept.1 gave
 
   -- the first turn of just the bytes read, and how its terminal failed
-  abbrev StoppedTurn : Turn → Forth → List ℕ → Type 0
-  StoppedTurn turn over l = (first : FirstTurn opening l turn [] over) × Broken opening (line_text first.bytes) turn.given first.line.answers made closing
+  abbrev StoppedTurn : Turn → (shown : List ℕ) → Forth → List ℕ → Type 0
+  StoppedTurn turn shown over l = (first : FirstTurn opening l turn [] over) × Broken opening (line_text first.bytes) turn.given shown first.line.answers made closing
 
-  pub line_stopped : (fault : RunFault) → Stopped opening text closing b c during written f g made → BreaksOff fault opening closing a c before written f g made
+  pub line_stopped : (fault : RunFault) → Stopped G opening text closing b c during written f g made → BreaksOff G fault opening closing a c before written f g made
   line_stopped fault s =
       let t = taken_by s.turn.given s.given in
-      let (printed, begins, appended) = s.reply in
-      let both : StoppedTurn s.turn s.over t.taken =
-      subst (λ l. StoppedTurn s.turn s.over l) (append-nil t.taken) (
+      let both : StoppedTurn s.turn s.shown s.over t.taken =
+      subst (λ l. StoppedTurn s.turn s.shown s.over l) (append-nil t.taken) (
         first_turn opening s.over s.turn bytes a c t [] (λ e. refl) (λ e. refl) (line_alike opening text (line_text bytes) s.turn s.over whole s.line),
-        broken_alike opening text (line_text bytes) s.turn.given s.line.answers made closing whole s.broken,
+        broken_alike opening text (line_text bytes) s.turn.given s.shown s.line.answers made closing whole s.broken,
       ) in
       record {
         front = [];
@@ -75,18 +76,19 @@ module _ (long_lines : LongLinesAreAlike) (opening : Forth) (a b c before during
         last = s.turn ∷ [];
         over = s.over;
         session = ([], s.over, both.0, (refl, refl));
-        printed = printed;
+        printed = s.shown;
         begun = made;
-        begins = (begins.0, append-nil s.turn.reply ∙ begins.1);
+        begins = (s.begins.0, append-nil s.turn.reply ∙ s.begins.1);
         saves = (s.saves.0, append-nil s.turn.saves ∙ s.saves.1);
         cut = InLine (record { turn = s.turn; over = s.over; whole = t.whole; only = refl; first = both.0; broken = both.1 });
         read = t.read;
-        output = subst (λ o. Appends o written printed) same appended;
+        output = subst (λ o. Appends o written s.shown) same s.reply;
         all_saves = refl;
-        cause = failed_once s.turn f g s.cause;
+        cause = failed_once s.turn (G.failures f) (G.failures g) s.cause;
+        wears = worn_once G s.turn f g s.wears;
       }
 
-  module _ (ending : LineEnd) (r : Replied ending opening text closing b c during written f g made) (d flushed : Option (List ℕ)) (left : d ≡ c) (kept_on : Keeps written flushed) where
+  module _ (ending : LineEnd) (r : Replied G ending opening text closing b c during written f g made) (d flushed : Option (List ℕ)) (left : d ≡ c) (kept_on : Keeps written flushed) where
     abbrev taken_r : TakenLine r.turn.given bytes a c
     taken_r = taken_by r.turn.given r.given
 
@@ -96,7 +98,7 @@ module _ (long_lines : LongLinesAreAlike) (opening : Forth) (a b c before during
     shown : Appends before flushed r.turn.reply
     shown = Appends-after before during written flushed r.turn.reply same r.reply kept_on
 
-    pub line_replied : TurnDone opening closing a d before flushed f g made
+    pub line_replied : TurnDone G opening closing a d before flushed f g made
     line_replied = record {
       turn = r.turn;
       taken = taken_r.taken;
@@ -104,12 +106,13 @@ module _ (long_lines : LongLinesAreAlike) (opening : Forth) (a b c before during
       reply = shown;
       saves = r.saves;
       cause = r.cause;
+      wears = r.wears;
       first = λ rest follows.
           let ends : c ≡ Some [] → rest ≡ [] = λ e. follows (left ∙ e) in
           first_turn opening closing r.turn bytes a c taken_r rest ends (λ ended. ends (r.at_end ended)) whole_line;
     }
 
-    pub line_unflushed : BreaksOff Write opening closing a d before flushed f g made
+    pub line_unflushed : BreaksOff G Write opening closing a d before flushed f g made
     line_unflushed =
         let first : FirstTurn opening taken_r.taken r.turn [] closing =
         subst (λ l. FirstTurn opening l r.turn [] closing) (append-nil taken_r.taken) (first_turn opening closing r.turn bytes a c taken_r [] (λ e. refl) (λ e. refl) whole_line) in
@@ -130,16 +133,17 @@ module _ (long_lines : LongLinesAreAlike) (opening : Forth) (a b c before during
           read = subst (λ l. Consumes a l taken_r.taken) (sym left) taken_r.read;
           output = shown;
           all_saves = refl;
-          cause = failed_once r.turn f g r.cause;
+          cause = failed_once r.turn (G.failures f) (G.failures g) r.cause;
+          wears = worn_once G r.turn f g r.wears;
         }
 
 -- ---- the reader failed in the line
 
-module _ (total : HasTurn) (opening : Forth) (f : ℕ) (a b before after : Option (List ℕ)) (same : after ≡ before) where
+module _ {D : Type 0} (G : Ghosts D) (total : HasTurn) (opening : Forth) (f : D) (a b before after : Option (List ℕ)) (same : after ≡ before) where
   silent : Appends before after []
   silent = subst (λ o. Appends before o []) (sym same) (Appends-nil before)
 
-  unread_bytes : (bytes : List ℕ) → AllByRecursion (λ b. b ≢ 10) bytes → Consumes a b bytes → BreaksOff Read opening opening a b before after f f []
+  unread_bytes : (bytes : List ℕ) → AllByRecursion (λ b. b ≢ 10) bytes → Consumes a b bytes → BreaksOff G Read opening opening a b before after f f []
   unread_bytes [] no_feed read = record {
     front = [];
     turns = [];
@@ -158,6 +162,7 @@ module _ (total : HasTurn) (opening : Forth) (f : ℕ) (a b before after : Optio
     output = silent;
     all_saves = refl;
     cause = refl;
+    wears = wears_none G f;
   }
   unread_bytes (x ∷ xs) no_feed read =
       let (turn, over, line, none, calm) = total opening (line_text (x ∷ xs)) in
@@ -190,8 +195,9 @@ module _ (total : HasTurn) (opening : Forth) (f : ℕ) (a b before after : Optio
         read = read;
         output = silent;
         all_saves = refl;
-        cause = failed_once turn f f (subst (λ n. HasRisenBy n f f) (sym calm) refl);
+        cause = failed_once turn (G.failures f) (G.failures f) (subst (λ n. HasRisenBy n (G.failures f) (G.failures f)) (sym calm) refl);
+        wears = worn_once G turn f f (record { few_writes = omega arith; few_syncs = omega arith });
       }
 
-  pub line_unread : (bytes : List ℕ) → ReadsPart a b bytes → BreaksOff Read opening opening a b before after f f []
+  pub line_unread : (bytes : List ℕ) → ReadsPart a b bytes → BreaksOff G Read opening opening a b before after f f []
   line_unread bytes part = unread_bytes bytes part.no_feed part.read

@@ -97,6 +97,7 @@ play_is (suc n) s (b ∷ input) answers short whole =
           printed = refl;
           saved = refl;
           failed = refl;
+          worn = refl;
         };
       },
       play_is n (between_lines s.budget e) (drop k rest) e.world.run.answers (drop_shorter k n rest (let r = rest_shorter b input in omega (arith, r, short))) (both_second (is_empty e.world.run.input) later.whole whole),

@@ -2,7 +2,9 @@
 use Rattle.std.specs.Prelude.{◌≡◌, ◌≢◌, ℕ, ◌<◌, ◌⊎◌, List, [], ◌∷◌, ◌++◌, length, Option, Some}
 use Rattle.std.specs.List.{AllByRecursion}
 use Rattle.std.specs.Io.KnownBytes.{Appends, Consumes}
+use Rattle.sector_disk.specs.declared.device.SectorDevice.{Ghosts}
 use Rattle.block_words.specs.Words.{Save}
+use Rattle.block_words.specs.Calls.{WearsAtMost}
 use Rattle.interpreter.specs.State.{Forth}
 use Rattle.interpreter.specs.Lines.{Turn}
 use Rattle.interpreter.specs.Promise.{HasRisenBy}
@@ -19,11 +21,12 @@ pub record ReadsPart (input left : Option (List ℕ)) (bytes : List ℕ) : Type 
   pub read : Consumes input left bytes
 
 -- One line was read and its reply written. It is the first turn of whatever may follow: nothing, where the end was met.
-pub record TurnDone (opening closing : Forth) (input left output written : Option (List ℕ)) (before after : ℕ) (made : List Save) : Type 0 where
+pub record TurnDone {D : Type 0} (G : Ghosts D) (opening closing : Forth) (input left output written : Option (List ℕ)) (old new : D) (made : List Save) : Type 0 where
   pub turn : Turn
   pub taken : List ℕ
   pub read : Consumes input left taken
   pub reply : Appends output written turn.reply
   pub saves : made ≡ turn.saves
-  pub cause : HasRisenBy turn.failures before after
+  pub cause : HasRisenBy turn.failures (G.failures old) (G.failures new)
+  pub wears : WearsAtMost G old new turn.wear
   pub first : (rest : List ℕ) → (left ≡ Some [] → rest ≡ []) → FirstTurn opening (taken ++ rest) turn rest closing

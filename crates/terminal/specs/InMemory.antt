@@ -3,6 +3,7 @@ use Rattle.std.specs.Prelude.{◌≡◌, ◌⊎◌, ℕ, List, [], Option, None,
 use Rattle.clap.specs.Words.{Text, fault_of, subcommand_of}
 use Rattle.clap.specs.declared.error.kind.ErrorKind.{ErrorKind}
 use Rattle.clap.specs.declared.error.kind.ErrorKind.TheVariants.{DisplayHelp, DisplayVersion}
+use Rattle.sector_disk.specs.declared.device.SectorDevice.{Ghosts}
 use Rattle.journal.specs.Maps.{fresh}
 use Rattle.recovery.specs.Formatted.{blank_blocks}
 use Rattle.block_words.specs.Words.{Save}
@@ -28,14 +29,16 @@ abbrev pub blank_forth : Forth
 blank_forth = new_forth 1000000 (fresh (blank_blocks 32))
 
 -- The whole input was read, and the output of its session was written. No call of the memory fails.
-abbrev pub CompletesInMemory : (left left' written written' : Option (List ℕ)) → Type 0
-CompletesInMemory left left' written written' =
-    (closing : Forth) × (made : List Save) × Completes blank_forth closing left left' written written' 0 0 made
+abbrev pub CompletesInMemory : {D : Type 0} → Ghosts D → (left left' written written' : Option (List ℕ)) → Type 0
+CompletesInMemory {D} G left left' written written' =
+    (closing : Forth) × (made : List Save) × (old : D) × (new : D) × (G.failures old ≡ 0) × (G.failures new ≡ 0)
+    × Completes G blank_forth closing left left' written written' old new made
 
 -- The same up to where the reader or the writer failed.
-abbrev pub BreaksInMemory : (left left' written written' : Option (List ℕ)) → Type 0
-BreaksInMemory left left' written written' =
-    (fault : RunFault) × (closing : Forth) × (made : List Save) × BreaksOff fault blank_forth closing left left' written written' 0 0 made
+abbrev pub BreaksInMemory : {D : Type 0} → Ghosts D → (left left' written written' : Option (List ℕ)) → Type 0
+BreaksInMemory {D} G left left' written written' =
+    (fault : RunFault) × (closing : Forth) × (made : List Save) × (old : D) × (new : D) × (G.failures old ≡ 0) × (G.failures new ≡ 0)
+    × BreaksOff G fault blank_forth closing left left' written written' old new made
 
 -- help was asked for
 abbrev pub IsHelp : ErrorKind → Type 0

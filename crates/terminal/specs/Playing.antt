@@ -37,6 +37,7 @@ turn_of given e =
       ending = e.ending;
       saves = e.world.run.saves;
       failures = e.world.run.failures;
+      wear = e.world.run.wear;
     }
 
 abbrev pub with_turn : List ℕ → Ended → Played → Played

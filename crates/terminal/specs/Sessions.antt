@@ -3,7 +3,8 @@ use Rattle.std.specs.Prelude.{◌≡◌, ◌≢◌, ℕ, ◌+◌, true, List, []
 use Rattle.std.specs.List.{AllByRecursion, flat_map}
 use Rattle.std.specs.Io.KnownBytes.{Appends, Consumes, IsAtEnd}
 use Rattle.sector_disk.specs.declared.device.SectorDevice.{Ghosts}
-use Rattle.block_words.specs.Words.{Save}
+use Rattle.block_words.specs.Words.{Save, Wear, no_wear, add_wear}
+use Rattle.block_words.specs.Calls.{WearsAtMost}
 use Rattle.interpreter.specs.State.{Forth}
 use Rattle.interpreter.specs.Lines.{Turn, Line, Broken}
 use Rattle.interpreter.specs.Promise.{HasRisenBy, Keeps}
@@ -24,6 +25,11 @@ saves_of turns = flat_map (λ turn. turn.saves) turns
 abbrev pub failures_of : List Turn → ℕ
 failures_of [] = 0
 failures_of (turn ∷ turns) = turn.failures + failures_of turns
+
+-- how much the device may have begun in them
+abbrev pub wear_of : List Turn → Wear
+wear_of [] = no_wear
+wear_of (turn ∷ turns) = add_wear turn.wear (wear_of turns)
 
 -- the first line of the input, and what is left after it: the line may take bytes that follow it
 pub record FirstTurn (opening : Forth) (input : List ℕ) (turn : Turn) (left : List ℕ) (closing : Forth) : Type 0 where
@@ -50,8 +56,8 @@ Runs {D} {F} G stands device old new P =
     × Keeps G opening closing (device old) (device new) made × P opening closing made
 
 -- The whole input was read, and the output of its session was written. These saves were begun, and the device failed
--- just as often as the session says.
-pub record Completes (opening closing : Forth) (left left' written written' : Option (List ℕ)) (before after : ℕ) (made : List Save) : Type 0 where
+-- just as often as the session says, and began no more writes and syncs.
+pub record Completes {D : Type 0} (G : Ghosts D) (opening closing : Forth) (left left' written written' : Option (List ℕ)) (old new : D) (made : List Save) : Type 0 where
   pub input : List ℕ
   pub turns : List Turn
   pub session : Session opening input turns closing
@@ -59,7 +65,8 @@ pub record Completes (opening closing : Forth) (left left' written written' : Op
   pub end : IsAtEnd left'
   pub output : Appends written written' (output_of turns)
   pub saves : made ≡ saves_of turns
-  pub cause : HasRisenBy (failures_of turns) before after
+  pub cause : HasRisenBy (failures_of turns) (G.failures old) (G.failures new)
+  pub wears : WearsAtMost G old new (wear_of turns)
 
 -- ---- a run that broke off
 
@@ -71,14 +78,14 @@ pub record NotRun (fault : RunFault) (before : Forth) (bytes printed : List ℕ)
   pub saved_none : made ≡ []
   pub same : closing ≡ before
 
--- The terminal failed in a line that was read whole: the system is left as of that call.
-pub record BrokeIn (before : Forth) (bytes : List ℕ) (left' : Option (List ℕ)) (turns : List Turn) (made : List Save) (closing : Forth) : Type 0 where
+-- The terminal failed in a line that was read whole: what was printed and the system are left as of that call.
+pub record BrokeIn (before : Forth) (bytes : List ℕ) (left' : Option (List ℕ)) (turns : List Turn) (printed : List ℕ) (made : List Save) (closing : Forth) : Type 0 where
   pub turn : Turn
   pub over : Forth
   pub whole : IsWhole bytes left'
   pub only : turns ≡ turn ∷ []
   pub first : FirstTurn before bytes turn [] over
-  pub broken : Broken before (line_text first.bytes) turn.given first.line.answers made closing
+  pub broken : Broken before (line_text first.bytes) turn.given printed first.line.answers made closing
 
 -- A line that was read whole came to its end, and its whole reply was written; then the writer failed to pass it on.
 pub record NotFlushed (fault : RunFault) (bytes : List ℕ) (left' : Option (List ℕ)) (turns : List Turn) (over : Forth) (printed : List ℕ) (made : List Save) (closing : Forth) : Type 0 where
@@ -92,12 +99,12 @@ pub record NotFlushed (fault : RunFault) (bytes : List ℕ) (left' : Option (Lis
 -- how a line was cut short
 pub data CutShort (fault : RunFault) (before : Forth) (bytes : List ℕ) (left' : Option (List ℕ)) (turns : List Turn) (over : Forth) (printed : List ℕ) (made : List Save) (closing : Forth) : Type 0 where
   InReading : NotRun fault before bytes printed made closing → CutShort fault before bytes left' turns over printed made closing
-  InLine : BrokeIn before bytes left' turns made closing → CutShort fault before bytes left' turns over printed made closing
+  InLine : BrokeIn before bytes left' turns printed made closing → CutShort fault before bytes left' turns over printed made closing
   InFlushing : NotFlushed fault bytes left' turns over printed made closing → CutShort fault before bytes left' turns over printed made closing
 
 -- Reader or writer failed. The bytes read so far have a session, as if the input ended there. What was written is the
 -- whole replies of all its lines but the last one, and a beginning of that one's reply; and so are the saves.
-pub record BreaksOff (fault : RunFault) (opening closing : Forth) (left left' written written' : Option (List ℕ)) (before after : ℕ) (made : List Save) : Type 0 where
+pub record BreaksOff {D : Type 0} (G : Ghosts D) (fault : RunFault) (opening closing : Forth) (left left' written written' : Option (List ℕ)) (old new : D) (made : List Save) : Type 0 where
   -- the lines that were answered, and the system after them
   pub front : List ℕ
   pub turns : List Turn
@@ -118,7 +125,8 @@ pub record BreaksOff (fault : RunFault) (opening closing : Forth) (left left' wr
   pub read : Consumes left left' (front ++ bytes)
   pub output : Appends written written' (output_of turns ++ printed)
   pub all_saves : made ≡ saves_of turns ++ begun
-  pub cause : HasRisenBy (failures_of (turns ++ last)) before after
+  pub cause : HasRisenBy (failures_of (turns ++ last)) (G.failures old) (G.failures new)
+  pub wears : WearsAtMost G old new (wear_of (turns ++ last))
 
 -- each turn ended without DEVICE and MEMORY
 abbrev pub AreCalm : List Turn → Type 0

@@ -45,9 +45,9 @@ pub fn command<F: Lines<FileDisk>, M: Lines<MemoryDisk>, S: AsStr, R: Read, W: W
     errors: &mut E,
 ) -> u8
     // Without a command the input is a session over blank blocks in memory, and the output is that session's.
-    ensures well { AsksForNothing (map S.text words.now) → result ≡ 0 → CompletesInMemory
+    ensures well { AsksForNothing (map S.text words.now) → result ≡ 0 → CompletesInMemory ⟦<MemoryDisk as SectorDevice>⟧
         (R.remaining input.old) (R.remaining input.new) (W.contents output.old) (W.contents output.new) }
-    ensures broken { AsksForNothing (map S.text words.now) → result ≡ 4 → BreaksInMemory
+    ensures broken { AsksForNothing (map S.text words.now) → result ≡ 4 → BreaksInMemory ⟦<MemoryDisk as SectorDevice>⟧
         (R.remaining input.old) (R.remaining input.new) (W.contents output.old) (W.contents output.new) }
 {
     match order(rt.alloc(), words) {
@@ -64,9 +64,9 @@ fn perform<F: Lines<FileDisk>, M: Lines<MemoryDisk>, R: Read, W: Write>(
     output: &mut W,
 ) -> Result<(), Failure>
     requires { IsInRange asked }
-    ensures well { IsForMemory asked.entry → OnOk result (CompletesInMemory
+    ensures well { IsForMemory asked.entry → OnOk result (CompletesInMemory ⟦<MemoryDisk as SectorDevice>⟧
         (R.remaining input.old) (R.remaining input.new) (W.contents output.old) (W.contents output.new)) }
-    ensures broken { IsForMemory asked.entry → IfErr result (λ e. e ≢ Failure.NoMemory → BreaksInMemory
+    ensures broken { IsForMemory asked.entry → IfErr result (λ e. e ≢ Failure.NoMemory → BreaksInMemory ⟦<MemoryDisk as SectorDevice>⟧
         (R.remaining input.old) (R.remaining input.new) (W.contents output.old) (W.contents output.new)) }
 {
     match asked {
@@ -87,9 +87,9 @@ fn run_in_memory<M: Lines<MemoryDisk>, R: Read, W: Write>(
     input: &mut R,
     output: &mut W,
 ) -> Result<(), Failure>
-    ensures well { OnOk result (CompletesInMemory
+    ensures well { OnOk result (CompletesInMemory ⟦<MemoryDisk as SectorDevice>⟧
         (R.remaining input.old) (R.remaining input.new) (W.contents output.old) (W.contents output.new)) }
-    ensures broken { IfErr result (λ e. e ≢ Failure.NoMemory → BreaksInMemory
+    ensures broken { IfErr result (λ e. e ≢ Failure.NoMemory → BreaksInMemory ⟦<MemoryDisk as SectorDevice>⟧
         (R.remaining input.old) (R.remaining input.new) (W.contents output.old) (W.contents output.new)) }
 {
     match MemoryDisk::new(rt.alloc(), 3 + 4 * BLOCKS as u32) {
@@ -111,12 +111,12 @@ fn serve<D: SectorDevice + Drop, F: Lines<D>, R: Read, W: Write>(
 ) -> Result<(), Failure>
     requires { 0 < steps }
     ensures well { (m : Maps) → StandsFor store m → OnOk result ((closing : Abstract) × (made : List Save) × (after : D)
-        × Completes (new_forth steps m) closing (R.remaining input.old) (R.remaining input.new)
-        (W.contents output.old) (W.contents output.new) (D.failures (device_of store)) (D.failures after) made) }
+        × Completes D.SectorDevice (new_forth steps m) closing (R.remaining input.old) (R.remaining input.new)
+        (W.contents output.old) (W.contents output.new) (device_of store) after made) }
     ensures broken { (m : Maps) → StandsFor store m → IfErr result (λ e. e ≢ Failure.NoMemory
         → (fault : AbstractFault) × (closing : Abstract) × (made : List Save) × (after : D)
-        × BreaksOff fault (new_forth steps m) closing (R.remaining input.old) (R.remaining input.new)
-        (W.contents output.old) (W.contents output.new) (D.failures (device_of store)) (D.failures after) made) }
+        × BreaksOff D.SectorDevice fault (new_forth steps m) closing (R.remaining input.old) (R.remaining input.new)
+        (W.contents output.old) (W.contents output.new) (device_of store) after made) }
 {
     match run_over::<D, F, R, W>(alloc, store, steps, input, output) {
         Ok((_, Ok(()))) => Ok(()),

@@ -29,13 +29,13 @@ pub fn run<D: SectorDevice + Drop, F: Lines<D>, R: Read, W: Write>(
     requires sound { F.sound forth.old }
     ensures sound { F.sound forth.new }
     ensures ok { OnOk result (Runs D.SectorDevice F.stands F.device forth.old forth.new (λ opening closing made.
-        Completes opening closing (R.remaining reader.old) (R.remaining reader.new)
+        Completes D.SectorDevice opening closing (R.remaining reader.old) (R.remaining reader.new)
         (W.contents writer.old) (W.contents writer.new)
-        (D.failures (F.device forth.old)) (D.failures (F.device forth.new)) made)) }
+        (F.device forth.old) (F.device forth.new) made)) }
     ensures err { IfErr result (λ fault. Runs D.SectorDevice F.stands F.device forth.old forth.new (λ opening closing made.
-        BreaksOff fault opening closing (R.remaining reader.old) (R.remaining reader.new)
+        BreaksOff D.SectorDevice fault opening closing (R.remaining reader.old) (R.remaining reader.new)
         (W.contents writer.old) (W.contents writer.new)
-        (D.failures (F.device forth.old)) (D.failures (F.device forth.new)) made)) }
+        (F.device forth.old) (F.device forth.new) made)) }
     ensures time { Elapses D.time D.left_since (F.device forth.old) (F.device forth.new) }
     ensures model { D.keeps_model (F.device forth.new) ≡ D.keeps_model (F.device forth.old) }
     ensures failures { D.failures (F.device forth.old) ≤ D.failures (F.device forth.new) }
@@ -55,16 +55,16 @@ fn run_lines<D: SectorDevice + Drop, F: Lines<D>, R: Read, W: Write>(
     requires may_give { streams.old.may_give ≡ 2 ^ 64 - 1 }
     ensures sound { F.sound forth.new }
     ensures ok { OnOk result (Runs D.SectorDevice F.stands F.device forth.old forth.new (λ opening closing made.
-        Completes opening closing
+        Completes D.SectorDevice opening closing
         (left_of streams.old.ended (R.remaining streams.old.reader.now))
         (left_of streams.new.ended (R.remaining streams.new.reader.now))
         (W.contents streams.old.writer.now) (W.contents streams.new.writer.now)
-        (D.failures (F.device forth.old)) (D.failures (F.device forth.new)) made)) }
+        (F.device forth.old) (F.device forth.new) made)) }
     ensures err { IfErr result (λ fault. Runs D.SectorDevice F.stands F.device forth.old forth.new (λ opening closing made.
-        BreaksOff fault opening closing
+        BreaksOff D.SectorDevice fault opening closing
         (R.remaining streams.old.reader.now) (R.remaining streams.new.reader.now)
         (W.contents streams.old.writer.now) (W.contents streams.new.writer.now)
-        (D.failures (F.device forth.old)) (D.failures (F.device forth.new)) made)) }
+        (F.device forth.old) (F.device forth.new) made)) }
     ensures time { Elapses D.time D.left_since (F.device forth.old) (F.device forth.new) }
     ensures model { D.keeps_model (F.device forth.new) ≡ D.keeps_model (F.device forth.old) }
     ensures failures { D.failures (F.device forth.old) ≤ D.failures (F.device forth.new) }
@@ -95,11 +95,11 @@ fn turn<D: SectorDevice + Drop, F: Lines<D>, R: Read, W: Write>(
     requires none_failed { streams.old.failures ≡ 0 }
     ensures sound { F.sound forth.new }
     ensures done { IfOk result (λ more. OnTrue more (Runs D.SectorDevice F.stands F.device forth.old forth.new (λ opening closing made.
-        TurnDone opening closing
+        TurnDone D.SectorDevice opening closing
         (left_of streams.old.ended (R.remaining streams.old.reader.now))
         (left_of streams.new.ended (R.remaining streams.new.reader.now))
         (W.contents streams.old.writer.now) (W.contents streams.new.writer.now)
-        (D.failures (F.device forth.old)) (D.failures (F.device forth.new)) made))) }
+        (F.device forth.old) (F.device forth.new) made))) }
     ensures ended { IfOk result (λ more. OnFalse more (
         Consumes (left_of streams.old.ended (R.remaining streams.old.reader.now))
         (left_of streams.new.ended (R.remaining streams.new.reader.now)) []
@@ -108,11 +108,11 @@ fn turn<D: SectorDevice + Drop, F: Lines<D>, R: Read, W: Write>(
     ensures silent { IfOk result (λ more. OnFalse more
         (W.contents streams.new.writer.now ≡ W.contents streams.old.writer.now)) }
     ensures err { IfErr result (λ fault. Runs D.SectorDevice F.stands F.device forth.old forth.new (λ opening closing made.
-        BreaksOff fault opening closing
+        BreaksOff D.SectorDevice fault opening closing
         (left_of streams.old.ended (R.remaining streams.old.reader.now))
         (left_of streams.new.ended (R.remaining streams.new.reader.now))
         (W.contents streams.old.writer.now) (W.contents streams.new.writer.now)
-        (D.failures (F.device forth.old)) (D.failures (F.device forth.new)) made)) }
+        (F.device forth.old) (F.device forth.new) made)) }
     ensures time { Elapses D.time D.left_since (F.device forth.old) (F.device forth.new) }
     ensures model { D.keeps_model (F.device forth.new) ≡ D.keeps_model (F.device forth.old) }
     ensures failures { D.failures (F.device forth.old) ≤ D.failures (F.device forth.new) }

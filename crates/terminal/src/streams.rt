@@ -2,7 +2,7 @@
 ghost use Rattle.std.specs.Prelude.{if◌then◌else◌, false, ◌^◌, ◌-◌, ◌≡◌, ◌<◌, ◌≤◌, [], ◌∷◌, IfOk, OnOk, OnErr, Some, None, OnSome};
 ghost use Rattle.std.specs.Bool.{OnTrue, OnFalse};
 ghost use Rattle.std.specs.Io.KnownBytes.{Keeps, Appends, Consumes, IsAtEnd};
-ghost use Rattle.sector_disk.specs.Counting.{HasRisen};
+ghost use Rattle.sector_disk.specs.Counting.{count_up};
 ghost use Rattle.interpreter.specs.Terminal.{AppendsSome, given_bytes};
 ghost use Rattle.terminal.specs.Streams.{left_of, bound};
 
@@ -174,7 +174,7 @@ impl<'a, R: Read, W: Write> Streams<'a, R, W> {
 
     /// Counts a failure of the reader.
     fn read_fault(&mut self) -> IoFault
-        ensures counted { HasRisen self.old.failures self.new.failures }
+        ensures counted { self.new.failures ≡ count_up self.old.failures }
         ensures reader { self.new.reader ≡ self.old.reader }
         ensures writer { self.new.writer ≡ self.old.writer }
         ensures may_give { self.new.may_give ≡ self.old.may_give }

@@ -8,10 +8,10 @@ use Rattle.terminal.proofs.session.run_lines.Given as goal
 abbrev pub invariant-lines : goal.invariant-lines
 invariant-lines g l = record {
   runs : Runs g.D.SectorDevice g.F.Lines.stands g.F.Lines.device l.fn.forth l.forth (λ opening now made.
-      SoFar opening now
+      SoFar g.D.SectorDevice opening now
       (left_of l.fn.streams.ended (g.R.Read.remaining l.fn.streams.reader.now)) (left_of l.streams.ended (g.R.Read.remaining l.streams.reader.now))
       (g.W.Write.contents l.fn.streams.writer.now) (g.W.Write.contents l.streams.writer.now)
-      (g.D.SectorDevice.failures (g.F.Lines.device l.fn.forth)) (g.D.SectorDevice.failures (g.F.Lines.device l.forth)) made);
+      (g.F.Lines.device l.fn.forth) (g.F.Lines.device l.forth) made);
   time : Elapses g.D.SectorDevice.time g.D.SectorDevice.left_since (g.F.Lines.device l.fn.forth) (g.F.Lines.device l.forth);
   model : g.D.SectorDevice.keeps_model (g.F.Lines.device l.forth) ≡ g.D.SectorDevice.keeps_model (g.F.Lines.device l.fn.forth);
   failures : g.D.SectorDevice.failures (g.F.Lines.device l.fn.forth) ≤ g.D.SectorDevice.failures (g.F.Lines.device l.forth);

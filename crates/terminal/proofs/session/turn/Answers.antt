@@ -6,7 +6,7 @@ use Rattle.terminal.proofs.session.turn.Goals as goal
 pub returns-in-Err-clause-err : goal.returns-in-Err-clause-err
 returns-in-Err-clause-err g c = λ opening is.
     let part = c.in-Err.ensures.err in
-    (opening, [], is, g.met.F.Lines.rests _ opening is, line_unread c.turn.ensures opening _ _ _ _ _ c.in-Err.ensures.output part.0 part.1)
+    (opening, [], is, g.met.F.Lines.rests _ opening is, line_unread g.D.SectorDevice c.turn.ensures opening _ _ _ _ _ c.in-Err.ensures.output part.0 part.1)
 
 pub returns-then-has_failed-clause-err : goal.returns-then-has_failed-clause-err
 returns-then-has_failed-clause-err g c = λ opening is.
@@ -18,8 +18,8 @@ returns-then-has_failed-clause-err g c = λ opening is.
       ran.1,
       ran.2,
       ran.4,
-      line_stopped c.long_lines.ensures opening _ _ _ _ _ _ c.read_line.new.line.items c.text.result.now kept (c.text.ensures ∙ ap (strip_last 13) c.as_slice.ensures.value) c.in-Ok-true.ensures.output _ _ ran.1 ran.0 c.fault.result
-          (was_stopped opening c.text.result.now ran.0 _ _ _ _ _ _ ran.1 _ _ (g.F.Lines.ending c.line.result) ran.3 c.line.ensures.terminal_failures none some),
+      line_stopped g.D.SectorDevice c.long_lines.ensures opening _ _ _ _ _ _ c.read_line.new.line.items c.text.result.now kept (c.text.ensures ∙ ap (strip_last 13) c.as_slice.ensures.value) c.in-Ok-true.ensures.output _ _ ran.1 ran.0 c.fault.result
+          (was_stopped g.D.SectorDevice opening c.text.result.now ran.0 _ _ _ _ _ _ ran.1 _ _ (g.F.Lines.ending c.line.result) ran.3 c.line.ensures.terminal_failures none some),
     )
 
 pub returns-in-Ok-clause-done : goal.returns-in-Ok-clause-done
@@ -32,9 +32,9 @@ returns-in-Ok-clause-done g c = λ opening is.
       ran.1,
       ran.2,
       ran.4,
-      line_replied c.long_lines.ensures opening _ _ _ _ _ _ c.read_line.new.line.items c.text.result.now kept (c.text.ensures ∙ ap (strip_last 13) c.as_slice.ensures.value) c.in-Ok-true.ensures.output _ _ ran.1 ran.0
+      line_replied g.D.SectorDevice c.long_lines.ensures opening _ _ _ _ _ _ c.read_line.new.line.items c.text.result.now kept (c.text.ensures ∙ ap (strip_last 13) c.as_slice.ensures.value) c.in-Ok-true.ensures.output _ _ ran.1 ran.0
           (g.F.Lines.ending c.line.result)
-          (was_replied opening c.text.result.now ran.0 _ _ _ _ _ _ ran.1 _ _ (g.F.Lines.ending c.line.result) ran.3 c.line.ensures.terminal_failures none still)
+          (was_replied g.D.SectorDevice opening c.text.result.now ran.0 _ _ _ _ _ _ ran.1 _ _ (g.F.Lines.ending c.line.result) ran.3 c.line.ensures.terminal_failures none still)
           _ _ c.in-Ok.ensures.input c.in-Ok.ensures.output,
     )
 
@@ -48,8 +48,8 @@ returns-in-Err-flush-clause-err g c = λ opening is.
       ran.1,
       ran.2,
       ran.4,
-      line_unflushed c.long_lines.ensures opening _ _ _ _ _ _ c.read_line.new.line.items c.text.result.now kept (c.text.ensures ∙ ap (strip_last 13) c.as_slice.ensures.value) c.in-Ok-true.ensures.output _ _ ran.1 ran.0
+      line_unflushed g.D.SectorDevice c.long_lines.ensures opening _ _ _ _ _ _ c.read_line.new.line.items c.text.result.now kept (c.text.ensures ∙ ap (strip_last 13) c.as_slice.ensures.value) c.in-Ok-true.ensures.output _ _ ran.1 ran.0
           (g.F.Lines.ending c.line.result)
-          (was_replied opening c.text.result.now ran.0 _ _ _ _ _ _ ran.1 _ _ (g.F.Lines.ending c.line.result) ran.3 c.line.ensures.terminal_failures none still)
+          (was_replied g.D.SectorDevice opening c.text.result.now ran.0 _ _ _ _ _ _ ran.1 _ _ (g.F.Lines.ending c.line.result) ran.3 c.line.ensures.terminal_failures none still)
           _ _ c.in-Err-flush.ensures.input c.in-Err-flush.ensures.output,
     )
