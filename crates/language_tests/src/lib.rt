@@ -18,6 +18,8 @@ mod hostile_definitions;
 #[cfg(test)]
 mod hostile_limits;
 #[cfg(test)]
+mod hostile_steps;
+#[cfg(test)]
 mod hostile_values;
 #[cfg(test)]
 mod input;
