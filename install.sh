@@ -2,13 +2,18 @@
 # Puts forth83, its manual page and its completions under a prefix, or takes them away again.
 # usage: ./install.sh [--uninstall] [PREFIX]          PREFIX is /usr/local where none is given
 set -eu
-cd "$(dirname "$0")"
 remove=no
 if [ "${1:-}" = --uninstall ]; then
     remove=yes
     shift
 fi
 prefix=${1:-/usr/local}
+case $prefix in
+    -*) echo 'usage: ./install.sh [--uninstall] [PREFIX]' >&2; exit 2 ;;
+    /*) ;;
+    *) prefix=$PWD/$prefix ;;
+esac
+cd "$(dirname "$0")"
 program=$prefix/bin/forth83
 page=$prefix/share/man/man1/forth83.1
 completions=$prefix/share/bash-completion/completions/forth83

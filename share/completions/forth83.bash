@@ -2,11 +2,12 @@
 _forth83() {
     local word=${COMP_WORDS[COMP_CWORD]}
     if [ "$COMP_CWORD" -eq 1 ]; then
-        COMPREPLY=($(compgen -W 'new run list put upgrade help --help' -- "$word"))
+        COMPREPLY=($(compgen -W 'new run list put upgrade help --help -h' -- "$word"))
         return
     fi
-    case $word in
-        -*)
+    case ${COMP_WORDS[1]},$word in
+        help,*) [ "$COMP_CWORD" -gt 2 ] || COMPREPLY=($(compgen -W 'new run list put upgrade' -- "$word")) ;;
+        *,-*)
             case ${COMP_WORDS[1]} in
                 new) COMPREPLY=($(compgen -W '--blocks --help' -- "$word")) ;;
                 run) COMPREPLY=($(compgen -W '--steps --help' -- "$word")) ;;
