@@ -1,6 +1,6 @@
 #!/bin/sh
-# Builds the hand-written machine and the proved one, and prints what a step costs each: instructions by callgrind, and
-# least times. Arguments: rounds (6 where not given), and bodies to compare (2000).
+# Builds the hand-written machine, the proved one, and the lexicon over it, and prints what a step costs each:
+# instructions by callgrind, and least times. Arguments: rounds (6 where not given), and bodies to compare (2000).
 set -eu
 rounds=${1:-6}
 bodies=${2:-2000}
@@ -10,22 +10,26 @@ kit=$(dirname "$(rt doc)")
 work=$(mktemp -d)
 trap 'rm -rf "$work"' EXIT
 
-# The proved machine, in a repository of its own: the crates that it stands on, and a static library over them. What
-# their checks left in out/ is taken along, so that little is checked anew.
-mkdir -p "$work/crates/bench_machine/src"
-for crate in stacks data_space cell_machine; do
+# The proved machine and the lexicon, in a repository of their own: the crates that they stand on, and a static library
+# over each. What their checks left in out/ is taken along, so that little is checked anew.
+mkdir -p "$work/crates/bench_machine/src" "$work/crates/bench_lexicon/src"
+for crate in stacks data_space cell_machine dictionary compiler lexicon; do
     cp -R "$root/crates/$crate" "$work/crates/"
 done
 cp "$here/machine/lib.rt.txt" "$work/crates/bench_machine/src/lib.rt"
+cp "$here/lexicon/lib.rt.txt" "$work/crates/bench_lexicon/src/lib.rt"
 cp "$root/HANDLES" "$work/"
 {
-    grep -E '^(stacks|data_space|cell_machine):' "$root/crates.txt"
+    grep -E '^(stacks|data_space|cell_machine|dictionary|compiler|lexicon):' "$root/crates.txt"
     echo 'bench_machine staticlib: cell_machine stacks data_space'
+    echo 'bench_lexicon staticlib: cell_machine stacks data_space dictionary lexicon'
 } > "$work/crates.txt"
-(cd "$work/crates/bench_machine" && rt lib > "$work/log" 2>&1) || {
-    tail -40 "$work/log"
-    exit 1
-}
+for crate in bench_machine bench_lexicon; do
+    (cd "$work/crates/$crate" && rt lib --jobs 1 > "$work/log" 2>&1) || {
+        tail -40 "$work/log"
+        exit 1
+    }
+done
 
 flags="-std=c11 -Wall -Wextra -O2 -DWITH_MACHINE"
 machines="machine"
@@ -42,7 +46,13 @@ for compiler in $compilers; do
         "$work/crates/bench_machine/out/libbench_machine.a" "$kit/c/liblibc_c.a"
 done
 
+# The machine over a table of all four kinds of words, and over the lexicon.
+lexicon=$work/crates/bench_lexicon/out/libbench_lexicon.a
+gcc $flags -o "$work/kinds" "$here/main.c" "$here/limit.c" "$lexicon" "$kit/c/liblibc_c.a"
+gcc -std=c11 -Wall -Wextra -O2 -o "$work/lexicon" "$here/lexicon/main.c" "$lexicon" "$kit/c/liblibc_c.a"
+
 "$work/gcc" check "$bodies"
+"$work/kinds" check "$bodies"
 
 # a line of the program is: NAME TURNS event E depth D result R steps S nanos T
 field() {
@@ -67,17 +77,22 @@ least_times() {
         for machine in $machines; do
             echo "$machine $(field gcc "$machine" "$1" "$2" 12)"
         done
+        echo "kinds $(field kinds calling "$1" "$2" 12)"
+        echo "lexicon $(field lexicon lexicon "$1" "$2" 12)"
     done | awk '!($1 in least) || $2 < least[$1] { least[$1] = $2 } END { for (n in least) print n, least[n] }'
 }
 
+echo "load: $(cut -d' ' -f1-3 /proc/loadavg)"
 printf '%-8s %-14s %10s %8s %8s\n' program machine instr/step ratio time
 while read -r program few many long; do
     least_times "$program" "$long" > "$work/times"
     base=$(awk '$1 == "gcc/limit" { print $2 }' "$work/times")
     limit=$(per_step gcc limit "$program" "$few" "$many")
-    for which in $(for c in $compilers; do echo "$c/limit"; done) $machines; do
+    for which in $(for c in $compilers; do echo "$c/limit"; done) $machines kinds lexicon; do
         case $which in
         */limit) cost=$(per_step "${which%/limit}" limit "$program" "$few" "$many") ;;
+        kinds) cost=$(per_step kinds calling "$program" "$few" "$many") ;;
+        lexicon) cost=$(per_step lexicon lexicon "$program" "$few" "$many") ;;
         *) cost=$(per_step gcc "$which" "$program" "$few" "$many") ;;
         esac
         took=$(awk -v which="$which" '$1 == which { print $2 }' "$work/times")

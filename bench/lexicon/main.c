@@ -1,11 +1,13 @@
 // Runs a program through the lexicon, or looks a name up.
 //
-//     lexicon PROGRAM TURNS               one line: event, depth, result, steps
-//     lexicon find THROUGH NAME TURNS     the name again and again: through the lexicon (1), or in a dictionary (0)
+//     bench lexicon PROGRAM TURNS       one line: result, steps, nanoseconds
+//     bench find THROUGH NAME TURNS     the name again and again: through the lexicon (1), or in a dictionary (0)
+#define _POSIX_C_SOURCE 199309L
 #include <stdint.h>
 #include <stdio.h>
 #include <stdlib.h>
 #include <string.h>
+#include <time.h>
 
 struct outcome {
     uint32_t left; // steps
@@ -29,22 +31,30 @@ static const char *sources[][2] = {
               ": TURNS %d 0 DO SIEVE DROP LOOP SIEVE ;"},
 };
 
+static uint64_t now(void) {
+    struct timespec t;
+    clock_gettime(CLOCK_MONOTONIC, &t);
+    return (uint64_t)t.tv_sec * 1000000000u + (uint64_t)t.tv_nsec;
+}
+
 int main(int argc, char **argv) {
     if (argc == 5 && strcmp(argv[1], "find") == 0) {
         printf("%u\n", look_up(atoi(argv[2]), (const uint8_t *)argv[3], strlen(argv[3]), (uint32_t)atoi(argv[4])));
         return 0;
     }
-    for (size_t i = 0; argc == 3 && i < sizeof sources / sizeof sources[0]; i++) {
-        if (strcmp(argv[1], sources[i][0]) != 0)
+    for (size_t i = 0; argc == 4 && i < sizeof sources / sizeof sources[0]; i++) {
+        if (strcmp(argv[2], sources[i][0]) != 0)
             continue;
         char text[600];
-        snprintf(text, sizeof text, sources[i][1], atoi(argv[2]));
+        snprintf(text, sizeof text, sources[i][1], atoi(argv[3]));
         struct outcome outcome = {1000000000, 0, 0};
         uint16_t cells[1] = {0};
+        uint64_t start = now();
         lexicon_run((const uint8_t *)text, strlen(text), &outcome, cells, 1);
-        printf("%s event %u depth %u result %u steps %u\n", argv[1], outcome.event, outcome.depth, cells[0],
-               1000000000 - outcome.left);
-        return 0;
+        uint64_t took = now() - start;
+        printf("%s %s event %u depth %u result %u steps %u nanos %llu\n", argv[2], argv[3], outcome.event,
+               outcome.depth, cells[0], 1000000000 - outcome.left, (unsigned long long)took);
+        return outcome.event != 0 || outcome.depth != 1;
     }
     return 2;
 }

@@ -1,0 +1,156 @@
+#!/bin/sh
+# Measures the whole program beside what else is installed, and prints one table. Arguments: rounds (10 where not given),
+# the program (else the one that `rt run` built in crates/forth83), and a folder on the disk to be measured (else a
+# temporary one).
+set -eu
+rounds=${1:-10}
+here=$(cd "$(dirname "$0")" && pwd)
+root=$(dirname "$here")
+program=${2:-$root/crates/forth83/out/forth83}
+work=$(mktemp -d ${3:+-p "$3"})
+trap 'rm -rf "$work"' EXIT
+cd "$work"
+gcc -std=c11 -O2 -o whole "$here/whole.c"
+"$program" new image --blocks 200
+steps=1000000000
+
+others=
+for other in gforth gforth-fast pforth; do
+    if command -v "$other" > /dev/null; then others="$others $other"; fi
+done
+echo "load: $(cut -d' ' -f1-3 /proc/loadavg); rounds: $rounds; beside forth83:${others:- no other Forth is installed}"
+
+# SYSTEM INPUT: least nanoseconds
+least() {
+    case $1 in
+    forth83) ./whole run "$rounds" "$2" "$program" run image --steps "$steps" ;;
+    *) { cat "$2"; echo bye; } > "$2.bye" && ./whole run "$rounds" "$2.bye" "$1" ;;
+    esac | cut -d' ' -f1
+}
+row() {
+    printf '%-44s %-12s %12s %s\n' "$1" "$2" "$3" "$4"
+}
+# WHAT INPUT BASE UNITS UNIT: the time over that of the input BASE, by units
+compared() {
+    for system in forth83 $others; do
+        echo "$(least "$system" "$2") $(least "$system" "$3")" |
+            awk -v units="$4" '{ printf "%.1f %.3f\n", ($1 - $2) / units, $1 / 1e9 }' > took
+        row "$1" "$system" "$(cut -d' ' -f1 took) ns" "a $5; in all $(cut -d' ' -f2 took) s"
+    done
+}
+
+: > empty
+# ---- lines and words
+awk 'BEGIN { for (i = 0; i < 200000; i++) print "1 2 + ." }' > lines
+compared "200,000 lines 1 2 + ." lines empty 200000 line
+awk 'BEGIN { for (i = 0; i < 40000; i++) print "1 DUP DROP DUP DROP DUP DROP DUP DROP DROP" }' > words
+compared "a word from standard input" words empty 400000 word
+{
+    echo ': NUMBERS 20000 0 DO I . LOOP ;'
+    for _ in 1 2 3 4 5 6 7 8 9 10; do echo NUMBERS; done
+} > numbers
+compared "numbers printed" numbers empty 200000 number
+
+# ---- a hundred full blocks, of 288 words each
+awk 'BEGIN { for (i = 0; i < 16; i++) print "1 DROP 2 DROP 3 DROP 4 DROP 5 DROP 6 DROP 7 DROP 8 DROP 12 DROP " }' > screen
+for block in $(seq 100 199); do "$program" put image "$block" screen; done
+echo ': ALL 200 100 DO I LOAD LOOP ; ALL' > load
+saved=$others
+others=
+compared "LOAD of 100 full blocks" load empty 100 block
+others=$saved
+
+# ---- the four programs
+echo ': EMPTY 30000 0 DO LOOP ; : TURNS 0 DO EMPTY LOOP ;' > loop
+echo ': NOTHING ; : EIGHT NOTHING NOTHING NOTHING NOTHING NOTHING NOTHING NOTHING NOTHING ;' > calls
+echo ': MANY 1000 0 DO EIGHT LOOP ; : TURNS 0 DO MANY LOOP ;' >> calls
+echo 'VARIABLE SELF : FIB DUP 2 < IF EXIT THEN 1- DUP SELF @ EXECUTE SWAP 1- SELF @ EXECUTE + ;' > fib
+printf '%s\n' "' FIB SELF !" ': TURNS 0 DO 20 FIB DROP LOOP ;' >> fib
+cat > sieve <<'END'
+8190 CONSTANT SIZE  CREATE FLAGS SIZE ALLOT
+: STRIKE BEGIN DUP SIZE < WHILE 0 OVER FLAGS + C! OVER + REPEAT DROP DROP ;
+: SIEVE FLAGS SIZE 1 FILL 0 SIZE 0 DO FLAGS I + C@ IF I DUP + 3 + DUP I + STRIKE 1+ THEN LOOP ;
+: TURNS 0 DO SIEVE DROP LOOP ;
+END
+# INPUT: whether it ends within so many steps
+within() {
+    ! "$program" run image --steps "$2" < "$1" | grep -q STEPS
+}
+# INPUT: the steps that its longest line takes
+steps_of() {
+    low=0 high=100000000
+    while [ $((high - low)) -gt 1 ]; do
+        middle=$(((low + high) / 2))
+        if within "$1" "$middle"; then high=$middle; else low=$middle; fi
+    done
+    echo "$high"
+}
+instructions() {
+    valgrind --tool=callgrind --callgrind-out-file=/dev/null "$program" run image --steps "$steps" < "$1" 2>&1 |
+        awk '/Collected/ { print $4 }'
+}
+while read -r name few many long; do
+    for turns in "$few" "$many" "$long"; do { cat "$name"; echo "$turns TURNS"; } > "$name.$turns"; done
+    a=$(steps_of "$name.$few")
+    b=$(steps_of "$name.$many")
+    each=$(((b - a) / (many - few)))
+    compared "$name" "$name.$long" "$name" "$((each * long))" step
+    if command -v valgrind > /dev/null; then
+        echo "$(instructions "$name.$few") $(instructions "$name.$many") $a $b" |
+            awk '{ printf "%.1f\n", ($2 - $1) / ($4 - $3) }' > took
+        row "$name, instructions" forth83 "$(cat took)" "a step, of $each a turn"
+    fi
+done <<END
+loop 2 4 200
+calls 10 20 300
+fib 1 2 20
+sieve 1 2 15
+END
+
+# ---- saves: a hundred of each size in one session, and the same on the same disk by others
+sync=$(./whole sync image 100)
+row "four writes, each synced" "C" "$(echo "$sync" | awk '{ printf "%.0f us", $1 / 1000 }')" "a round"
+for blocks in 1 2 3 4; do
+    {
+        echo ": CHANGE $((blocks + 1)) 1 DO I BLOCK 7 + 1 SWAP +! UPDATE LOOP SAVE-BUFFERS ;"
+        echo ': SAVES 0 DO CHANGE LOOP ;'
+    } > save
+    { cat save; echo '100 SAVES'; } > saves
+    one=$rounds
+    rounds=3
+    took=$(least forth83 saves)
+    base=$(least forth83 save)
+    rounds=$one
+    row "a save of $blocks blocks" forth83 "$(echo "$took $base" | awk '{ printf "%.0f us", ($1 - $2) / 100000 }')" \
+        "$(echo "$took $base $sync" | awk '{ printf "%.2f of the four syncs", ($1 - $2) / 100 / $3 }')"
+    if command -v sqlite3 > /dev/null; then
+        rm -f table.db
+        sqlite3 table.db 'CREATE TABLE block (number INTEGER PRIMARY KEY, bytes BLOB);'
+        {
+            for i in $(seq 100); do
+                echo 'BEGIN;'
+                for b in $(seq "$blocks"); do echo "REPLACE INTO block VALUES ($b, randomblob(1024));"; done
+                echo 'COMMIT;'
+            done
+        } > commits
+        took=$(./whole run 3 commits sqlite3 table.db | cut -d' ' -f1)
+        base=$(./whole run 3 empty sqlite3 table.db | cut -d' ' -f1)
+        row "a commit of $blocks KB" sqlite3 "$(echo "$took $base" | awk '{ printf "%.0f us", ($1 - $2) / 100000 }')" \
+            "$(echo "$took $base $sync" | awk '{ printf "%.2f of the four syncs", ($1 - $2) / 100 / $3 }')"
+    fi
+done
+
+# ---- start and memory
+start() {
+    name=$1
+    shift
+    ./whole run 100 empty "$@" > took
+    row "start and end" "$name" "$(awk '{ printf "%.0f us", $1 / 1000 }' took)" "$(awk '{ print $2 }' took) KB of memory"
+}
+start true true
+start forth83 "$program"
+start "forth83 run" "$program" run image
+if command -v sqlite3 > /dev/null; then start sqlite3 sqlite3 table.db; fi
+if command -v lua > /dev/null; then start lua lua -; fi
+echo bye > empty
+for other in $others; do start "$other" "$other"; done
