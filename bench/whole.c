@@ -1,7 +1,7 @@
 // Runs a program some times, or measures bare syncs.
 //
 //     whole run ROUNDS INPUT PROGRAM ARGS..    one line: least nanoseconds, most kilobytes of memory
-//     whole sync FILE ROUNDS                   one line: nanoseconds of four writes of a sector, each synced
+//     whole sync FILE ROUNDS                   one line: mean nanoseconds of four writes of a sector, each synced
 #define _GNU_SOURCE
 #include <fcntl.h>
 #include <stdint.h>
@@ -48,32 +48,20 @@ static int run(unsigned rounds, const char *input, char **command) {
     return 0;
 }
 
-static int compare(const void *a, const void *b) {
-    uint64_t x = *(const uint64_t *)a, y = *(const uint64_t *)b;
-    return x < y ? -1 : x > y;
-}
-
-// the middle of the rounds: where there is a disk, the least says little
+// the mean of the rounds, as a hundred saves are measured too
 static int sync_four(const char *name, unsigned rounds) {
     static char sector[512];
-    uint64_t *times = calloc(rounds, sizeof *times);
     int file = open(name, O_RDWR);
-    if (file < 0 || times == NULL || rounds == 0)
+    if (file < 0 || rounds == 0)
         return 1;
-    for (unsigned i = 0; i < rounds; i++) {
-        uint64_t start = now();
+    uint64_t start = now();
+    for (unsigned i = 0; i < rounds; i++)
         for (unsigned k = 0; k < 4; k++) {
             memset(sector, (int)(i + k), sizeof sector);
             if (pwrite(file, sector, sizeof sector, 512 * (8 * k + 8)) != sizeof sector || fdatasync(file) != 0)
                 return 1;
         }
-        times[i] = now() - start;
-    }
-    qsort(times, rounds, sizeof *times, compare);
-    uint64_t sum = 0;
-    for (unsigned i = 0; i < rounds; i++)
-        sum += times[i];
-    printf("%llu %llu\n", (unsigned long long)(sum / rounds), (unsigned long long)times[rounds / 2]);
+    printf("%llu\n", (unsigned long long)((now() - start) / rounds));
     return 0;
 }
 

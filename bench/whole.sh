@@ -12,6 +12,7 @@ trap 'rm -rf "$work"' EXIT
 cd "$work"
 gcc -std=c11 -O2 -o whole "$here/whole.c"
 "$program" new image --blocks 200
+cp image plain
 steps=1000000000
 
 others=
@@ -20,7 +21,7 @@ for other in gforth gforth-fast pforth; do
 done
 echo "load: $(cut -d' ' -f1-3 /proc/loadavg); rounds: $rounds; beside forth83:${others:- no other Forth is installed}"
 
-# SYSTEM INPUT: least nanoseconds
+# SYSTEM INPUT: least nanoseconds of the rounds
 least() {
     case $1 in
     forth83) ./whole run "$rounds" "$2" "$program" run image --steps "$steps" ;;
@@ -107,36 +108,42 @@ fib 1 2 20
 sieve 1 2 15
 END
 
-# ---- saves: a hundred of each size in one session, and the same on the same disk by others
-sync=$(./whole sync image 100)
-row "four writes, each synced" "C" "$(echo "$sync" | awk '{ printf "%.0f us", $1 / 1000 }')" "a round"
+# ---- saves: a hundred of each size in one session, the same on the same disk by others, in turn; the least of the rounds
 for blocks in 1 2 3 4; do
     {
         echo ": CHANGE $((blocks + 1)) 1 DO I BLOCK 7 + 1 SWAP +! UPDATE LOOP SAVE-BUFFERS ;"
         echo ': SAVES 0 DO CHANGE LOOP ;'
     } > save
     { cat save; echo '100 SAVES'; } > saves
-    one=$rounds
-    rounds=3
-    took=$(least forth83 saves)
-    base=$(least forth83 save)
-    rounds=$one
-    row "a save of $blocks blocks" forth83 "$(echo "$took $base" | awk '{ printf "%.0f us", ($1 - $2) / 100000 }')" \
-        "$(echo "$took $base $sync" | awk '{ printf "%.2f of the four syncs", ($1 - $2) / 100 / $3 }')"
-    if command -v sqlite3 > /dev/null; then
-        rm -f table.db
-        sqlite3 table.db 'CREATE TABLE block (number INTEGER PRIMARY KEY, bytes BLOB);'
-        {
-            for i in $(seq 100); do
-                echo 'BEGIN;'
-                for b in $(seq "$blocks"); do echo "REPLACE INTO block VALUES ($b, randomblob(1024));"; done
-                echo 'COMMIT;'
+    for _ in $(seq 100); do
+        echo 'BEGIN;'
+        for b in $(seq "$blocks"); do echo "REPLACE INTO block VALUES ($b, randomblob(1024));"; done
+        echo 'COMMIT;'
+    done > commits
+    for _ in $(seq "$rounds"); do
+        echo "sync $(./whole sync plain 100 | cut -d' ' -f1)"
+        for name in save saves; do
+            echo "$name $(./whole run 1 "$name" "$program" run image --steps "$steps" | cut -d' ' -f1)"
+        done
+        if command -v sqlite3 > /dev/null; then
+            rm -f table.db
+            sqlite3 table.db 'CREATE TABLE block (number INTEGER PRIMARY KEY, bytes BLOB);'
+            for name in empty commits; do
+                echo "$name $(./whole run 1 "$name" sqlite3 table.db | cut -d' ' -f1)"
             done
-        } > commits
-        took=$(./whole run 3 commits sqlite3 table.db | cut -d' ' -f1)
-        base=$(./whole run 3 empty sqlite3 table.db | cut -d' ' -f1)
-        row "a commit of $blocks KB" sqlite3 "$(echo "$took $base" | awk '{ printf "%.0f us", ($1 - $2) / 100000 }')" \
-            "$(echo "$took $base $sync" | awk '{ printf "%.2f of the four syncs", ($1 - $2) / 100 / $3 }')"
+        fi
+    done | awk '!($1 in least) || $2 < least[$1] { least[$1] = $2 } END { for (n in least) print n, least[n] }' > took
+    took() { awk -v name="$1" '$1 == name { print $2 }' took; }
+    sync=$(took sync)
+    # WHAT SYSTEM LONG SHORT: what one of a hundred costs
+    by_syncs() {
+        row "$1" "$2" "$(awk -v long="$3" -v short="$4" 'BEGIN { printf "%.0f us", (long - short) / 100000 }')" \
+            "$(awk -v long="$3" -v short="$4" -v sync="$sync" 'BEGIN { printf "%.2f of the four syncs", (long - short) / 100 / sync }')"
+    }
+    row "four writes, each synced" C "$(echo "$sync" | awk '{ printf "%.0f us", $1 / 1000 }')" "a round, the mean of 100"
+    by_syncs "a save of $blocks blocks" forth83 "$(took saves)" "$(took save)"
+    if command -v sqlite3 > /dev/null; then
+        by_syncs "a commit of $blocks KB" sqlite3 "$(took commits)" "$(took empty)"
     fi
 done
 

@@ -27,11 +27,12 @@ impl Read for Trickle<'_> {
     }
 }
 
-/// Takes a byte at each second call and is interrupted at the others, until it is full.
+/// Takes a byte at each second call and is interrupted at the others, until it is full. It is flushed so many times.
 #[derive(Drop)]
 struct Narrow {
     bytes: Vec<u8>,
     room: usize,
+    flushes: usize,
     is_due: bool,
 }
 
@@ -51,6 +52,10 @@ impl Write for Narrow {
     }
 
     fn flush(&mut self) -> io::Result<()> {
+        if self.flushes == 0 {
+            return Err(Error::from(ErrorKind::BrokenPipe));
+        }
+        self.flushes -= 1;
         Ok(())
     }
 }
@@ -87,6 +92,7 @@ fn each_write_fails(rt: HostRuntime) -> Result<(), Fail> {
         let mut writer = Narrow {
             bytes: Vec::new(rt.alloc()),
             room,
+            flushes: REPLIES.len(),
             is_due: false,
         };
         let (disk, end) = play(
@@ -110,6 +116,37 @@ fn each_write_fails(rt: HostRuntime) -> Result<(), Fail> {
         let told = heard(str::from_utf8(replies)?);
         let wanted = told.begun.unwrap_or(told.saved);
         assert_eq!(rt; found(disk)?, wanted, "with room for {room} bytes");
+    }
+    Ok(())
+}
+
+/// The writer refuses a flush: the reply before it was written, and no line after that is begun.
+#[test]
+fn each_flush_fails(rt: HostRuntime) -> Result<(), Fail> {
+    let lines = LINES.lines().count();
+    for flushes in 0..=lines {
+        let mut writer = Narrow {
+            bytes: Vec::new(rt.alloc()),
+            room: REPLIES.len(),
+            flushes,
+            is_due: false,
+        };
+        let (disk, end) = play(
+            &rt,
+            opened(image(&rt)?)?,
+            &mut LINES.as_bytes(),
+            &mut writer,
+        )?;
+        assert_eq!(rt; end.is_err(), flushes < lines, "after {flushes} flushes");
+        assert!(rt; end != Err(RunFault::Read), "after {flushes} flushes");
+        let replies = str::from_utf8(writer.bytes.as_slice())?;
+        let wanted = REPLIES.lines().take(flushes.saturating_add(1));
+        assert!(rt; replies.lines().eq(wanted), "after {flushes} flushes");
+        assert_eq!(rt;
+            found(disk)?,
+            heard(replies).saved,
+            "after {flushes} flushes"
+        );
     }
     Ok(())
 }
