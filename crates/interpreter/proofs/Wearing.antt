@@ -1,5 +1,5 @@
 -- Wear that grows.
-use Rattle.std.proofs.Common.{◌≡◌, ℕ, ◌≤◌, subst, sym, ap, arith}
+use Rattle.std.proofs.Common.{◌≡◌, subst, sym, arith}
 use Rattle.block_words.specs.Words.{Wear, no_wear, add_wear}
 use Rattle.interpreter.specs.Law.{IsWithin}
 
