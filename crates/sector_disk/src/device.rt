@@ -93,7 +93,8 @@ pub trait SectorDevice {
     fn sectors(&self) -> u32
         ensures { result ≡ sector_count self.now };
 
-    /// Reads sector `k`. After a failed read the device is as it was, and `out` holds any bytes.
+    /// Reads sector `k`, which is below `sectors()`. After a failed read the device is as it was, and `out` holds any
+    /// bytes.
     fn read(&mut self, k: u32, out: &mut [u8; 512]) -> Result<(), DeviceFault>
         requires { k < sector_count self.old }
         ensures bytes { IsTrue (keeps_model self.old) → OnOk result (out.new ≡ (disk self.old).content k) }
@@ -105,8 +106,8 @@ pub trait SectorDevice {
         ensures failures { CountsFailure (failures self.old) (failures self.new) result }
         ensures counts { counts self.new ≡ with_read (counts self.old) };
 
-    /// Writes sector `k`. Until a sync succeeds, a stop may leave any bytes in it. A write that fails may have been
-    /// done, with any bytes, or not at all.
+    /// Writes sector `k`, which is below `sectors()`. Until a sync succeeds, a stop may leave any bytes in it. A write
+    /// that fails may have been done, with any bytes, or not at all.
     fn write(&mut self, k: u32, bytes: &[u8; 512]) -> Result<(), DeviceFault>
         requires { k < sector_count self.old }
         ensures ok { IsTrue (keeps_model self.old) → OnOk result (disk self.new ≡ written (disk self.old) k bytes.now) }
