@@ -12,7 +12,7 @@ use crate::homes::copy_homes;
 use crate::layout::{GATE, RECORD, open_gate};
 use sector_disk::{DeviceFault, SectorDevice};
 
-/// Writes a sector and syncs.
+/// Writes sector `k`, which the device has, and syncs. Ends at the first call that fails.
 pub fn write_through<D: SectorDevice>(
     device: &mut D,
     k: u32,
@@ -64,7 +64,9 @@ fn copy_and_sync<D: SectorDevice>(
     device.sync()
 }
 
-/// Writes the homes of the listed blocks under an open gate, and then closes it.
+/// Writes the homes of the listed blocks under an open gate, and then closes it. The image has `blocks` blocks, 32 to
+/// 3,840; its gate is open over this record, and nothing is unsynced. Ends at the first call that fails, and may then be
+/// done again.
 pub fn apply<D: SectorDevice>(
     device: &mut D,
     blocks: u16,

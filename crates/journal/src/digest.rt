@@ -134,7 +134,8 @@ pub(crate) fn sign<D: SectorDevice>(
     Ok(with_digest(bits, &digest))
 }
 
-/// Whether a commit record has the digest that belongs to its bits and to the slots on the device. Reads the listed slots.
+/// Whether a commit record has the digest that belongs to its bits and to the slots on the device, which has `blocks`
+/// blocks, 3,840 or fewer. Reads the listed slots, and ends at the first call that fails.
 pub fn is_true_record<D: SectorDevice>(
     device: &mut D,
     blocks: u16,

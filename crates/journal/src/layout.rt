@@ -31,7 +31,7 @@ pub const RECORD: u32 = 2;
 /// The sectors of an image before its slots.
 const HEAD: u32 = 3;
 
-/// The label of an image with so many blocks.
+/// The label of an image with so many blocks, 32 to 3,840.
 pub fn label(blocks: u16) -> [u8; 512]
     requires many { fewest_blocks ≤ blocks }
     requires few { blocks ≤ most_blocks }
@@ -40,7 +40,7 @@ pub fn label(blocks: u16) -> [u8; 512]
     label_by(VERSION, blocks)
 }
 
-/// The label that an image of layout 1 has.
+/// The label of an image of layout 1 with so many blocks, 32 to 2,048.
 pub fn label_1(blocks: u16) -> [u8; 512]
     requires many { fewest_blocks ≤ blocks }
     requires few { blocks ≤ most_blocks_1 }
@@ -92,7 +92,7 @@ pub(crate) fn open_gate() -> [u8; 512]
     named(b"COMMIT83")
 }
 
-/// Whether a commit record lists block `b`.
+/// Whether a commit record lists block `b`, a number below 3,840.
 pub fn is_listed(bytes: &[u8; 512], b: u16) -> bool
     requires { b < most_blocks }
     ensures { result ≡ listed bytes.now b }
@@ -100,7 +100,7 @@ pub fn is_listed(bytes: &[u8; 512], b: u16) -> bool
     (bytes[b as usize / 8] >> (b % 8)) & 1 == 1
 }
 
-/// The first of the two slot sectors of block `b`.
+/// The first of the two slot sectors of block `b`, a number below 3,840.
 pub fn slot_sector(b: u16) -> u32
     requires { b < most_blocks }
     ensures { result ≡ slot_at b }
@@ -108,7 +108,7 @@ pub fn slot_sector(b: u16) -> u32
     HEAD + 2 * b as u32
 }
 
-/// The first of the two home sectors of block `b`.
+/// The first of the two home sectors of block `b` in an image of `blocks` blocks, 32 to 3,840, of which `b` is one.
 pub fn home_sector(blocks: u16, b: u16) -> u32
     requires many { fewest_blocks ≤ blocks }
     requires few { blocks ≤ most_blocks }

@@ -193,10 +193,12 @@ impl<D: SectorDevice> Store<D> {
         ensures pending { MatchResult result (λ _. (a : ℕ)
             → is_pending self.new a ≡ false) (λ _. SamePending self.old self.new) }
         // The record on the device lists the blocks that were pending, and no bit past the last block, and its digest is that of
-        // these bits and their slots. The gate is closed by zeros.
+        // these bits and their slots.
         ensures recorded { IsTrue (D.keeps_model (device_of self.old)) → pending_count self.old ≢ 0
-            → OnOk result (HasRecordOf (blocks_of self.old) (is_pending self.old) (disk_of self.new).content
-            × ((disk_of self.new).content 1 ≡ replicate 512 0)) }
+            → OnOk result (HasRecordOf (blocks_of self.old) (is_pending self.old) (disk_of self.new).content) }
+        // The gate is closed by zeros.
+        ensures shut_gate { IsTrue (D.keeps_model (device_of self.old)) → pending_count self.old ≢ 0
+            → OnOk result ((disk_of self.new).content 1 ≡ replicate 512 0) }
         ensures begins { DeviceBegins self.old self.new (2 * pending_count self.old + 3) 4 }
     {
         if self.closed {

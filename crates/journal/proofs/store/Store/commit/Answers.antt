@@ -62,14 +62,15 @@ returns-in-Ok-clause-ok g c = λ s stands.
 pub returns-in-Ok-clause-recorded : goal.returns-in-Ok-clause-recorded
 returns-in-Ok-clause-recorded g c = λ keeps some.
     let old = c.args.self.now in
-    let saved = c.in-Ok.ensures.ok keeps in (
-      record {
-        each = λ b below. listed_same _ old.pending saved.bits b (omega (arith, below, old.few));
-        rest = λ b past low. listed_same _ old.pending saved.bits b low ∙ old.clear b past;
-        digest = saved.digest;
-      },
-      saved.closed,
-    )
+    let saved = c.in-Ok.ensures.ok keeps in
+    record {
+      each = λ b below. listed_same _ old.pending saved.bits b (omega (arith, below, old.few));
+      rest = λ b past low. listed_same _ old.pending saved.bits b low ∙ old.clear b past;
+      digest = saved.digest;
+    }
+
+pub returns-in-Ok-clause-shut_gate : goal.returns-in-Ok-clause-shut_gate
+returns-in-Ok-clause-shut_gate g c = λ keeps some. (c.in-Ok.ensures.ok keeps).closed
 
 pub returns-in-Ok-clause-stops : goal.returns-in-Ok-clause-stops
 returns-in-Ok-clause-stops g c = λ s stands is_open x since. means_either c.args.self.now s stands c.if-self.false x (c.save.ensures.stops stands.model x since)
