@@ -1,12 +1,12 @@
 -- What a stop of a recovery leaves.
 use Rattle.std.proofs.Common.{◌≡◌, inl, ℕ, ◌-◌, ◌≤◌, Bool, true, false, cond, Some, None, refl, ◌∙◌, ap, arith}
-use Rattle.sector_disk.specs.Disk.{Disk, Image, MayLeave, settled}
+use Rattle.sector_disk.specs.Disk.{Disk, Image, MayLeave}
 use Rattle.sector_disk.specs.declared.device.SectorDevice.{Ghosts}
 use Rattle.journal.specs.Calls.{BeginsAtMost}
 use Rattle.journal.specs.Chain.{HasMeaning, Follows}
 use Rattle.journal.specs.Images.{is_damaged}
 use Rattle.journal.specs.Layout.{gate_open, sectors_for}
-use Rattle.recovery.specs.Opened.{damage_refusal, first_refusal, image_refusal, RecoveryLeaves, writes_for, syncs_for}
+use Rattle.recovery.specs.Opened.{damage_refusal, first_of, image_refusal, RecoveryLeaves, writes_for, syncs_for}
 use Rattle.recovery.specs.Label.{blocks_in}
 use Rattle.recovery.specs.declared.fault.OpenFault.TheVariants.{Damaged}
 use Rattle.recovery.proofs.Labels.{good_passes}
@@ -16,9 +16,6 @@ module _ (n : ℕ) (disk : Disk) where
   recovers_now x may = record { from = x; may = may; follows = inl (λ k. refl) }
 
   module _ (present : MayLeave disk disk.content) where
-    pub recovers_settled : (x : Image) → MayLeave (settled disk) x → RecoveryLeaves n disk x
-    recovers_settled x may = record { from = disk.content; may = present; follows = inl (λ k. may k refl) }
-
     -- once synced
     pub recovers_later : (x : Image) → Follows n disk.content x → RecoveryLeaves n disk x
     recovers_later x follows = record { from = disk.content; may = present; follows = follows }
@@ -26,7 +23,7 @@ module _ (n : ℕ) (disk : Disk) where
 -- An image that has a meaning passes each test.
 pub passes_all : (n sectors : ℕ) (image : Image) → sectors ≡ sectors_for n → HasMeaning n image → image_refusal sectors image ≡ None
 passes_all n sectors image size means =
-    ap (λ r. first_refusal r (damage_refusal (blocks_in sectors) image)) (good_passes n sectors (image 0) means.label.many means.label.few size means.label.label)
+    ap (λ r. first_of r (damage_refusal (blocks_in sectors) image)) (good_passes n sectors (image 0) means.label.many means.label.few size means.label.label)
     ∙ ap (λ m. damage_refusal m image) count_is ∙ ap (λ x. cond x (Some Damaged) None) means.whole
   where
     count_is : blocks_in sectors ≡ n

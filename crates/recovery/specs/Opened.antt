@@ -15,13 +15,13 @@ use Rattle.recovery.specs.declared.fault.OpenFault.TheVariants.{Damaged}
 abbrev pub damage_refusal : ℕ → Image → Option OpenFault
 damage_refusal n image = if is_damaged n image then Some Damaged else None
 
-abbrev pub first_refusal : Option OpenFault → Option OpenFault → Option OpenFault
-first_refusal (Some e) second = Some e
-first_refusal None second = second
+abbrev pub first_of : {E : Type 0} → Option E → Option E → Option E
+first_of (Some e) second = Some e
+first_of None second = second
 
 -- the refusal of an image with so many sectors: that of its size or label, and then that of its record
 abbrev pub image_refusal : ℕ → Image → Option OpenFault
-image_refusal sectors image = first_refusal (refusal sectors (image 0)) (damage_refusal (blocks_in sectors) image)
+image_refusal sectors image = first_of (refusal sectors (image 0)) (damage_refusal (blocks_in sectors) image)
 
 -- the device, in a store or handed back
 abbrev pub end_of : {D : Type 0} {G : Ghosts D} → Result (Store D G) (OpenFault × D) → D

@@ -4,6 +4,7 @@ use Rattle.sector_disk.specs.Disk.{Disk, Image, MayLeave}
 use Rattle.journal.specs.Layout.{most_blocks_1}
 use Rattle.journal.specs.Layout1.{HasGoodLabel1, Means1}
 use Rattle.recovery.specs.Label.{blocks_in, is_size_within, label_refusal_by}
+use Rattle.recovery.specs.Opened.{first_of}
 use Rattle.recovery.specs.declared.fault.OpenFault.{OpenFault}
 use Rattle.recovery.specs.declared.fault.OpenFault.TheVariants.{BadSize}
 use Rattle.recovery.specs.declared.fault.UpgradeFault.{UpgradeFault}
@@ -17,10 +18,6 @@ of_old (Some e) = Some (Old e)
 abbrev pub size_refusal : ℕ → ℕ → Option UpgradeFault
 size_refusal old new =
     if not (is_size_within most_blocks_1 old) then Some (Old BadSize) else (if not (new == old) then Some (New BadSize) else None)
-
-abbrev pub first_of : Option UpgradeFault → Option UpgradeFault → Option UpgradeFault
-first_of (Some e) second = Some e
-first_of None second = second
 
 -- the refusal of an upgrade, by the sizes of both devices, and by the old one's label
 abbrev pub upgrade_refusal : ℕ → ℕ → List ℕ → Option UpgradeFault

@@ -164,10 +164,12 @@ pub fn format<D: SectorDevice>(mut device: D, blocks: u16) -> Result<Store<D>, (
     ensures ok { IsTrue (D.keeps_model device)
         → IfOk result (λ store. StandsFor store (fresh (blank_blocks blocks))) }
     ensures clean { IsTrue (D.keeps_model device) → IfOk result (λ store. IsClean blocks (disk_of store)) }
-    ensures written { IsTrue (D.keeps_model device) → IfOk result (λ store. IsBlank blocks (disk_of store).content
-        × KeepsSlots blocks (D.disk device).content (disk_of store).content) }
-    ensures fresh { IfOk result (λ store. (blocks_of store ≡ blocks) × (closed_of store ≡ false) × ((b : ℕ)
-        → is_pending store b ≡ false)) }
+    ensures blank { IsTrue (D.keeps_model device) → IfOk result (λ store. IsBlank blocks (disk_of store).content) }
+    ensures slots { IsTrue (D.keeps_model device)
+        → IfOk result (λ store. KeepsSlots blocks (D.disk device).content (disk_of store).content) }
+    ensures blocks { IfOk result (λ store. blocks_of store ≡ blocks) }
+    ensures closed { IfOk result (λ store. closed_of store ≡ false) }
+    ensures pending { IfOk result (λ store. (b : ℕ) → is_pending store b ≡ false) }
 
     // BadSize comes exactly where the size is wrong, over any device and with no call of it. Else only the device fails.
     ensures size { IfOk result (λ _. is_size_for blocks (D.sector_count device) ≡ true) }

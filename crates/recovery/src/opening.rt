@@ -174,7 +174,8 @@ pub fn open<D: SectorDevice>(mut device: D) -> Result<Store<D>, (OpenFault, D)>
         → IfOk result (λ store. IsClean (blocks_of store) (disk_of store)) }
     ensures gate { IsTrue (D.keeps_model device)
         → IfOk result (λ store. (disk_of store).content 1 ≡ gate_after ((D.disk device).content 1)) }
-    ensures fresh { IfOk result (λ store. (closed_of store ≡ false) × ((b : ℕ) → is_pending store b ≡ false)) }
+    ensures closed { IfOk result (λ store. closed_of store ≡ false) }
+    ensures pending { IfOk result (λ store. (b : ℕ) → is_pending store b ≡ false) }
     ensures size { IfOk result (λ store. D.sector_count device ≡ sectors_for (blocks_of store)) }
 
     // BadSize comes exactly where no image has this size, over any device and with no call of it.

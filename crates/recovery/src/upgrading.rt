@@ -7,9 +7,9 @@ ghost use Rattle.journal.specs.Chain.{MayRedo};
 ghost use Rattle.journal.specs.Images.{meaning, Means};
 ghost use Rattle.journal.specs.Layout.{fewest_blocks, most_blocks, most_blocks_1, sectors_for, label_of, label_1_of, gate_open, count_listed};
 ghost use Rattle.journal.specs.Steps.{WritesOnly, IsAsSynced, HasRecovered};
-ghost use Rattle.recovery.specs.Formatted.{MakingLeaves, IsFilled};
+ghost use Rattle.recovery.specs.Formatted.{MakingLeaves, IsFilled, KeepsSlots};
 ghost use Rattle.recovery.specs.Label.{label_refusal_by};
-ghost use Rattle.recovery.specs.Opened.{writes_for, syncs_for};
+ghost use Rattle.recovery.specs.Opened.{gate_after, writes_for, syncs_for};
 ghost use Rattle.recovery.specs.Steps.{IsUnlabelled, IsPrepared, IsMade, TakenAway, CarriedLeaves, OnlyRead, WentWell, TellsFault};
 ghost use Rattle.recovery.specs.Upgraded.{size_refusal, upgrade_refusal, OldLeaves};
 ghost use Rattle.recovery.specs.declared.fault.OpenFault.{OpenFault};
@@ -51,6 +51,8 @@ fn redo<D: SectorDevice>(device: &mut D, blocks: u16) -> Result<(), DeviceFault>
     requires synced { IsTrue (D.keeps_model device.old) → (k : ℕ) → (D.disk device.old).unsynced k ≡ false }
     ensures ok { IsTrue (D.keeps_model device.old)
         → OnOk result (HasRecovered blocks (D.disk device.old) (D.disk device.new)) }
+    ensures gate { IsTrue (D.keeps_model device.old)
+        → OnOk result ((D.disk device.new).content 1 ≡ gate_after ((D.disk device.old).content 1)) }
     ensures stops { IsTrue (D.keeps_model device.old)
         → StopsLeave D.SectorDevice device.old device.new (MayRedo blocks (D.disk device.old).content) }
     ensures passes { Passes D.SectorDevice device.old device.new result }
@@ -70,6 +72,8 @@ fn finish<D: SectorDevice>(device: &mut D, blocks: u16) -> Result<(), DeviceFaul
     requires synced { IsTrue (D.keeps_model device.old) → (k : ℕ) → (D.disk device.old).unsynced k ≡ false }
     ensures ok { IsTrue (D.keeps_model device.old)
         → OnOk result (HasRecovered blocks (D.disk device.old) (D.disk device.new)) }
+    ensures gate { IsTrue (D.keeps_model device.old)
+        → OnOk result ((D.disk device.new).content 1 ≡ gate_after ((D.disk device.old).content 1)) }
     ensures stops { IsTrue (D.keeps_model device.old)
         → StopsLeave D.SectorDevice device.old device.new (MayRedo blocks (D.disk device.old).content) }
     ensures passes { Passes D.SectorDevice device.old device.new result }
@@ -92,6 +96,8 @@ fn recover<D: SectorDevice>(device: &mut D, blocks: u16) -> Result<(), OpenFault
     requires size { D.sector_count device.old ≡ sectors_for blocks }
     ensures ok { IsTrue (D.keeps_model device.old)
         → OnOk result (HasRecovered blocks (D.disk device.old) (D.disk device.new)) }
+    ensures gate { IsTrue (D.keeps_model device.old)
+        → OnOk result ((D.disk device.new).content 1 ≡ gate_after ((D.disk device.old).content 1)) }
     ensures label { IsTrue (D.keeps_model device.old)
         → OnOk result ((D.disk device.old).content 0 ≡ label_1_of blocks) }
     ensures exact { IsTrue (D.keeps_model device.old) → MatchResult result
@@ -100,6 +106,8 @@ fn recover<D: SectorDevice>(device: &mut D, blocks: u16) -> Result<(), OpenFault
     ensures device { IfErr result (λ e. e ≡ Device → D.failures device.new ≡ count_up (D.failures device.old)) }
     ensures refused { IfErr result (λ e. e ≢ Device → D.failures device.new ≡ D.failures device.old) }
     ensures well { OnOk result (D.failures device.new ≡ D.failures device.old) }
+    ensures content { IsTrue (D.keeps_model device.old)
+        → IfErr result (λ e. e ≢ Device → (D.disk device.new).content ≡ (D.disk device.old).content) }
     ensures unwritten { IfErr result (λ e. e ≢ Device → BeginsAtMost D.SectorDevice device.old device.new 0 1) }
     ensures stops { IsTrue (D.keeps_model device.old)
         → StopsLeave D.SectorDevice device.old device.new (OldLeaves blocks (D.disk device.old)) }
@@ -185,6 +193,8 @@ fn fill<A: SectorDevice, B: SectorDevice>(
     requires to { B.sector_count target.old ≡ sectors_for blocks }
     ensures ok { IsTrue (A.keeps_model source.old) → IsTrue (B.keeps_model target.old)
         → OnOk result (IsFilled blocks (A.disk source.old).content (B.disk target.new).content) }
+    ensures slots { IsTrue (B.keeps_model target.old)
+        → OnOk result (KeepsSlots blocks (B.disk target.old).content (B.disk target.new).content) }
     ensures only { IsTrue (B.keeps_model target.old)
         → WritesOnly (λ k. k ≢ 0) (B.disk target.old) (B.disk target.new) }
     ensures stops { IsTrue (B.keeps_model target.old)
@@ -214,6 +224,8 @@ fn prepare<A: SectorDevice, B: SectorDevice>(
     requires unlabelled { IsTrue (B.keeps_model target.old) → IsUnlabelled blocks (B.disk target.old) }
     ensures ok { IsTrue (A.keeps_model source.old) → IsTrue (B.keeps_model target.old)
         → OnOk result (IsPrepared blocks (A.disk source.old).content (B.disk target.new)) }
+    ensures slots { IsTrue (B.keeps_model target.old)
+        → OnOk result (KeepsSlots blocks (B.disk target.old).content (B.disk target.new).content) }
     ensures synced { IsTrue (B.keeps_model target.old)
         → OnOk result ((k : ℕ) → (B.disk target.new).unsynced k ≡ false) }
     ensures stops { IsTrue (B.keeps_model target.old)
@@ -244,6 +256,8 @@ fn write_image<A: SectorDevice, B: SectorDevice>(
     requires unlabelled { IsTrue (B.keeps_model target.old) → IsUnlabelled blocks (B.disk target.old) }
     ensures ok { IsTrue (A.keeps_model source.old) → IsTrue (B.keeps_model target.old)
         → OnOk result (IsMade blocks (A.disk source.old).content (B.disk target.new)) }
+    ensures slots { IsTrue (B.keeps_model target.old)
+        → OnOk result (KeepsSlots blocks (B.disk target.old).content (B.disk target.new).content) }
     ensures stops { IsTrue (A.keeps_model source.old) → IsTrue (B.keeps_model target.old)
         → StopsLeave B.SectorDevice target.old target.new (CarriedLeaves blocks (A.disk source.old).content) }
     ensures faults { IfErr result (TellsFault A.SectorDevice B.SectorDevice source.old source.new target.old target.new) }
@@ -271,6 +285,8 @@ fn carry<A: SectorDevice, B: SectorDevice>(
     requires to { B.sector_count target.old ≡ sectors_for blocks }
     ensures ok { IsTrue (A.keeps_model source.old) → IsTrue (B.keeps_model target.old)
         → OnOk result (IsMade blocks (A.disk source.old).content (B.disk target.new)) }
+    ensures slots { IsTrue (B.keeps_model target.old)
+        → OnOk result (KeepsSlots blocks (B.disk target.old).content (B.disk target.new).content) }
     ensures stops { IsTrue (A.keeps_model source.old) → IsTrue (B.keeps_model target.old)
         → StopsLeave B.SectorDevice target.old target.new (λ c. TakenAway blocks (B.disk target.old) c ⊎ CarriedLeaves blocks (A.disk source.old).content c) }
     ensures faults { IfErr result (TellsFault A.SectorDevice B.SectorDevice source.old source.new target.old target.new) }
@@ -306,9 +322,13 @@ pub fn upgrade<A: SectorDevice, B: SectorDevice>(
     ensures new_well { IfErr result (λ e. e ≢ New Device → B.failures new.new ≡ B.failures new.old) }
     ensures well { OnOk result (WentWell A.SectorDevice B.SectorDevice old.old old.new new.old new.new) }
     // BadSize comes with no call of either device. Another refusal than Device wrote nothing.
-    ensures unasked { IfErr result (λ e. (e ≡ Old BadSize) ⊎ (e ≡ New BadSize) → (old.new ≡ old.old) × (new.new ≡ new.old)) }
-    ensures unwritten { IfErr result (λ e. e ≢ Old Device → e ≢ New Device
-        → BeginsAtMost A.SectorDevice old.old old.new 0 1 × BeginsAtMost B.SectorDevice new.old new.new 0 0) }
+    ensures old_unasked { IfErr result (λ e. (e ≡ Old BadSize) ⊎ (e ≡ New BadSize) → old.new ≡ old.old) }
+    ensures new_unasked { IfErr result (λ e. (e ≡ Old BadSize) ⊎ (e ≡ New BadSize) → new.new ≡ new.old) }
+    ensures old_unwritten { IfErr result (λ e. e ≢ Old Device → e ≢ New Device → BeginsAtMost A.SectorDevice old.old old.new 0 1) }
+    ensures new_unwritten { IfErr result (λ e. e ≢ Old Device → e ≢ New Device → BeginsAtMost B.SectorDevice new.old new.new 0 0) }
+    ensures old_content { IsTrue (A.keeps_model old.old)
+        → IfErr result (λ e. e ≢ Old Device → e ≢ New Device → (A.disk old.new).content ≡ (A.disk old.old).content) }
+    ensures new_same { IfErr result (λ e. e ≢ Old Device → e ≢ New Device → new.new ≡ new.old) }
 
     // What a stop at any moment leaves of the old image, and of the new one, and what one leaves of that once it has returned.
     ensures old_stops { IsTrue (A.keeps_model old.old) → (n : ℕ) → A.sector_count old.old ≡ sectors_for n
@@ -317,6 +337,13 @@ pub fn upgrade<A: SectorDevice, B: SectorDevice>(
         → StopsLeave B.SectorDevice new.old new.new (MakingLeaves n (meaning n (A.disk old.old).content) (B.disk new.old)) }
     ensures after { IsTrue (A.keeps_model old.old) → IsTrue (B.keeps_model new.old) → OnOk result ((n : ℕ) → B.sector_count new.old ≡ sectors_for n
         → (image : Image) → MayLeave (B.disk new.new) image → Means (meaning n (A.disk old.old).content) image) }
+    // The new image is made as by a format, with the homes of the old one, whose gate is closed then.
+    ensures filled { IsTrue (A.keeps_model old.old) → IsTrue (B.keeps_model new.old) → OnOk result ((n : ℕ) → B.sector_count new.old ≡ sectors_for n
+        → IsFilled n (A.disk old.new).content (B.disk new.new).content) }
+    ensures slots { IsTrue (B.keeps_model new.old) → OnOk result ((n : ℕ) → B.sector_count new.old ≡ sectors_for n
+        → KeepsSlots n (B.disk new.old).content (B.disk new.new).content) }
+    ensures old_gate { IsTrue (A.keeps_model old.old)
+        → OnOk result ((A.disk old.new).content 1 ≡ gate_after ((A.disk old.old).content 1)) }
     ensures old_passes { Proceeds A.SectorDevice old.old old.new }
     ensures new_passes { Proceeds B.SectorDevice new.old new.new }
     ensures old_begins { IsTrue (A.keeps_model old.old) → (n : ℕ) → A.sector_count old.old ≡ sectors_for n

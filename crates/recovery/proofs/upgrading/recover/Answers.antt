@@ -1,9 +1,12 @@
-use Rattle.std.proofs.Common.{sym, subst, ap, IsTrue}
+use Rattle.std.proofs.Common.{◌-◌, sym, subst, ap, IsTrue}
 use Rattle.sector_disk.specs.Disk.{Disk, Image, MayLeave}
 use Rattle.sector_disk.proofs.Moments.{leaves_then}
+use Rattle.journal.specs.Calls.{BeginsAtMost}
 use Rattle.journal.specs.Chain.{MayRedo}
 use Rattle.journal.proofs.Calls.{proceeds, proceeds_then}
+use Rattle.recovery.specs.Opened.{writes_for, syncs_for}
 use Rattle.recovery.specs.Upgraded.{OldLeaves}
+use Rattle.recovery.proofs.Recoveries.{begins_then}
 use Rattle.recovery.proofs.Upgrades.{old_now, old_later}
 use Rattle.recovery.proofs.upgrading.recover.Goals as goal
 
@@ -28,6 +31,15 @@ pub returns-in-Ok-clause-passes : goal.returns-in-Ok-clause-passes
 returns-in-Ok-clause-passes g c =
     proceeds_then g.D.SectorDevice c.args.device.now c.start.new.device c.finish.new.device g.met.D.SectorDevice.widens
     c.start.ensures.passes (proceeds g.D.SectorDevice c.start.new.device c.finish.new.device c.finish.ensures.passes)
+
+pub returns-in-Ok-clause-begins : goal.returns-in-Ok-clause-begins
+returns-in-Ok-clause-begins g c = λ keeps.
+    let D = g.D.SectorDevice in
+    let n = c.args.blocks in
+    let honest : IsTrue (D.keeps_model c.start.new.device) = subst IsTrue (sym c.start.ensures.passes.model) keeps in
+    let within : (image : Image) → Type 0 = λ image. BeginsAtMost D c.start.new.device c.finish.new.device (writes_for n image) (syncs_for image - 1) in
+    begins_then D n (D.disk c.args.device.now).content c.args.device.now c.start.new.device c.finish.new.device c.start.ensures.begins
+    (subst within (ap (λ (e : Disk). e.content) (c.in_ok-start.ensures.ok keeps).0) (c.finish.ensures.begins honest))
 
 pub returns-in-Err-clause-stops : goal.returns-in-Err-clause-stops
 returns-in-Err-clause-stops g c = λ keeps.
