@@ -1,7 +1,7 @@
 //! The words in chains, one chain for each vocabulary.
 //!
-//! Each header names the word before it in its vocabulary, and a table names the last word of each vocabulary. So a
-//! search reads the words of one vocabulary alone, the last one first. Contracts see a list of words, oldest first.
+//! A header has the token of the next older word of its vocabulary, and a table that of each vocabulary's newest one.
+//! So a search reads the words of one vocabulary alone, the newest first. Contracts see a list of words, oldest first.
 ghost use Rattle.std.specs.Prelude.{◌≡◌, ◌+◌, ◌-◌, ◌<◌, ◌≤◌, [], ◌∷◌, ◌++◌, length, take, option_map, is_some, IfOk, IfSome, IsTrue};
 ghost use Rattle.std.specs.Bool.{OnTrue, OnFalse};
 ghost use Rattle.dictionary.specs.Words.{same_text, is_name, find_in, entry, with_immediate, with_part};

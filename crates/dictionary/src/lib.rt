@@ -277,7 +277,7 @@ impl Dictionary {
         self.current
     }
 
-    /// Makes this the first vocabulary of the search.
+    /// Makes this the first vocabulary of the search: `FORTH`, or the token of another word.
     pub fn set_context(&mut self, vocabulary: Token)
         requires { IsTrue (may_be_vocabulary self.old vocabulary) }
         ensures { self.new ≡ record self.old { context = vocabulary } }
@@ -285,7 +285,7 @@ impl Dictionary {
         self.context = vocabulary;
     }
 
-    /// Makes this the compilation vocabulary.
+    /// Makes this the compilation vocabulary: `FORTH`, or the token of another word.
     pub fn set_current(&mut self, vocabulary: Token)
         requires { IsTrue (may_be_vocabulary self.old vocabulary) }
         ensures { self.new ≡ record self.old { current = vocabulary } }

@@ -40,7 +40,7 @@ impl Entry {
         }
     }
 
-    /// Gives a loop another index, where it is. False where this is no loop.
+    /// Gives a loop another index. False where this is no loop; then nothing is changed.
     #[inline(always)]
     fn set_index(&mut self, index: u16) -> bool
         ensures there { result ≡ is_loop self.old }
