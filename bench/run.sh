@@ -31,12 +31,8 @@ for crate in bench_machine bench_lexicon; do
     }
 done
 
-flags="-std=c11 -Wall -Wextra -O2 -DWITH_MACHINE"
-machines="machine"
-if grep -q 'fn machine_run_calling' "$here/machine/lib.rt.txt"; then
-    flags="$flags -DWITH_CALLING"
-    machines="machine calling"
-fi
+flags="-std=c11 -Wall -Wextra -O2 -DWITH_MACHINE -DWITH_CALLING"
+machines="machine calling"
 compilers="gcc"
 if command -v clang > /dev/null; then
     compilers="gcc clang"

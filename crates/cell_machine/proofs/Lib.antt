@@ -15,7 +15,7 @@ pub mod Arms
 pub mod Hops
 pub mod Paces
 pub mod Lists
-pub mod Tokens
+pub mod Outcomes
 pub mod Strides
 pub mod Onces
 pub mod Enters
@@ -29,3 +29,5 @@ pub mod Trims
 pub mod Floors
 pub mod Wides
 pub mod Stores
+pub mod Standing
+pub mod Called

@@ -17,3 +17,4 @@ pub mod Calling
 pub mod Moves
 pub mod Passes
 pub mod Served
+pub mod Standing

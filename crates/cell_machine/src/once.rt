@@ -9,12 +9,12 @@ ghost use Rattle.cell_machine.specs.Moves.{OnceDid, OnceEnded, IsListWord};
 use crate::dispatch::run_word;
 use crate::event::{Event, MachineFault};
 use crate::operands::Operands;
+use crate::tokens;
 use data_space::DataSpace;
 use stacks::ReturnStack;
 
-/// A word by itself: nothing is put aside for it. It works on copies, so that the loop over the cells of a body, which
-/// goes on with the same operands, can keep them in registers.
-#[inline(always)]
+/// A word by itself, by its token: nothing is put aside for it.
+#[inline(never)]
 pub fn once(
     word: u16,
     operands: &mut Operands,
@@ -31,38 +31,12 @@ pub fn once(
         (core_of (held places.old operands.old.depth operands.old.top) space.old budget.old)
         (core_of (held places.new operands.new.depth operands.new.top) space.new budget.new)) }
 {
-    let mut kept = *operands;
-    let mut left = *budget;
-    let done = alone(word, &mut kept, places, returns, space, &mut left);
-    *operands = kept;
-    *budget = left;
-    done
-}
-
-/// A word by itself, by its token.
-#[inline(never)]
-fn alone(
-    word: u16,
-    operands: &mut Operands,
-    places: &mut [u16],
-    returns: &ReturnStack,
-    space: &mut DataSpace,
-    budget: &mut u32,
-) -> Result<(), Event>
-    requires sized { length places.old ≡ 257 }
-    ensures did { OnOk result (OnceDid word (units returns.now)
-        (core_of (held places.old operands.old.depth operands.old.top) space.old budget.old)
-        (core_of (held places.new operands.new.depth operands.new.top) space.new budget.new)) }
-    ensures ended { IfErr result (λ e. OnceEnded word e (units returns.now)
-        (core_of (held places.old operands.old.depth operands.old.top) space.old budget.old)
-        (core_of (held places.new operands.new.depth operands.new.top) space.new budget.new)) }
-{
     match word {
-        21 => to_return(operands, places, returns, budget),
-        40 => nothing_aside(40, operands, budget),
-        41 => nothing_aside(41, operands, budget),
-        50 => nothing_aside(50, operands, budget),
-        51 => nothing_aside(51, operands, budget),
+        tokens::TO_RETURN => to_return(operands, places, returns, budget),
+        tokens::INDEX => nothing_aside(tokens::INDEX, operands, budget),
+        tokens::OUTER_INDEX => nothing_aside(tokens::OUTER_INDEX, operands, budget),
+        tokens::FROM_RETURN => nothing_aside(tokens::FROM_RETURN, operands, budget),
+        tokens::COPY_RETURN => nothing_aside(tokens::COPY_RETURN, operands, budget),
         _ => run_word(word, operands, places, space, budget),
     }
 }

@@ -32,3 +32,33 @@ pub enum Binary {
     Equal,
     UnsignedLess,
 }
+
+/// A word on the cells of the data stack.
+#[derive(Clone, Copy, Debug, PartialEq, Eq)]
+pub enum Shuffle {
+    Dup,
+    Drop,
+    Swap,
+    Over,
+    Rotate,
+    DupNonzero,
+}
+
+/// A word on data space.
+#[derive(Clone, Copy, Debug, PartialEq, Eq)]
+pub enum Store {
+    Fetch,
+    Set,
+    AddTo,
+    FetchByte,
+    SetByte,
+}
+
+/// A frequent word, which the loop does where it stands. It leaves alone what is put aside.
+#[derive(Clone, Copy, Debug, PartialEq, Eq)]
+pub enum Frequent {
+    One(Unary),
+    Two(Binary),
+    Stack(Shuffle),
+    Space(Store),
+}

@@ -49,6 +49,9 @@ enum LoopEnd {
 }
 
 /// The open definition, if there is one, and where the bodies end. It takes no memory.
+///
+/// A call that adds to the definition is refused, in this order, where none is open (`NoDefinition`), where it doesn't fit
+/// (`Unbalanced`) and where there is no room for it (`CodeFull`).
 #[derive(Drop)]
 pub struct Compiler {
     is_open: bool,
@@ -180,7 +183,8 @@ impl Compiler {
         Ok(())
     }
 
-    /// Adds a word, or after `COMPILE` one that the body adds when it runs. `EXIT` stands in no loop.
+    /// Adds a word, with a token of 1 to 4,096, or after `COMPILE` one that the body adds when it runs. `EXIT` stands in
+    /// no loop.
     pub fn call(&mut self, code: &mut Code, token: u16) -> Result<(), Refusal>
         requires sound { IsSound self.old code.old }
         requires from { 0 < token }
