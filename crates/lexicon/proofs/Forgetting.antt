@@ -15,14 +15,13 @@ use Rattle.cell_machine.specs.Staying.{RunsBefore}
 use Rattle.cell_machine.proofs.Staying.{left_stays}
 use Rattle.dictionary.specs.Words.{entry, system_count, kept}
 use Rattle.dictionary.specs.declared.DictionaryFault.TheVariants as found
-use Rattle.dictionary.specs.Dictionary.{Dictionary, Named, is_token, forget_refusal, forgotten as dictionary_after}
+use Rattle.dictionary.specs.Dictionary.{Dictionary, Named, body_of_word, is_token, forget_refusal, forgotten as dictionary_after}
 use Rattle.compiler.specs.declared.Compiler.{Compiler}
 use Rattle.compiler.specs.Definition.{Definition, Adding, Adds, Refuses}
 use Rattle.compiler.specs.Represents.{used, IsClosed, Holds}
 use Rattle.lexicon.specs.declared.Lexicon.{Lexicon}
 use Rattle.lexicon.specs.Language.{ForthWord, Language, used_cells, all_below, none_open, forgetting, forgotten}
 use Rattle.lexicon.specs.Stands.{owner_in, Stands, IsLeft, IsHere, IsBegun, IsWord, WordsStand}
-use Rattle.lexicon.specs.Adding.{body_place}
 use Rattle.lexicon.proofs.Places.{runs_below_is}
 use Rattle.lexicon.proofs.Owners.{used-take}
 use Rattle.lexicon.proofs.Words.{words-length, body-begins, no-body, EntryStands, words-at, words-take, words-stay}
@@ -41,12 +40,12 @@ no_more : (n : ℕ) → 0 + n ≡ n
 no_more n = omega arith
 
 module _ (l : Lexicon) (x : Language) (h : Stands l x) where
-  pub begins_at : (next q : ℕ) → 0 < next → body_place (entry l.dictionary.words next) ≡ Some q → q ≡ used_cells (take (next - 1) x.words)
+  pub begins_at : (next q : ℕ) → 0 < next → body_of_word (entry l.dictionary.words next) ≡ Some q → q ≡ used_cells (take (next - 1) x.words)
   begins_at zero q a e = absurd (omega arith)
   begins_at (suc n) q a e =
       body-begins l.code (owner_in x.words) n 1 0 q l.dictionary.words x.words h.words e ∙ no_more (used_cells (take n x.words)) ∙ ap (λ m. used_cells (take m x.words)) (sym (one_less n))
 
-  pub none_at : (next : ℕ) → 0 < next → body_place (entry l.dictionary.words next) ≡ None → used_cells (take (next + 1 - 1) x.words) ≡ used_cells (take (next - 1) x.words)
+  pub none_at : (next : ℕ) → 0 < next → body_of_word (entry l.dictionary.words next) ≡ None → used_cells (take (next + 1 - 1) x.words) ≡ used_cells (take (next - 1) x.words)
   none_at zero a e = absurd (omega arith)
   none_at (suc n) a e =
       let up : suc n + 1 - 1 ≡ suc n = omega arith in

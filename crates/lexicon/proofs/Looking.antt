@@ -8,7 +8,7 @@ use Rattle.compiler.specs.Definition.{Body}
 use Rattle.lexicon.specs.declared.Lexicon.{Lexicon}
 use Rattle.lexicon.specs.Language.{Part, ForthWord, Language, used_cells}
 use Rattle.lexicon.specs.Stands.{owner_in, KindStands, Stands, IsWord}
-use Rattle.lexicon.specs.Kinds.{is_immediate, is_vocabulary, makes_vocabulary, data_address, data_field, names_vocabulary, named_field}
+use Rattle.lexicon.specs.Kinds.{is_immediate, is_vocabulary, makes_vocabulary, data_address, data_field}
 use Rattle.lexicon.proofs.Words.{EntryStands, words-last, words-length}
 use Rattle.lexicon.proofs.Calls.{at}
 
@@ -45,7 +45,7 @@ module _ (code : List ℕ) (owner_at : ℕ → ℕ) (k p : ℕ) where
   none_of None (Some w) h e = absurd h
   none_of (Some g) q h e = cc
 
-  kinds_vocabulary : (g : Kind ℕ ℕ) (w : Kind Body Part) → KindStands code owner_at k p g w → names_vocabulary g ≡ makes_vocabulary w
+  kinds_vocabulary : (g : Kind ℕ ℕ) (w : Kind Body Part) → KindStands code owner_at k p g w → makes_vocabulary g ≡ makes_vocabulary w
   kinds_vocabulary Primitive Primitive h = refl
   kinds_vocabulary (Colon place) (Colon body) h = refl
   kinds_vocabulary (Created a None) (Created b None) h = refl
@@ -54,7 +54,7 @@ module _ (code : List ℕ) (owner_at : ℕ → ℕ) (k p : ℕ) where
   kinds_vocabulary Vocabulary Vocabulary h = refl
   kinds_vocabulary _ _ h = absurd h
 
-  kinds_field : (g : Kind ℕ ℕ) (w : Kind Body Part) → KindStands code owner_at k p g w → named_field g ≡ data_field w
+  kinds_field : (g : Kind ℕ ℕ) (w : Kind Body Part) → KindStands code owner_at k p g w → data_field g ≡ data_field w
   kinds_field Primitive Primitive h = refl
   kinds_field (Colon place) (Colon body) h = refl
   kinds_field (Created a None) (Created b None) h = ap Some h
@@ -63,17 +63,17 @@ module _ (code : List ℕ) (owner_at : ℕ → ℕ) (k p : ℕ) where
   kinds_field Vocabulary Vocabulary h = refl
   kinds_field _ _ h = absurd h
 
-  vocabulary_of : (o : Option Named) (q : Option ForthWord) (g : Named) → EntryStands code owner_at k p o q → Some g ≡ o → names_vocabulary g.kind ≡ is_vocabulary q
+  vocabulary_of : (o : Option Named) (q : Option ForthWord) (g : Named) → EntryStands code owner_at k p o q → Some g ≡ o → makes_vocabulary g.kind ≡ is_vocabulary q
   vocabulary_of None q g h e = cc
   vocabulary_of (Some f) None g h e = absurd h
   vocabulary_of (Some f) (Some w) g h e =
-      let s : g ≡ f = cc in ap (λ (d : Named). names_vocabulary d.kind) s ∙ kinds_vocabulary f.kind w.kind h.kind
+      let s : g ≡ f = cc in ap (λ (d : Named). makes_vocabulary d.kind) s ∙ kinds_vocabulary f.kind w.kind h.kind
 
-  address_of : (o : Option Named) (q : Option ForthWord) (g : Named) → EntryStands code owner_at k p o q → Some g ≡ o → named_field g.kind ≡ data_address q
+  address_of : (o : Option Named) (q : Option ForthWord) (g : Named) → EntryStands code owner_at k p o q → Some g ≡ o → data_field g.kind ≡ data_address q
   address_of None q g h e = cc
   address_of (Some f) None g h e = absurd h
   address_of (Some f) (Some w) g h e =
-      let s : g ≡ f = cc in ap (λ (d : Named). named_field d.kind) s ∙ kinds_field f.kind w.kind h.kind
+      let s : g ≡ f = cc in ap (λ (d : Named). data_field d.kind) s ∙ kinds_field f.kind w.kind h.kind
 
 module _ (l : Lexicon) (x : Language) (h : Stands l x) (token : ℕ) where
   pub looks_immediate : (g : Named) → Some g ≡ entry l.dictionary.words token → g.immediate ≡ is_immediate (entry x.words token)
@@ -84,11 +84,11 @@ module _ (l : Lexicon) (x : Language) (h : Stands l x) (token : ℕ) where
   looks_none e =
       let r = entries l x h token in none_of l.code (owner_in x.words) token r.0 (entry l.dictionary.words token) (entry x.words token) r.1 e
 
-  pub looks_vocabulary : (g : Named) → Some g ≡ entry l.dictionary.words token → names_vocabulary g.kind ≡ is_vocabulary (entry x.words token)
+  pub looks_vocabulary : (g : Named) → Some g ≡ entry l.dictionary.words token → makes_vocabulary g.kind ≡ is_vocabulary (entry x.words token)
   looks_vocabulary g e =
       let r = entries l x h token in vocabulary_of l.code (owner_in x.words) token r.0 (entry l.dictionary.words token) (entry x.words token) g r.1 e
 
-  pub looks_address : (g : Named) → Some g ≡ entry l.dictionary.words token → named_field g.kind ≡ data_address (entry x.words token)
+  pub looks_address : (g : Named) → Some g ≡ entry l.dictionary.words token → data_field g.kind ≡ data_address (entry x.words token)
   looks_address g e =
       let r = entries l x h token in address_of l.code (owner_in x.words) token r.0 (entry l.dictionary.words token) (entry x.words token) g r.1 e
 

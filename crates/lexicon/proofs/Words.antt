@@ -5,11 +5,10 @@ use Rattle.cell_machine.specs.Events.{BodyAt}
 use Rattle.cell_machine.specs.Staying.{IsBefore, Stays}
 use Rattle.cell_machine.proofs.Staying.{body_stays}
 use Rattle.dictionary.specs.Words.{Kind, Primitive, Colon, Created, Constant, Vocabulary, last_from, with_immediate, with_part, with_kind, kind_with, before}
-use Rattle.dictionary.specs.Dictionary.{Named}
+use Rattle.dictionary.specs.Dictionary.{Named, body_of, body_of_word}
 use Rattle.compiler.specs.Definition.{Body}
 use Rattle.lexicon.specs.Language.{Part, ForthWord, cells_of, used_cells}
 use Rattle.lexicon.specs.Stands.{KindStands, WordStands, WordsStand, is_primitive}
-use Rattle.lexicon.specs.Adding.{kind_place, body_place}
 
 module _ (code : List ℕ) (owner_at : ℕ → ℕ) where
   pub words-length : (k p : ℕ) (given : List Named) (words : List ForthWord) → WordsStand code owner_at k p given words → length given ≡ length words
@@ -73,7 +72,7 @@ module _ (code : List ℕ) (owner_at : ℕ → ℕ) where
 
   -- ---- where bodies begin
 
-  kind-begins : (k p q : ℕ) (g : Kind ℕ ℕ) (w : Kind Body Part) → KindStands code owner_at k p g w → kind_place g ≡ Some q → q ≡ p
+  kind-begins : (k p q : ℕ) (g : Kind ℕ ℕ) (w : Kind Body Part) → KindStands code owner_at k p g w → body_of g ≡ Some q → q ≡ p
   kind-begins k p q Primitive w h e = cc
   kind-begins k p q (Colon place) (Colon b) h e = let s : place ≡ q = cc in sym s ∙ h.0
   kind-begins k p q (Colon place) _ h e = absurd h
@@ -81,7 +80,7 @@ module _ (code : List ℕ) (owner_at : ℕ → ℕ) where
   kind-begins k p q (Constant n) w h e = cc
   kind-begins k p q Vocabulary w h e = cc
 
-  kind-empty : (k p : ℕ) (g : Kind ℕ ℕ) (w : Kind Body Part) → KindStands code owner_at k p g w → kind_place g ≡ None → cells_of w ≡ 0
+  kind-empty : (k p : ℕ) (g : Kind ℕ ℕ) (w : Kind Body Part) → KindStands code owner_at k p g w → body_of g ≡ None → cells_of w ≡ 0
   kind-empty k p g Primitive h e = refl
   kind-empty k p Primitive (Colon b) h e = absurd h
   kind-empty k p (Colon place) (Colon b) h e = cc
@@ -93,14 +92,14 @@ module _ (code : List ℕ) (owner_at : ℕ → ℕ) where
   kind-empty k p g (Constant n) h e = refl
   kind-empty k p g Vocabulary h e = refl
 
-  pub body-begins : (n k p q : ℕ) (given : List Named) (words : List ForthWord) → WordsStand code owner_at k p given words → body_place (slice_get given n) ≡ Some q → q ≡ p + used_cells (take n words)
+  pub body-begins : (n k p q : ℕ) (given : List Named) (words : List ForthWord) → WordsStand code owner_at k p given words → body_of_word (slice_get given n) ≡ Some q → q ≡ p + used_cells (take n words)
   body-begins n k p q [] [] h e = cc
   body-begins n k p q [] (w ∷ words) h e = absurd h
   body-begins n k p q (g ∷ given) [] h e = absurd h
   body-begins zero k p q (g ∷ given) (w ∷ words) h e = kind-begins k p q g.kind w.kind h.0.kind e ∙ omega arith
   body-begins (suc n) k p q (g ∷ given) (w ∷ words) h e = body-begins n (suc k) (p + cells_of w.kind) q given words h.1 e ∙ omega arith
 
-  pub no-body : (n k p : ℕ) (given : List Named) (words : List ForthWord) → WordsStand code owner_at k p given words → body_place (slice_get given n) ≡ None → used_cells (take (suc n) words) ≡ used_cells (take n words)
+  pub no-body : (n k p : ℕ) (given : List Named) (words : List ForthWord) → WordsStand code owner_at k p given words → body_of_word (slice_get given n) ≡ None → used_cells (take (suc n) words) ≡ used_cells (take n words)
   no-body n k p [] [] h e = take-none n
     where
       take-none : (n : ℕ) → used_cells (take (suc n) []) ≡ used_cells (take n [])

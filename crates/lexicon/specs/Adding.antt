@@ -1,8 +1,8 @@
--- A new word: whether it may be added. And, for the contracts of private functions, the kinds of words that have no code, and where bodies begin.
-use Rattle.std.specs.Prelude.{◌≡◌, ℕ, false, List, Option, Some, None}
+-- A new word: whether it may be added. And, for the contracts of private functions, the kinds of words that have no code.
+use Rattle.std.specs.Prelude.{◌≡◌, ℕ, false, List, None}
 use Rattle.cell_machine.specs.Fault.{Fault, Name, DictionaryFull}
-use Rattle.dictionary.specs.Words.{Kind, Colon}
-use Rattle.dictionary.specs.Dictionary.{Named, kind_of, add_refusal}
+use Rattle.dictionary.specs.Words.{Kind}
+use Rattle.dictionary.specs.Dictionary.{kind_of, add_refusal}
 use Rattle.dictionary.specs.declared.Kind.{Kind as GivenKind}
 use Rattle.dictionary.specs.declared.DictionaryFault.{DictionaryFault}
 use Rattle.dictionary.specs.declared.DictionaryFault.TheVariants as found
@@ -39,12 +39,3 @@ AddsData old new name given =
 abbrev pub RefusesData : (old new : Lexicon) (name : List ℕ) → GivenKind → Fault → Type 0
 RefusesData old new name given f =
     ((x : Language) (kind : Kind Body Part) → Stands old x → adding_word name kind x ≡ Refuses f) × (new ≡ old)
-
--- where a word's body begins, if it has one
-abbrev pub kind_place : Kind ℕ ℕ → Option ℕ
-kind_place (Colon place) = Some place
-kind_place _ = None
-
-abbrev pub body_place : Option Named → Option ℕ
-body_place (Some w) = kind_place w.kind
-body_place None = None

@@ -69,10 +69,13 @@ with_word name kind x =
 abbrev pub adding_word : List ℕ → Kind Body Part → Language → Adding Language
 adding_word name kind x = with_new_name name x (Adds (with_word name kind x))
 
+-- a definition of this name is open
+abbrev pub begun : List ℕ → Language → Language
+begun name x = record x { first = x.current; definition = Some (opened name x.here) }
+
 -- :
 abbrev pub beginning : List ℕ → Language → Adding Language
-beginning name x =
-    with_new_name name x (Adds (record x { first = x.current; definition = Some (opened name x.here) }))
+beginning name x = with_new_name name x (Adds (begun name x))
 
 -- one thing more in the open definition
 abbrev pub with_definition : Language → Adding Definition → Adding Language

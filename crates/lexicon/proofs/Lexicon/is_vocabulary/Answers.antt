@@ -5,7 +5,7 @@ use Rattle.lexicon.proofs.Lexicon.is_vocabulary.Goals as goal
 
 pub returns-in-Some : goal.returns-in-Some
 returns-in-Some c =
-    λ x h. c.names_vocabulary.ensures ∙ looks_vocabulary c.args.self.now x h c.args.token _ c.in-Some.ensures.entry
+    λ x h. c.makes_vocabulary.ensures ∙ looks_vocabulary c.args.self.now x h c.args.token _ c.in-Some.ensures.entry
 
 pub returns-in-None : goal.returns-in-None
 returns-in-None c =
