@@ -6,6 +6,8 @@ use Rattle.sector_disk.specs.Disk.{Image, MayLeave}
 use Rattle.sector_disk.specs.Moments.{Elapses, LeavesOnly}
 use Rattle.sector_disk.proofs.Moments.{leaves_then}
 use Rattle.sector_disk.specs.declared.device.SectorDevice.{Ghosts}
+use Rattle.journal.specs.declared.store.StoreFault.{StoreFault}
+use Rattle.journal.specs.declared.store.StoreFault.TheVariants.{Device as DeviceRefuses, Closed as IsClosed}
 use Rattle.journal.specs.Images.{Means}
 use Rattle.data_space.specs.Space.{buffer_at, buffer_bytes, with_bytes}
 use Rattle.journal.specs.Maps.{Maps, contents, shut}
@@ -15,6 +17,7 @@ use Rattle.block_words.specs.declared.BlockFault.{BlockFault}
 use Rattle.block_words.specs.declared.BlockFault.TheVariants.{NoBlock, Device, Closed, Memory}
 use Rattle.block_words.specs.Words.{Answer, Well, Failed, Save, Wear, no_wear, add_wear, spill_wear, Blocks, BlockOutcome, Gives, Fails, spill_if, spill_oldest, open_store, device_call, answered, first_answer, give_buffer, assign, block, buffer, source}
 use Rattle.block_words.specs.Rooms.{spilled_if, room_made, is_updated, room_wear}
+use Rattle.block_words.specs.Faults.{of_store}
 use Rattle.block_words.specs.Calls.{state, ended, failures_after, WordRuns, WearsAtMost, CallKeeps, CallRuns}
 use Rattle.block_words.proofs.Worn.{none_more, none_first, wears_none, wears_then}
 use Rattle.journal.specs.declared.store.Store.{Store}
@@ -141,6 +144,9 @@ module _ (u : ℕ) (m : Maps) (b : Buffers) (sp : List ℕ) (is : nat_lt u (leng
         rw (is, found) (λ t. Gives (sym (same ∙ ap (buffer_bytes sp) here) t) (state m b sp rest f (sym (none_more was) t) (sym (append-nil sv) t)));
   }
 
+  pub source_closed : assigned b.list u ≡ None → m.closed ≡ true → WordRuns (source u) (Err Closed) no_wear [] m m b b sp sp
+  source_closed none shut_now = record { answers = []; same = λ rest f was sv. rw (is, none) (ap (λ t. open_store t (state m b sp rest f was sv) (λ s. device_call s (λ s. Gives (contents s.maps u) s) (λ s. Fails Device s))) shut_now ∙ (λ t. Fails Closed (state m b sp rest f (sym (none_more was) t) (sym (append-nil sv) t)))) }
+
   module _ (none : assigned b.list u ≡ None) (is_open : m.closed ≡ false) where
     pub source_read : (bytes : List ℕ) → bytes ≡ contents m u → WordRuns (source u) (Ok bytes) no_wear [] m m b b sp sp
     source_read bytes same = record {
@@ -238,3 +244,35 @@ still_runs G word r m store b b' sp sp' only_now stands h = record {
   shuts = λ h. h;
   last = λ _. refl;
 }
+
+-- a read that the store refuses
+pub refused_runs : {A D : Type 0} (G : Ghosts D) (word : Blocks → BlockOutcome A) (fault : StoreFault) (told : BlockFault) (m : Maps) (old new : Store D G) (b : Buffers) (sp : List ℕ)
+    → told ≡ of_store fault → ((d : D) (c : Image) → G.left_since d (G.time d) c → MayLeave (G.disk d) c) → StandsFor old m → StandsFor new m
+    → (fault ≡ IsClosed → old.closed ≡ true) → (fault ≡ IsClosed → new ≡ old) → (fault ≡ DeviceRefuses → old.closed ≡ false)
+    → (m.closed ≡ true → WordRuns word (Err Closed) no_wear [] m m b b sp sp) → (m.closed ≡ false → WordRuns word (Err Device) no_wear [] m m b b sp sp)
+    → (m.closed ≡ false → LeavesOnly G.time G.left_since old.device new.device (Means m.saved)) → WearsAtMost G old.device new.device no_wear
+    → CallRuns G word (Err told) [] m old new b b sp sp
+refused_runs {A} {D} G word fault told m old new b sp is only_now was stands shut_before same open_before shut failed leaves wears =
+    subst (λ (f : BlockFault). CallRuns G word (Err f) [] m old new b b sp sp) (sym is) (pick fault shut_before same open_before)
+  where
+    pick : (f : StoreFault) → (f ≡ IsClosed → old.closed ≡ true) → (f ≡ IsClosed → new ≡ old) → (f ≡ DeviceRefuses → old.closed ≡ false) → CallRuns G word (Err (of_store f)) [] m old new b b sp sp
+    pick IsClosed before same _ = subst (λ (s : Store D G). CallRuns G word (Err Closed) [] m old s b b sp sp) (sym (same refl)) (record {
+      maps = m;
+      wear = no_wear;
+      runs = shut (was.closed ∙ before refl);
+      stands = was;
+      kept = keeps_store G old m only_now was;
+      wears = wears_none G old.device;
+      shuts = λ h. h;
+      last = λ _. refl;
+    })
+    pick DeviceRefuses _ _ before = record {
+      maps = m;
+      wear = no_wear;
+      runs = failed (was.closed ∙ before refl);
+      stands = stands;
+      kept = keeps_saved G m.closed old.device new.device m.saved (was.closed ∙ before refl) (leaves (was.closed ∙ before refl));
+      wears = wears;
+      shuts = λ h. h;
+      last = λ _. refl;
+    }

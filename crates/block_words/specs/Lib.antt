@@ -1,5 +1,6 @@
 pub mod Words
 pub mod Kept
+pub mod Faults
 pub mod Calls
 pub mod Following
 pub mod Validity

@@ -13,7 +13,7 @@ ghost use Rattle.block_words.specs.Promises.{TellsFailures};
 use crate::BlockFault;
 use block_buffers::{Buffers, Slot};
 use data_space::{BUFFER_SIZE, DataSpace, FIRST_BUFFER};
-use journal::{Store, StoreFault};
+use journal::Store;
 use sector_disk::SectorDevice;
 
 // Where a slot's buffer stands in data space.
@@ -147,8 +147,7 @@ pub(crate) fn fetch<D: SectorDevice>(
             Ok(slot) => Ok(fill_buffer(space, slot, &bytes)),
             Err(fault) => Err(fault),
         },
-        Err(StoreFault::Device) => Err(BlockFault::Device),
-        Err(StoreFault::Closed) => Err(BlockFault::Closed),
+        Err(fault) => Err(BlockFault::from(fault)),
     }
 }
 

@@ -13,6 +13,7 @@ ghost use Rattle.block_words.specs.Uses.{used, slot_used, replaced, blanked, wit
 ghost use Rattle.block_words.specs.Rooms.{within};
 ghost use Rattle.block_words.specs.Validity.{AreApart-prop, SlotsBelow-prop};
 ghost use Rattle.block_words.specs.Calls.{CallRuns, save_begun};
+ghost use Rattle.block_words.specs.Faults.{of_store};
 
 mod assigning;
 pub mod laws;
@@ -42,10 +43,21 @@ pub enum BlockFault {
     Memory,
 }
 
+impl From<StoreFault> for BlockFault {
+    ghost from_gives = { λ fault told. told ≡ of_store fault };
+
+    fn from(fault: StoreFault) -> Self {
+        match fault {
+            StoreFault::Device => BlockFault::Device,
+            StoreFault::Closed => BlockFault::Closed,
+        }
+    }
+}
+
 /// Blocks in four buffers over a store.
 ///
 /// The buffers' bytes are those of data space at 61,440, 62,464, 63,488 and 64,512, which each call is lent; no other
-/// copy of them is kept. A block's present contents are its buffer's bytes, or else what the store has. Memory is
+/// copy of them is kept. Where a block has a buffer, its bytes are those; where it has none, the store's. Memory is
 /// taken by `new`, and by the first `block` or `buffer` of a block that has none, and by no other call.
 ///
 /// Contracts speak of the store and of the list of buffers, which is valid at any time (`laws::buffers_are_valid`).
@@ -200,8 +212,7 @@ impl<D: SectorDevice> Blocks<D> {
             }
             None => match self.store.read_block(u, out) {
                 Ok(()) => Ok(()),
-                Err(StoreFault::Device) => Err(BlockFault::Device),
-                Err(StoreFault::Closed) => Err(BlockFault::Closed),
+                Err(fault) => Err(BlockFault::from(fault)),
             },
         }
     }

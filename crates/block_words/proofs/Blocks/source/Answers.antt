@@ -1,13 +1,12 @@
-use Rattle.std.proofs.Common.{◌≡◌, true, false, length, nat_lt, None, sym, ap, ◌∙◌, subst, refl, arith, rules, [], Err}
-use Rattle.block_words.specs.Calls.{CallRuns}
-use Rattle.block_words.specs.declared.BlockFault.TheVariants.{NoBlock, Closed}
+use Rattle.std.proofs.Common.{◌≡◌, true, false, length, nat_lt, None, sym, ap, ◌∙◌, subst, refl, arith, rules, Err}
+use Rattle.block_words.specs.declared.BlockFault.TheVariants.{NoBlock}
 use Rattle.block_words.specs.Words.{source}
 use Rattle.std.specs.Prelude.{IfSome}
 use Rattle.data_space.specs.Space.{buffer_bytes}
 use Rattle.std.proofs.lemmas.Bool.{lt-ltb}
 use Rattle.block_buffers.specs.Buffers.{slot_of, assigned}
 use Rattle.block_words.proofs.Lists.{none_past, none_of}
-use Rattle.block_words.proofs.Runs.{source_found, source_read, source_failed, still_runs, keeps_store, keeps_saved}
+use Rattle.block_words.proofs.Runs.{source_found, source_read, source_closed, source_failed, refused_runs, still_runs, keeps_store, keeps_saved}
 use Rattle.block_words.proofs.Asked.{asks_past}
 use Rattle.block_words.proofs.Worn.{wears_none}
 use Rattle.block_words.proofs.Blocks.source.Goals as goal
@@ -49,23 +48,18 @@ returns-in-Ok-clause-runs g c = λ m stands.
       last = λ _. refl;
     }
 
-pub returns-in-Err-Device-clause-runs : goal.returns-in-Err-Device-clause-runs
-returns-in-Err-Device-clause-runs g c = λ m stands.
+pub returns-in-Err-clause-runs : goal.returns-in-Err-clause-runs
+returns-in-Err-clause-runs g c = λ m stands.
     let old = c.args.self.now.store in
-    let now : old.closed ≡ false = search rules in
-    let open_now : m.closed ≡ false = stands.closed ∙ now in
+    let b = c.args.self.now.buffers in
+    let sp = c.args.space.now in
     let is : nat_lt c.args.u (length m.saved) ≡ true = ap (λ n. nat_lt c.args.u n) stands.size ∙ lt-ltb c.args.u old.blocks (omega (arith, c.if-u-blocks.false, c.blocks-2.ensures.value)) in
-    let none = none_of (assigned c.args.self.now.buffers.list c.args.u) (sym c.in-None.ensures.slot) in
-    record {
-      maps = m;
-      wear = _;
-      runs = source_failed c.args.u m c.args.self.now.buffers c.args.space.now is none open_now;
-      stands = c.read_block.ensures.state m stands;
-      kept = keeps_saved g.D.SectorDevice m.closed old.device c.read_block.new.self.device m.saved open_now (c.read_block.ensures.stops m stands open_now);
-      wears = c.read_block.ensures.begins;
-      shuts = λ h. h;
-      last = λ _. refl;
-    }
+    let none = none_of (assigned b.list c.args.u) (sym c.in-None.ensures.slot) in
+    refused_runs g.D.SectorDevice (source c.args.u) c.in-Err.fault c.from.result m old c.read_block.new.self b sp
+    c.from.ensures g.met.D.SectorDevice.only_now stands (c.read_block.ensures.state m stands)
+    (λ f. search rules) (λ f. search rules) (λ f. search rules)
+    (source_closed c.args.u m b sp is none) (source_failed c.args.u m b sp is none)
+    (c.read_block.ensures.stops m stands) c.read_block.ensures.begins
 
 pub returns-then-u-blocks-clause-asks : goal.returns-then-u-blocks-clause-asks
 returns-then-u-blocks-clause-asks g c =
@@ -75,12 +69,3 @@ pub returns-then-u-blocks-clause-runs : goal.returns-then-u-blocks-clause-runs
 returns-then-u-blocks-clause-runs g c = λ m stands.
     still_runs g.D.SectorDevice (source c.args.u) (Err NoBlock) m c.args.self.now.store c.args.self.now.buffers c.args.self.now.buffers c.args.space.now c.args.space.now g.met.D.SectorDevice.only_now stands
     (λ rest f was sv. search rules)
-
-pub returns-in-Err-Closed-clause-runs : goal.returns-in-Err-Closed-clause-runs
-returns-in-Err-Closed-clause-runs g c = λ m stands.
-    let old = c.args.self.now.store in
-    let b = c.args.self.now.buffers in
-    let sp = c.args.space.now in
-    let same : c.read_block.new.self ≡ old = search rules in
-    subst (λ s. CallRuns g.D.SectorDevice (source c.args.u) (Err Closed) [] m old s b b sp sp) (sym same)
-    (still_runs g.D.SectorDevice (source c.args.u) (Err Closed) m old b b sp sp g.met.D.SectorDevice.only_now stands (λ rest f was sv. search rules))

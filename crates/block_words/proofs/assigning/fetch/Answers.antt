@@ -1,9 +1,7 @@
-use Rattle.std.proofs.Common.{◌≡◌, true, false, nat_lt, length, ◌∙◌, ap, sym, subst, refl, rules, [], Ok, Err}
-use Rattle.block_words.specs.declared.BlockFault.TheVariants.{Closed}
-use Rattle.block_words.specs.Calls.{CallRuns}
+use Rattle.std.proofs.Common.{◌≡◌, true, false, nat_lt, length, ◌∙◌, ap, refl, rules, Ok}
 use Rattle.block_words.specs.Words.{block}
 use Rattle.std.proofs.lemmas.Bool.{lt-ltb}
-use Rattle.block_words.proofs.Runs.{block_runs, block_failed, still_runs, keeps_saved}
+use Rattle.block_words.proofs.Runs.{block_runs, block_closed, block_failed, refused_runs}
 use Rattle.block_words.proofs.assigning.fetch.Goals as goal
 
 pub returns-in-Ok-assign_slot-clause-runs : goal.returns-in-Ok-assign_slot-clause-runs
@@ -17,8 +15,8 @@ returns-in-Ok-assign_slot-clause-runs g c = λ m stands.
     _ _ _ _ (ap (λ a. Ok a) c.fill_buffer.ensures.address) c.fill_buffer.ensures.bytes mid c.read_block.new.out (c.in-Ok.ensures.ok m stands) c.in-Ok.ensures.begins
     c.in-Ok.ensures.continues.time c.assign_slot.ensures.continues.time (c.in-Ok.ensures.stops m stands open_now) (c.in-Ok-assign_slot.ensures.runs m c.read_block.new.out (c.in-Ok.ensures.state m stands))
 
-pub returns-in-Err-clause-runs : goal.returns-in-Err-clause-runs
-returns-in-Err-clause-runs g c = λ m stands.
+pub returns-in-Err-assign_slot-clause-runs : goal.returns-in-Err-assign_slot-clause-runs
+returns-in-Err-assign_slot-clause-runs g c = λ m stands.
     let old = c.args.store.now in
     let mid = c.read_block.new.self in
     let now : old.closed ≡ false = search rules in
@@ -26,31 +24,16 @@ returns-in-Err-clause-runs g c = λ m stands.
     let is : nat_lt c.args.u (length m.saved) ≡ true = ap (λ n. nat_lt c.args.u n) stands.size ∙ lt-ltb c.args.u old.blocks c.requires.below in
     block_runs g.D.SectorDevice c.args.u m old c.assign_slot.new.store c.args.buffers.now c.assign_slot.new.buffers c.args.space.now is c.requires.none open_now
     _ _ _ _ refl refl mid c.read_block.new.out (c.in-Ok.ensures.ok m stands) c.in-Ok.ensures.begins
-    c.in-Ok.ensures.continues.time c.assign_slot.ensures.continues.time (c.in-Ok.ensures.stops m stands open_now) (c.in-Err.ensures.runs m c.read_block.new.out (c.in-Ok.ensures.state m stands))
+    c.in-Ok.ensures.continues.time c.assign_slot.ensures.continues.time (c.in-Ok.ensures.stops m stands open_now) (c.in-Err-assign_slot.ensures.runs m c.read_block.new.out (c.in-Ok.ensures.state m stands))
 
-pub returns-in-Err-Device-clause-runs : goal.returns-in-Err-Device-clause-runs
-returns-in-Err-Device-clause-runs g c = λ m stands.
-    let old = c.args.store.now in
-    let mid = c.read_block.new.self in
-    let now : old.closed ≡ false = search rules in
-    let open_now : m.closed ≡ false = stands.closed ∙ now in
-    let is : nat_lt c.args.u (length m.saved) ≡ true = ap (λ n. nat_lt c.args.u n) stands.size ∙ lt-ltb c.args.u old.blocks c.requires.below in
-    record {
-      maps = m;
-      wear = _;
-      runs = block_failed c.args.u m c.args.buffers.now c.args.space.now is c.requires.none open_now;
-      stands = c.read_block.ensures.state m stands;
-      kept = keeps_saved g.D.SectorDevice m.closed old.device mid.device m.saved open_now (c.read_block.ensures.stops m stands open_now);
-      wears = c.read_block.ensures.begins;
-      shuts = λ h. h;
-      last = λ _. refl;
-    }
-
-pub returns-in-Err-Closed-clause-runs : goal.returns-in-Err-Closed-clause-runs
-returns-in-Err-Closed-clause-runs g c = λ m stands.
+pub returns-in-Err-clause-runs : goal.returns-in-Err-clause-runs
+returns-in-Err-clause-runs g c = λ m stands.
     let old = c.args.store.now in
     let b = c.args.buffers.now in
     let sp = c.args.space.now in
-    let same : c.read_block.new.self ≡ old = search rules in
-    subst (λ s. CallRuns g.D.SectorDevice (block c.args.u) (Err Closed) [] m old s b b sp sp) (sym same)
-    (still_runs g.D.SectorDevice (block c.args.u) (Err Closed) m old b b sp sp g.met.D.SectorDevice.only_now stands (λ rest f was sv. search rules))
+    let is : nat_lt c.args.u (length m.saved) ≡ true = ap (λ n. nat_lt c.args.u n) stands.size ∙ lt-ltb c.args.u old.blocks c.requires.below in
+    refused_runs g.D.SectorDevice (block c.args.u) c.in-Err.fault c.from.result m old c.read_block.new.self b sp
+    c.from.ensures g.met.D.SectorDevice.only_now stands (c.read_block.ensures.state m stands)
+    (λ f. search rules) (λ f. search rules) (λ f. search rules)
+    (block_closed c.args.u m b sp is c.requires.none) (block_failed c.args.u m b sp is c.requires.none)
+    (c.read_block.ensures.stops m stands) c.read_block.ensures.begins
