@@ -1,4 +1,4 @@
--- Turns at the text, one kind as another.
+-- Rounds at the text, one kind as another.
 use Rattle.std.proofs.Common.{◌≡◌, ℕ, zero, suc, ◌+◌, ◌*◌, ◌<◌, ◌≤◌, true, false, List, [], ◌∷◌, Option, None, Result, Ok, Err, refl, sym, ap, subst, ◌∙◌, arith}
 use Rattle.std.specs.Prelude.{min}
 use Rattle.std.proofs.Math.Nat.{min-eq_left}
@@ -21,26 +21,27 @@ use Rattle.lexicon.specs.Laws.{LoadsLeave}
 use Rattle.lexicon.specs.Stands.{IsLeft, owner_in}
 use Rattle.interpreter.specs.declared.terminal.Terminal.{Ghosts as TerminalGhosts}
 use Rattle.interpreter.specs.declared.fault.Fault.{Fault}
-use Rattle.interpreter.specs.declared.interpreting.Turn.{Turn}
-use Rattle.interpreter.specs.declared.interpreting.Turn.TheVariants.{GoesOn, Over}
+use Rattle.interpreter.specs.declared.interpreting.Round.{Round}
+use Rattle.interpreter.specs.declared.interpreting.Round.TheVariants.{GoesOn, Over}
 use Rattle.interpreter.specs.declared.forth.Forth.{Forth}
 use Rattle.interpreter.specs.Deeds.{Deed, before, after, asking}
 use Rattle.interpreter.specs.Law.{left}
 use Rattle.interpreter.specs.State.{World, Run, with_run}
 use Rattle.interpreter.specs.Standing.{core, device, Stands}
-use Rattle.interpreter.specs.Serving.{LastsAlone, Hands, Handed, MapsKept, Printed, stopped}
+use Rattle.interpreter.specs.Serving.{LastsAlone, Hands, Handed, KeepsAndWears, Printed, stopped}
 use Rattle.interpreter.specs.Promise.{HasRisenBy}
 use Rattle.data_space.specs.Space.{with_cell}
 use Rattle.interpreter.specs.Lexicon.{language_of}
+use Rattle.interpreter.specs.declared.services.looking.Cut.TheVariants.{Word}
 use Rattle.interpreter.specs.Looking.{Seen, look}
-use Rattle.interpreter.specs.Turns.{Entered, IsAtText, TurnComes, Turned, seen, GoesDown, LastsTurn}
-use Rattle.interpreter.specs.TextTurns.{PassesTo, Passed, Advanced, after_text, seen_turn}
+use Rattle.interpreter.specs.Rounds.{Entered, IsAtText, RoundComes, RanRound, seen, GoesDown, LastsRound}
+use Rattle.interpreter.specs.TextRounds.{PassesTo, Passed, Advanced, after_text, seen_round}
 use Rattle.interpreter.proofs.Reading.{reads_on}
 
 -- ---- what comes of the text
 
 -- the next word is looked at
-pub looks_on : (n : ℕ) (levels : List Level) (c : Core) (x : World) → c.steps < n → IsAtText levels → left n levels c x ≡ look c x (λ s c x. seen_turn n levels s c x)
+pub looks_on : (n : ℕ) (levels : List Level) (c : Core) (x : World) → c.steps < n → IsAtText levels → left n levels c x ≡ look Word 32 c x (λ s c x. seen_round n levels s c x)
 looks_on zero levels c x less h = absurd (omega (arith, less))
 looks_on (suc m) levels c x less h = reads_on m levels c x h (omega (arith, less))
 
@@ -108,29 +109,29 @@ load_down s block to_in entries below is bound =
     let high : min (units entries) 256 ≡ units entries = min-eq_left bound in
     omega (arith, more, low, high)
 
--- ---- one kind of turn as another
+-- ---- one kind of round as another
 
--- a turn that took a word
-abbrev pub turn_of : Result (Unit {0}) Fault → Result Turn Fault
-turn_of (Ok _) = Ok GoesOn
-turn_of (Err f) = Err f
+-- a round that took a word
+abbrev pub round_of : Result (Unit {0}) Fault → Result Round Fault
+round_of (Ok _) = Ok GoesOn
+round_of (Err f) = Err f
 
-passes_comes : (n : ℕ) (start : Run → (Seen → Core → World → Outcome World) → Outcome World) (go : Seen → Core → World → Outcome World) (v : Seen) (answers : List Answer) (f : ℕ) (wear : Wear) (saves : List Save) (mid : Core) (w : World) (result : Result Turn Fault) (levels : List Level) (c : Core) (y : World)
+passes_comes : (n : ℕ) (start : Run → (Seen → Core → World → Outcome World) → Outcome World) (go : Seen → Core → World → Outcome World) (v : Seen) (answers : List Answer) (f : ℕ) (wear : Wear) (saves : List Save) (mid : Core) (w : World) (result : Result Round Fault) (levels : List Level) (c : Core) (y : World)
     → Hands start (asking answers f wear saves) (Ok v) mid w → PassesTo n (λ r. go v mid (with_run r w)) result levels c y
-    → TurnComes n (λ r. start r go) (asking answers f wear saves) (stopped result) levels c y
+    → RoundComes n (λ r. start r go) (asking answers f wear saves) (stopped result) levels c y
 passes_comes n start go v answers f wear saves mid w (Ok GoesOn) levels c y hands goes = λ r fits. hands r go ∙ goes (after (asking answers f wear saves) r)
 passes_comes n start go v answers f wear saves mid w (Ok Over) levels c y hands goes = λ r fits. hands r go ∙ goes (after (asking answers f wear saves) r)
 passes_comes n start go v answers f wear saves mid w (Err e) levels c y hands goes =
     record { core = goes.0; like = goes.1; ends = λ r fits. hands r go ∙ goes.2 (after (asking answers f wear saves) r) }
 
-advanced_comes_as : (n : ℕ) (start start' : Run → Outcome World) (deed : Deed) (result : Result Turn Fault) (levels : List Level) (c : Core) (x : World) → ((r : Run) → start' r ≡ start r)
-    → TurnComes n start deed (stopped result) levels c x → TurnComes n start' deed (stopped result) levels c x
+advanced_comes_as : (n : ℕ) (start start' : Run → Outcome World) (deed : Deed) (result : Result Round Fault) (levels : List Level) (c : Core) (x : World) → ((r : Run) → start' r ≡ start r)
+    → RoundComes n start deed (stopped result) levels c x → RoundComes n start' deed (stopped result) levels c x
 advanced_comes_as n start start' deed (Ok GoesOn) levels c x same h = λ r fits. same (before deed r) ∙ h r fits
 advanced_comes_as n start start' deed (Ok Over) levels c x same h = λ r fits. same (before deed r) ∙ h r fits
 advanced_comes_as n start start' deed (Err f) levels c x same h = record { core = h.core; like = h.like; ends = λ r fits. same (before deed r) ∙ h.ends r fits }
 
 module _ {D : Type 0} {G : Ghosts D} where
-  pub entered_passed : (n : ℕ) {start : Run → Outcome World} (result : Result (Unit {0}) Fault) {old new : Forth D G} {x : World} → Entered n start result old new x → Passed n start (turn_of result) old new x
+  pub entered_passed : (n : ℕ) {start : Run → Outcome World} (result : Result (Unit {0}) Fault) {old new : Forth D G} {x : World} → Entered n start result old new x → Passed n start (round_of result) old new x
   entered_passed n (Ok v) h = record { levels = h.levels; world = h.world; stands = h.stands; goes = h.goes; maps = h.maps; steps = h.steps }
   entered_passed n (Err f) h = record { levels = h.levels; world = h.world; stands = h.stands; goes = h.goes; maps = h.maps; steps = h.steps }
 
@@ -162,15 +163,15 @@ module _ {D : Type 0} {G : Ghosts D} where
     steps = omega arith;
   }
 
-  pub passed_as : (n : ℕ) {start : Run → Outcome World} (start' : Run → Outcome World) (result : Result Turn Fault) (old : Forth D G) {mid new : Forth D G} {x : World}
+  pub passed_as : (n : ℕ) {start : Run → Outcome World} (start' : Run → Outcome World) (result : Result Round Fault) (old : Forth D G) {mid new : Forth D G} {x : World}
       → ((r : Run) → start' r ≡ start r) → mid.steps ≤ old.steps → Passed n start result mid new x → Passed n start' result old new x
   passed_as n start' (Ok GoesOn) old same less h = record { levels = h.levels; world = h.world; stands = h.stands; goes = λ r. same r ∙ h.goes r; maps = h.maps; steps = omega (arith, h.steps, less) }
   passed_as n start' (Ok Over) old same less h = record { levels = h.levels; world = h.world; stands = h.stands; goes = λ r. same r ∙ h.goes r; maps = h.maps; steps = omega (arith, h.steps, less) }
   passed_as n start' (Err f) old same less h =
       record { levels = h.levels; world = h.world; stands = h.stands; goes = (h.goes.0, h.goes.1, λ r. same r ∙ h.goes.2 r); maps = h.maps; steps = omega (arith, h.steps, less) }
 
-  -- a word that was looked at, and then a turn that reaches neither
-  pub handed_passed : (n : ℕ) {start : Run → (Seen → Core → World → Outcome World) → Outcome World} (go : Seen → Core → World → Outcome World) {v : Seen} (result : Result Turn Fault) (old mid new : Forth D G) {levels : List Level} {x : World}
+  -- a word that was looked at, and then a round that reaches neither
+  pub handed_passed : (n : ℕ) {start : Run → (Seen → Core → World → Outcome World) → Outcome World} (go : Seen → Core → World → Outcome World) {v : Seen} (result : Result Round Fault) (old mid new : Forth D G) {levels : List Level} {x : World}
       → (h : Handed start (Ok v) old mid levels x) → new.blocks ≡ mid.blocks → new.at_end ≡ mid.at_end
       → Passed n (λ r. go v (core mid) (with_run r h.world)) result mid new h.world → Advanced n (λ r. start r go) result old new x
   handed_passed n {start} go {v} result old mid new {levels} {x} h blocks at_end p = record {
@@ -186,8 +187,8 @@ module _ {D : Type 0} {G : Ghosts D} where
     comes = λ model. passes_comes n start go v h.answers h.failures h.wear h.saves (core mid) h.world result p.levels (core new) p.world (h.hands model) p.goes;
     cause = subst (λ (b : Blocks D G). HasRisenBy h.failures (G.failures (device old)) (G.failures (device_of (store_of b)))) (sym blocks) h.cause;
     keeps = λ model.
-        subst (λ (b : Blocks D G). MapsKept G x.maps p.world.maps (device old) (device_of (store_of b)) h.saves h.wear) (sym blocks)
-        (subst (λ m. MapsKept G x.maps m (device old) (device mid) h.saves h.wear) (sym p.maps) (h.keeps model));
+        subst (λ (b : Blocks D G). KeepsAndWears G x.maps p.world.maps (device old) (device_of (store_of b)) h.saves h.wear) (sym blocks)
+        (subst (λ m. KeepsAndWears G x.maps m (device old) (device mid) h.saves h.wear) (sym p.maps) (h.keeps model));
   }
 
   -- none can be looked at
@@ -208,7 +209,7 @@ module _ {D : Type 0} {G : Ghosts D} where
     keeps = h.keeps;
   }
 
-  pub advanced_as : (n : ℕ) {start : Run → Outcome World} (start' : Run → Outcome World) (result : Result Turn Fault) {old new : Forth D G} {x : World} → ((r : Run) → start' r ≡ start r) → Advanced n start result old new x → Advanced n start' result old new x
+  pub advanced_as : (n : ℕ) {start : Run → Outcome World} (start' : Run → Outcome World) (result : Result Round Fault) {old new : Forth D G} {x : World} → ((r : Run) → start' r ≡ start r) → Advanced n start result old new x → Advanced n start' result old new x
   advanced_as n {start} start' result {old} {new} {x} same h = record {
     answers = h.answers;
     failures = h.failures;
@@ -225,13 +226,13 @@ module _ {D : Type 0} {G : Ghosts D} where
   }
 
 -- beside a terminal that it doesn't reach
-advanced_printed : (result : Result Turn Fault) (o : Option (List ℕ)) → Printed (seen (stopped result)) o o [] []
+advanced_printed : (result : Result Round Fault) (o : Option (List ℕ)) → Printed (seen (stopped result)) o o [] []
 advanced_printed (Ok v) o = Appends-nil o
 advanced_printed (Err f) o = Appends-nil o
 
 module _ {D T : Type 0} {G : Ghosts D} (H : TerminalGhosts T) where
-  pub advanced_turn : (n : ℕ) {start : Run → Outcome World} (result : Result Turn Fault) {old new : Forth D G} {x : World} (t : T) → Advanced n start result old new x → Turned H n start (stopped result) old new t t x
-  advanced_turn n {start} result {old} {new} {x} t h = record {
+  pub advanced_round : (n : ℕ) {start : Run → Outcome World} (result : Result Round Fault) {old new : Forth D G} {x : World} (t : T) → Advanced n start result old new x → RanRound H n start (stopped result) old new t t x
+  advanced_round n {start} result {old} {new} {x} t h = record {
     deed = asking h.answers h.failures h.wear h.saves;
     levels = h.levels;
     world = h.world;
@@ -243,11 +244,11 @@ module _ {D T : Type 0} {G : Ghosts D} (H : TerminalGhosts T) where
     keeps = h.keeps;
   }
 
-pub lasts_turn : {D T : Type 0} (G : Ghosts D) (H : TerminalGhosts T) (result : Result Turn Fault) (old new : D) (t : T) → LastsAlone G old new → LastsTurn G H (stopped result) old new t t
-lasts_turn G H (Ok v) old new t h = record { time = h.time; model = h.model; device_failures = h.failures; terminal_failures = refl; no_more = omega arith; same = refl }
-lasts_turn G H (Err f) old new t h = record { time = h.time; model = h.model; device_failures = h.failures; terminal_failures = refl; no_more = omega arith; same = refl }
+pub lasts_round : {D T : Type 0} (G : Ghosts D) (H : TerminalGhosts T) (result : Result Round Fault) (old new : D) (t : T) → LastsAlone G old new → LastsRound G H (stopped result) old new t t
+lasts_round G H (Ok v) old new t h = record { time = h.time; model = h.model; device_failures = h.failures; terminal_failures = refl; no_more = omega arith; same = refl }
+lasts_round G H (Err f) old new t h = record { time = h.time; model = h.model; device_failures = h.failures; terminal_failures = refl; no_more = omega arith; same = refl }
 
-pub down_from : (result : Result Turn Fault) (a b c : ℕ) → b ≡ a → GoesDown (stopped result) b c → GoesDown (stopped result) a c
+pub down_from : (result : Result Round Fault) (a b c : ℕ) → b ≡ a → GoesDown (stopped result) b c → GoesDown (stopped result) a c
 down_from (Ok GoesOn) a b c same h = omega (arith, same, h)
 down_from (Ok Over) a b c same h = tt
 down_from (Err f) a b c same h = tt

@@ -25,7 +25,7 @@ use Rattle.interpreter.specs.State.{World, Run, with_run, block_state, blocks_do
 use Rattle.interpreter.specs.Deeds.{Deed, before, after, asking}
 use Rattle.interpreter.specs.Promise.{HasRisenBy}
 use Rattle.interpreter.specs.Standing.{core, device, Stands, RestsIn, StandsIn}
-use Rattle.interpreter.specs.Serving.{MapsKept, Handed, Consulted, Altered, Lasts, LastsAlone, stopped}
+use Rattle.interpreter.specs.Serving.{KeepsAndWears, Handed, Consulted, Altered, Lasts, LastsAlone, stopped}
 use Rattle.interpreter.specs.declared.terminal.Terminal.{Ghosts as TerminalGhosts}
 use Rattle.interpreter.specs.declared.fault.Fault.{Fault}
 use Rattle.interpreter.specs.Stops as stops
@@ -90,7 +90,7 @@ pub record Called {A : Type 0} {D : Type 0} (G : Ghosts D) (word : words.Blocks 
       → word (state x.maps x.buffers space (answers ++ r.answers) r.failures r.wear r.saves)
       ≡ ended result (state maps (buffers_of new) space' r.answers (r.failures + failed result) (add_wear r.wear wear) (r.saves ++ saves))
   pub cause : HasRisenBy (failed result) (G.failures (device_of (store_of old))) (G.failures (device_of (store_of new)))
-  pub keeps : IsTrue (G.keeps_model (device_of (store_of old))) → MapsKept G x.maps maps (device_of (store_of old)) (device_of (store_of new)) saves wear
+  pub keeps : IsTrue (G.keeps_model (device_of (store_of old))) → KeepsAndWears G x.maps maps (device_of (store_of old)) (device_of (store_of new)) saves wear
 
 blocks_ended : {A : Type 0} (result : Result A BlockFault) (maps : Maps) (buffers : Buffers) (space : List ℕ) (answers : List Answer) (failures : ℕ) (wear : Wear) (saves : List Save) (c : Core) (x : World) (go : A → Core → World → Outcome World)
     → blocks_done (ended result (state maps buffers space answers failures wear saves)) c x go
@@ -151,7 +151,7 @@ module _ {A : Type 0} {D : Type 0} (G : Ghosts D) (word : words.Blocks → Block
                 ∙ run.runs.same r.answers r.failures r.wear r.saves
                 ∙ ap (λ n. ended result (state run.maps (buffers_of new) space' r.answers n (add_wear r.wear run.wear) (r.saves ++ made x.maps))) (failed_after result r.failures);
             cause = failed_cause result _ _ cause;
-            keeps = λ model. record { kept = run.kept; shuts = run.shuts; none = shut x.maps; last = run.last; wears = run.wears };
+            keeps = λ model. record { keeps = record { kept = run.kept; shuts = run.shuts; none = shut x.maps; last = run.last }; wears = run.wears };
           }
       pick false is =
           let never : IsTrue (G.keeps_model (device_of (store_of old))) → ⊥ = λ h. let no : true ≡ false = sym h ∙ is in cc in
@@ -183,7 +183,7 @@ handed_quiet {D} G only_now {B} {start} {v} old new {levels} {x} was stands bloc
   at_end = at_end;
   hands = λ model r go. ap (λ r. start r go) (before-nothing r) ∙ same r go ∙ ap (λ r. go v (core new) (with_run r x)) (sym (after-nothing r));
   cause = ap (λ (b : Blocks D G). G.failures (device_of (store_of b))) blocks;
-  keeps = λ model. subst (λ (b : Blocks D G). MapsKept G x.maps x.maps (device old) (device_of (store_of b)) [] no_wear) (sym blocks) (maps_same G only_now (store_of old.blocks) x.maps (was.rests.maps model));
+  keeps = λ model. subst (λ (b : Blocks D G). KeepsAndWears G x.maps x.maps (device old) (device_of (store_of b)) [] no_wear) (sym blocks) (maps_same G only_now (store_of old.blocks) x.maps (was.rests.maps model));
 }
 
 -- ---- services that consult the device
@@ -251,8 +251,8 @@ consulted_quiet {D} G only_now {start} {result} old new {levels} {x} stands bloc
   comes = λ model. comes_quiet start result (core new) h.world h.gives;
   cause = ap (λ (b : Blocks D G). G.failures (device_of (store_of b))) blocks;
   keeps = λ model.
-      subst (λ (b : Blocks D G). MapsKept G x.maps h.world.maps (device old) (device_of (store_of b)) [] no_wear) (sym blocks)
-      (subst (λ m. MapsKept G x.maps m (device old) (device old) [] no_wear) (sym h.maps) (maps_same G only_now (store_of old.blocks) x.maps (stands.rests.maps model)));
+      subst (λ (b : Blocks D G). KeepsAndWears G x.maps h.world.maps (device old) (device_of (store_of b)) [] no_wear) (sym blocks)
+      (subst (λ m. KeepsAndWears G x.maps m (device old) (device old) [] no_wear) (sym h.maps) (maps_same G only_now (store_of old.blocks) x.maps (stands.rests.maps model)));
 }
 
 -- ---- what consults the device, as a part of a line
@@ -293,6 +293,27 @@ module _ {D : Type 0} {G : Ghosts D} {B : Type 0} {start : Run → (B → Core �
       → ((r : Run) (go : C → Core → World → Outcome World) → k go v (core new) (with_run r h.world) ≡ go w (core new) (with_run r h.world))
       → Handed start' (Ok w) old new levels x
   handed_value {C} {v} {w} {start'} {old} {new} {levels} {x} k same h gives = record {
+    answers = h.answers;
+    failures = h.failures;
+    wear = h.wear;
+    saves = h.saves;
+    world = h.world;
+    stands = h.stands;
+    steps = h.steps;
+    at_end = h.at_end;
+    hands = λ model r go.
+        same (before (asking h.answers h.failures h.wear h.saves) r) go ∙ h.hands model r (k go) ∙ gives (after (asking h.answers h.failures h.wear h.saves) r) go;
+    cause = h.cause;
+    keeps = h.keeps;
+  }
+
+  -- it is handed on over another data space
+  pub handed_moved : {C : Type 0} {v : B} {w : C} {start' : Run → (C → Core → World → Outcome World) → Outcome World} {old mid : Forth D G} {levels : List Level} {x : World} (space : List ℕ)
+      → (k : (C → Core → World → Outcome World) → B → Core → World → Outcome World) → ((r : Run) (go : C → Core → World → Outcome World) → start' r go ≡ start r (k go))
+      → (h : Handed start (Ok v) old mid levels x)
+      → ((r : Run) (go : C → Core → World → Outcome World) → k go v (core mid) (with_run r h.world) ≡ go w (record (core mid) { space = space }) (with_run r h.world))
+      → Handed start' (Ok w) old (record mid { space = space }) levels x
+  handed_moved {C} {v} {w} {start'} {old} {mid} {levels} {x} space k same h gives = record {
     answers = h.answers;
     failures = h.failures;
     wear = h.wear;

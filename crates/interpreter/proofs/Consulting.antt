@@ -16,7 +16,7 @@ use Rattle.interpreter.specs.State.{World, Run, with_run}
 use Rattle.interpreter.specs.Stops.{fault_of}
 use Rattle.interpreter.specs.Promise.{HasRisenBy}
 use Rattle.interpreter.specs.Standing.{core, device, Stands, StandsAfter}
-use Rattle.interpreter.specs.Serving.{Comes, Gives as Altering, Hands, Handed, Altered, MapsKept, Printed, Heard, Lasts, LastsAlone, Consulted, Ran, stopped}
+use Rattle.interpreter.specs.Serving.{Comes, Gives as Altering, Hands, Handed, Altered, KeepsAndWears, Printed, Heard, Lasts, LastsAlone, Consulted, Ran, stopped}
 use Rattle.interpreter.specs.declared.fault.Stop.{Stop}
 use Rattle.block_words.proofs.Counted.{risen_then}
 use Rattle.interpreter.proofs.Then.{comes_then, heard_none, heard_then, maps_then}
@@ -59,8 +59,8 @@ module _ {D : Type 0} {G : Ghosts D} where
     comes = λ model. comes_handed start go v h.answers h.failures h.wear h.saves (core mid) (core new) h.world a.world result (h.hands model) a.gives;
     cause = subst (λ (b : Blocks D G). HasRisenBy h.failures (G.failures (device old)) (G.failures (device_of (store_of b)))) (sym blocks) h.cause;
     keeps = λ model.
-        subst (λ (b : Blocks D G). MapsKept G x.maps a.world.maps (device old) (device_of (store_of b)) h.saves h.wear) (sym blocks)
-        (subst (λ m. MapsKept G x.maps m (device old) (device mid) h.saves h.wear) (sym a.maps) (h.keeps model));
+        subst (λ (b : Blocks D G). KeepsAndWears G x.maps a.world.maps (device old) (device_of (store_of b)) h.saves h.wear) (sym blocks)
+        (subst (λ m. KeepsAndWears G x.maps m (device old) (device mid) h.saves h.wear) (sym a.maps) (h.keeps model));
   }
 
   -- no value is handed on
@@ -94,7 +94,7 @@ module _ {D : Type 0} {G : Ghosts D} where
     at_end = h.at_end ∙ at_end;
     comes = λ model. comes_as start start' (asking h.answers h.failures h.wear h.saves) (stopped result) (core new) h.world same (h.comes (same_model old.blocks mid.blocks blocks model));
     cause = subst (λ (b : Blocks D G). HasRisenBy h.failures (G.failures (device_of (store_of b))) (G.failures (device new))) blocks h.cause;
-    keeps = λ model. subst (λ (b : Blocks D G). MapsKept G x.maps h.world.maps (device_of (store_of b)) (device new) h.saves h.wear) blocks (h.keeps (same_model old.blocks mid.blocks blocks model));
+    keeps = λ model. subst (λ (b : Blocks D G). KeepsAndWears G x.maps h.world.maps (device_of (store_of b)) (device new) h.saves h.wear) blocks (h.keeps (same_model old.blocks mid.blocks blocks model));
   }
 
 -- a part that may reach the device, beside a terminal that it doesn't reach
@@ -139,8 +139,8 @@ module _ {D : Type 0} (G : Ghosts D) where
     comes = λ model. gives_comes start result (core new) h.world h.gives;
     cause = ap (λ (b : Blocks D G). G.failures (device_of (store_of b))) blocks;
     keeps = λ model.
-        subst (λ (b : Blocks D G). MapsKept G x.maps h.world.maps (device old) (device_of (store_of b)) [] no_wear) (sym blocks)
-        (subst (λ m. MapsKept G x.maps m (device old) (device old) [] no_wear) (sym h.maps) (maps_same G only_now (store_of old.blocks) x.maps (stands.rests.maps model)));
+        subst (λ (b : Blocks D G). KeepsAndWears G x.maps h.world.maps (device old) (device_of (store_of b)) [] no_wear) (sym blocks)
+        (subst (λ m. KeepsAndWears G x.maps m (device old) (device old) [] no_wear) (sym h.maps) (maps_same G only_now (store_of old.blocks) x.maps (stands.rests.maps model)));
   }
 
 -- a value, and then a part that may reach the terminal

@@ -28,10 +28,10 @@ use Rattle.interpreter.specs.Deeds.{nothing}
 use Rattle.interpreter.specs.Law.{left}
 use Rattle.interpreter.specs.Stops.{fault_of}
 use Rattle.interpreter.specs.Standing.{core, device, Stands, StandsAfter}
-use Rattle.interpreter.specs.Serving.{Altered, Heard, Printed, MapsKept, stopped}
+use Rattle.interpreter.specs.Serving.{Altered, Heard, Printed, KeepsAndWears, stopped}
 use Rattle.interpreter.proofs.Deeds.{before-nothing, after-nothing}
 use Rattle.interpreter.proofs.Running.{OnlyNow, maps_same, heard_nothing}
-use Rattle.interpreter.specs.Turns.{turn_of, GoesTo, Entered, TurnComes, Turned, seen, StandsAfterTurn}
+use Rattle.interpreter.specs.Rounds.{round_of, GoesTo, Entered, RoundComes, RanRound, seen, StandsAfterRound}
 use Rattle.block_words.specs.Words.{no_wear}
 
 -- a word by itself is never refused
@@ -71,34 +71,34 @@ may_word w x above within =
     sym (ap (λ b. (b && nat_le w (length x.words)) && not (compile_only_token w)) (lt-ltb 0 w above)
     ∙ ap (λ b. b && not (compile_only_token w)) (le-leb w (length x.words) within))
 
--- ---- a word that is entered, as a turn
+-- ---- a word that is entered, as a round
 
-goes_comes : (n : ℕ) (start : Run → Outcome World) (result : Result (Unit {0}) Fault) (levels : List Level) (c : Core) (x : World) → GoesTo n start result levels c x → TurnComes n start nothing (turn_of (stopped result)) levels c x
+goes_comes : (n : ℕ) (start : Run → Outcome World) (result : Result (Unit {0}) Fault) (levels : List Level) (c : Core) (x : World) → GoesTo n start result levels c x → RoundComes n start nothing (round_of (stopped result)) levels c x
 goes_comes n start (Ok v) levels c x g = λ r fits. ap start (before-nothing r) ∙ g r ∙ ap (λ r. left n levels c (with_run r x)) (sym (after-nothing r))
 goes_comes n start (Err f) levels c x g =
     record { core = g.0; like = g.1; ends = λ r fits. ap start (before-nothing r) ∙ g.2 r ∙ ap (λ r. Ends (Faults (fault_of f)) g.0 (with_run r x)) (sym (after-nothing r)) }
 
-entered_stands : {D : Type 0} {G : Ghosts D} (result : Result (Unit {0}) Fault) (forth : Forth D G) (levels : List Level) (x : World) → StandsAfter result forth levels x → StandsAfterTurn (turn_of (stopped result)) forth levels x
+entered_stands : {D : Type 0} {G : Ghosts D} (result : Result (Unit {0}) Fault) (forth : Forth D G) (levels : List Level) (x : World) → StandsAfter result forth levels x → StandsAfterRound (round_of (stopped result)) forth levels x
 entered_stands (Ok v) forth levels x s = s
 entered_stands (Err f) forth levels x s = s
 
-entered_printed : (result : Result (Unit {0}) Fault) (o : Option (List ℕ)) → Printed (seen (turn_of (stopped result))) o o [] []
+entered_printed : (result : Result (Unit {0}) Fault) (o : Option (List ℕ)) → Printed (seen (round_of (stopped result))) o o [] []
 entered_printed (Ok v) o = Appends-nil o
 entered_printed (Err f) o = Appends-nil o
 
 module _ {D T : Type 0} (G : Ghosts D) (H : TerminalGhosts T) where
-  pub entered_turn : OnlyNow G → (n : ℕ) {start : Run → Outcome World} {result : Result (Unit {0}) Fault} (old new : Forth D G) (levels : List Level) {x : World} (t : T)
-      → Stands old levels x → new.blocks ≡ old.blocks → new.at_end ≡ old.at_end → Entered n start result old new x → Turned H n start (turn_of (stopped result)) old new t t x
-  entered_turn only_now n {start} {result} old new levels {x} t stands blocks at_end h = record {
+  pub round_entered : OnlyNow G → (n : ℕ) {start : Run → Outcome World} {result : Result (Unit {0}) Fault} (old new : Forth D G) (levels : List Level) {x : World} (t : T)
+      → Stands old levels x → new.blocks ≡ old.blocks → new.at_end ≡ old.at_end → Entered n start result old new x → RanRound H n start (round_of (stopped result)) old new t t x
+  round_entered only_now n {start} {result} old new levels {x} t stands blocks at_end h = record {
     deed = nothing;
     levels = h.levels;
     world = h.world;
     stands = entered_stands result new h.levels h.world h.stands;
     steps = h.steps;
     comes = λ model. goes_comes n start result h.levels (core new) h.world h.goes;
-    heard = subst (λ f. Heard H (seen (turn_of (stopped result))) nothing old.at_end f t t) (sym at_end) (heard_nothing H (seen (turn_of (stopped result))) old.at_end t (entered_printed result (H.output t)));
+    heard = subst (λ f. Heard H (seen (round_of (stopped result))) nothing old.at_end f t t) (sym at_end) (heard_nothing H (seen (round_of (stopped result))) old.at_end t (entered_printed result (H.output t)));
     cause = ap (λ (b : Blocks D G). G.failures (device_of (store_of b))) blocks;
     keeps = λ model.
-        subst (λ (b : Blocks D G). MapsKept G x.maps h.world.maps (device old) (device_of (store_of b)) [] no_wear) (sym blocks)
-        (subst (λ m. MapsKept G x.maps m (device old) (device old) [] no_wear) (sym h.maps) (maps_same G only_now (store_of old.blocks) x.maps (stands.rests.maps model)));
+        subst (λ (b : Blocks D G). KeepsAndWears G x.maps h.world.maps (device old) (device_of (store_of b)) [] no_wear) (sym blocks)
+        (subst (λ m. KeepsAndWears G x.maps m (device old) (device old) [] no_wear) (sym h.maps) (maps_same G only_now (store_of old.blocks) x.maps (stands.rests.maps model)));
   }

@@ -11,7 +11,7 @@ use Rattle.cell_machine.specs.declared.event.Op.TheVariants as op
 use Rattle.cell_machine.specs.declared.event.Event.TheVariants as event
 use Rattle.stacks.specs.declared.return_stack.Entry.{Entry}
 use Rattle.lexicon.specs.Falling.{fall_of, Paid}
-use Rattle.interpreter.specs.Falls.{IsFree}
+use Rattle.interpreter.specs.Falls.{WhereFree}
 use Rattle.cell_machine.specs.Words.{Service, system_word, service_of}
 use Rattle.cell_machine.specs.Frames.{Core, Around, Level, Due, Word, Next, Goes, Asked, Finished, Stopped, around_of, need, push, on_next}
 use Rattle.cell_machine.specs.Value.{Ends, Serve, body_value}
@@ -19,8 +19,8 @@ use Rattle.cell_machine.specs.Effects.{Item}
 use Rattle.cell_machine.specs.Frames.{Turning, Frame, Once, Load, Print, AbortWith, Add, Give, in_body, step, step_end, step_trees, step_leave, nothing_aside}
 use Rattle.cell_machine.proofs.Rules.{need-rel, charge-rel, push-rel, test-rel, do_word-rel, do_loop-rel, end_loop-rel, leave_loop-rel, nothing_aside-rel, do_text-rel}
 use Rattle.interpreter.specs.declared.fault.Stop.{Stop}
-use Rattle.interpreter.specs.declared.interpreting.Turn.{Turn}
-use Rattle.interpreter.specs.declared.interpreting.Turn.TheVariants.{GoesOn, Over}
+use Rattle.interpreter.specs.declared.interpreting.Round.{Round}
+use Rattle.interpreter.specs.declared.interpreting.Round.TheVariants.{GoesOn, Over}
 use Rattle.cell_machine.specs.Calling.{Meaning, Outside, GivesCell, RunsBody, RunsPart, with_body, call, or_call, calling_step, calling_steps}
 use Rattle.cell_machine.specs.Served.{by_meaning, ServesAsMeant}
 use Rattle.cell_machine.proofs.Keeps.{step_keeps}
@@ -35,7 +35,7 @@ use Rattle.lexicon.specs.Stands.{Stands as Means}
 use Rattle.lexicon.specs.Laws.{ServicesAreOutside}
 use Rattle.lexicon.specs.Running.{meanings, meaning_of, word_meaning, AsksFor}
 use Rattle.interpreter.specs.Lexicon.{language_of, IsDue}
-use Rattle.interpreter.specs.Turns.{IsAtText, GoesDown}
+use Rattle.interpreter.specs.Rounds.{IsAtText, GoesDown}
 use Rattle.interpreter.proofs.Frugal.{serve-frugal}
 use Rattle.interpreter.proofs.Same.{serve_agrees}
 
@@ -65,7 +65,7 @@ paid_falls : (s0 s1 s2 : ℕ) (es0 es2 : List Entry) → s1 < s0 → s2 ≤ s1 �
 paid_falls s0 s1 s2 es0 es2 h k =
     let a = most_fall s2 es2 in let b = least_fall s0 es0 in let e : s2 + 1 ≤ s0 = omega (arith, h, k) in let m : (s2 + 1) * 257 ≤ s0 * 257 = omega (arith, e) in omega (arith, a, b, m)
 
-pub service_falls : (o : Op) (s0 s1 s2 : ℕ) (es0 es1 es2 : List Entry) → fall_of s1 es1 < fall_of s0 es0 → Paid (event.Service o) s0 s1 → IsFree o (fall_of s2 es2 ≤ fall_of s1 es1) → s2 ≤ s1 → fall_of s2 es2 < fall_of s0 es0
+pub service_falls : (o : Op) (s0 s1 s2 : ℕ) (es0 es1 es2 : List Entry) → fall_of s1 es1 < fall_of s0 es0 → Paid (event.Service o) s0 s1 → WhereFree o (fall_of s2 es2 ≤ fall_of s1 es1) → s2 ≤ s1 → fall_of s2 es2 < fall_of s0 es0
 service_falls (op.Word w) s0 s1 s2 es0 es1 es2 falls paid free le = paid_falls s0 s1 s2 es0 es2 paid le
 service_falls (op.Text place) s0 s1 s2 es0 es1 es2 falls paid free le = paid_falls s0 s1 s2 es0 es2 paid le
 service_falls (op.AbortText place) s0 s1 s2 es0 es1 es2 falls paid free le = paid_falls s0 s1 s2 es0 es2 paid le
@@ -217,8 +217,8 @@ steps_end words (suc k) levels c =
 pub finished_at_text : (words : ℕ → Meaning) (k : ℕ) (levels after : List Level) (c d : Core) → calling_steps words k levels c ≡ Finished after d → IsAtText after
 finished_at_text words k levels after c d is = subst EndsAtText is (steps_end words k levels c)
 
--- where what comes of a turn goes down, it goes down
-pub down_if : (result : Result Turn Stop) (before after : ℕ) → after < before → GoesDown result before after
+-- where what comes of a round goes down, it goes down
+pub down_if : (result : Result Round Stop) (before after : ℕ) → after < before → GoesDown result before after
 down_if (Ok GoesOn) before after h = h
 down_if (Ok Over) before after h = tt
 down_if (Err s) before after h = tt

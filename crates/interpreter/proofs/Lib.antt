@@ -18,7 +18,7 @@ pub mod Deeds
 pub mod Calls
 pub mod Running
 pub mod Then
-pub mod Turning
+pub mod Rounds
 pub mod Events
 pub mod Lining
 pub mod Promised
@@ -30,12 +30,10 @@ pub mod Quiet
 pub mod Tokens
 pub mod Loading
 pub mod Wiring
-pub mod Lexical
 pub mod Called
 pub mod Stepping
 pub mod Looking
 pub mod Finding
-pub mod Taking
 mod Telling
 pub mod Added
 pub mod Treating

@@ -30,10 +30,10 @@ use Rattle.interpreter.specs.Text.{compiling}
 use Rattle.interpreter.specs.Terminal.{AppendsSome, Begins}
 use Rattle.interpreter.specs.Terminals.{terminal_call, print}
 use Rattle.interpreter.specs.Standing.{core, device, HasModel, Rests}
-use Rattle.interpreter.specs.Serving.{Comes, IsLike, Left, Broke, BreaksOff, Heard, MapsKept, Lasts, Ran}
+use Rattle.interpreter.specs.Serving.{Comes, IsLike, Left, Broke, BreaksOff, Heard, KeepsAndWears, Lasts, Ran}
 use Rattle.block_words.specs.declared.Blocks.{Blocks}
 use Rattle.journal.specs.Store.{device_of}
-use Rattle.interpreter.specs.Lining.{line_end, is_broken, heard_of, LineLeft, LineBroke, LineBreaksOff, LineComes, LineCame, Lined, IsLikely, HasSpace}
+use Rattle.interpreter.specs.Lining.{line_end, is_broken, heard_of, LineLeft, LineBroke, LineBreaksOff, LineComes, LineCame, Lined, SameStackAndSpace, SameSpace}
 use Rattle.interpreter.proofs.Deeds.{printing, trying, after-then, mended-then}
 use Rattle.interpreter.proofs.Calls.{print-well, print-fails}
 use Rattle.interpreter.proofs.Running.{OnlyNow, maps_same}
@@ -78,15 +78,15 @@ same_model {D} {G} b c same model = subst (λ (b : Blocks D G). IsTrue (G.keeps_
 
 module _ {D T : Type 0} (G : Ghosts D) (H : TerminalGhosts T) (only_now : OnlyNow G) where
   -- it is printed
-  pub said_well : (e : LineEnd) (bytes : List ℕ) (forth : Forth D G) (t u : T) (c : Core) (x : World) → is_broken e ≡ false → IsLikely c forth → Rests forth x
+  pub said_well : (e : LineEnd) (bytes : List ℕ) (forth : Forth D G) (t u : T) (c : Core) (x : World) → is_broken e ≡ false → SameStackAndSpace c forth → Rests forth x
       → H.input u ≡ H.input t → Appends (H.output t) (H.output u) bytes
       → Lined H (λ r. replied (line_end e) (print bytes c (with_run r x))) e forth.at_end forth forth t u x
-  said_well e bytes forth t u c x well likely rests input printed = record {
+  said_well e bytes forth t u c x well same_core rests input printed = record {
     deed = printing bytes 1;
     world = x;
     rests = rests;
     came = λ model.
-        record { core = c; likely = likely; comes = line_left _ (printing bytes 1) e c x well (record { ends = λ r fits. ap (λ o. replied (line_end e) o) (print-well bytes c x r) }) };
+        record { core = c; same_core = same_core; comes = line_left _ (printing bytes 1) e c x well (record { ends = λ r fits. ap (λ o. replied (line_end e) o) (print-well bytes c x r) }) };
     heard = subst (λ (o : Result (Unit {0}) Stop). Heard H o (printing bytes 1) forth.at_end forth.at_end t u) (sym (heard_well e well))
         (record {
           given = subst (λ i. Consumes (H.input t) i []) (sym input) (Consumes-nil (H.input t));
@@ -101,16 +101,16 @@ module _ {D T : Type 0} (G : Ghosts D) (H : TerminalGhosts T) (only_now : OnlyNo
 
   -- the terminal fails
   pub said_broke : (e : lines.LineEnd) (bytes : List ℕ) (old new : Forth D G) (t u : T) (c : Core) (x : World) → Rests old x → new.blocks ≡ old.blocks → new.at_end ≡ old.at_end
-      → ((said : Core) → said.space ≡ c.space → IsLikely (with_empty_stack (at_rest said)) new) → Rests new (dropped x)
+      → ((said : Core) → said.space ≡ c.space → SameStackAndSpace (with_empty_stack (at_rest said)) new) → Rests new (dropped x)
       → H.input u ≡ H.input t → AppendsSome (H.output t) (H.output u) bytes
       → Lined H (λ r. replied e (print bytes c (with_run r x))) end.Io old.at_end old new t u x
-  said_broke e bytes old new t u c x rests blocks at_end likely after_rests input printed = record {
+  said_broke e bytes old new t u c x rests blocks at_end same_core after_rests input printed = record {
     deed = trying bytes;
     world = dropped x;
     rests = after_rests;
     came = λ model.
         let h = print-fails bytes c x in
-        record { core = with_empty_stack (at_rest h.core); likely = likely h.core h.like; comes = replied_broke e (λ r. print bytes c (with_run r x)) (trying bytes) c x h };
+        record { core = with_empty_stack (at_rest h.core); same_core = same_core h.core h.like; comes = replied_broke e (λ r. print bytes c (with_run r x)) (trying bytes) c x h };
     heard = subst (λ f. Heard H (Err stop.Io) (trying bytes) old.at_end f t u) (sym at_end)
         (record {
           given = subst (λ i. Consumes (H.input t) i []) (sym input) (Consumes-nil (H.input t));
@@ -121,14 +121,14 @@ module _ {D T : Type 0} (G : Ghosts D) (H : TerminalGhosts T) (only_now : OnlyNo
         });
     cause = ap (λ (b : Blocks D G). G.failures (device_of (store_of b))) blocks;
     keeps = λ model.
-        subst (λ (b : Blocks D G). MapsKept G x.maps x.maps (device old) (device_of (store_of b)) [] no_wear) (sym blocks) (maps_same G only_now (store_of old.blocks) x.maps (rests.maps model));
+        subst (λ (b : Blocks D G). KeepsAndWears G x.maps x.maps (device old) (device_of (store_of b)) [] no_wear) (sym blocks) (maps_same G only_now (store_of old.blocks) x.maps (rests.maps model));
   }
 
 -- ---- one after another
 
 module _ {D T : Type 0} {G : Ghosts D} (H : TerminalGhosts T) where
   pub came_as : {start : Run → Ended} (start' : Run → Ended) {deed : Deed} (e : LineEnd) {new : Forth D G} {x : World} → ((r : Run) → start' r ≡ start r) → LineCame start deed e new x → LineCame start' deed e new x
-  came_as {start} start' {deed} e {new} {x} same h = record { core = h.core; likely = h.likely; comes = comes e h.comes }
+  came_as {start} start' {deed} e {new} {x} same h = record { core = h.core; same_core = h.same_core; comes = comes e h.comes }
     where
       comes : (e : LineEnd) → LineComes start deed e h.core x → LineComes start' deed e h.core x
       comes end.Interpreting k = record { ends = λ r fits. same (before deed r) ∙ k.ends r fits }
@@ -154,8 +154,8 @@ module _ {D T : Type 0} {G : Ghosts D} (H : TerminalGhosts T) where
     heard = subst (λ f. Heard H (heard_of e) h.deed f new.at_end t u) at_end h.heard;
     cause = subst (λ (b : Blocks D G). HasRisenBy h.deed.failures (G.failures (device_of (store_of b))) (G.failures (device new))) blocks h.cause;
     keeps = λ model.
-        subst (λ (b : Blocks D G). MapsKept G y.maps h.world.maps (device_of (store_of b)) (device new) h.deed.saves h.deed.wear) blocks
-        (subst (λ m. MapsKept G m h.world.maps (device mid) (device new) h.deed.saves h.deed.wear) maps (h.keeps (same_model old.blocks mid.blocks blocks model)));
+        subst (λ (b : Blocks D G). KeepsAndWears G y.maps h.world.maps (device_of (store_of b)) (device new) h.deed.saves h.deed.wear) blocks
+        (subst (λ m. KeepsAndWears G m h.world.maps (device mid) (device new) h.deed.saves h.deed.wear) maps (h.keeps (same_model old.blocks mid.blocks blocks model)));
   }
 
 -- ---- what came before the reply
@@ -199,7 +199,7 @@ module _ {D T : Type 0} (G : Ghosts D) (H : TerminalGhosts T) (counts_now : (d :
   pub lined_then : {start start2 : Run → Ended} {e : LineEnd} {was is : Bool} {old mid new : Forth D G} {t u v : T} {x w : World} (d : Deed)
       → Lasts G H (Ok tt) (device old) (device mid) t u → Lasts G H (heard_of e) (device mid) (device new) u v
       → Heard H (Ok tt) d was is t u → HasRisenBy d.failures (G.failures (device old)) (G.failures (device mid))
-      → (HasModel old → MapsKept G x.maps w.maps (device old) (device mid) d.saves d.wear)
+      → (HasModel old → KeepsAndWears G x.maps w.maps (device old) (device mid) d.saves d.wear)
       → (HasModel old → (r : Run) → Fits d r → start (before d r) ≡ start2 (after d r))
       → Lined H start2 e is mid new u v w → Lined H start e was old new t v x
   lined_then {start} {start2} {e} {was} {is} {old} {mid} {new} {t} {u} {v} {x} {w} d on on_then heard cause keeps first h = record {
@@ -208,7 +208,7 @@ module _ {D T : Type 0} (G : Ghosts D) (H : TerminalGhosts T) (counts_now : (d :
     rests = h.rests;
     came = λ model.
         let k = h.came (subst IsTrue (sym on.model) model) in
-        record { core = k.core; likely = k.likely; comes = line_comes_then start start2 d h.deed (first model) (heard_none H heard h.heard) e k.core h.world k.comes };
+        record { core = k.core; same_core = k.same_core; comes = line_comes_then start start2 d h.deed (first model) (heard_none H heard h.heard) e k.core h.world k.comes };
     heard = heard_then H heard h.heard;
     cause = risen_then d.failures h.deed.failures (G.failures (device old)) (G.failures (device mid)) (G.failures (device new)) cause h.cause;
     keeps = λ model.
@@ -342,16 +342,16 @@ module _ {D T : Type 0} (G : Ghosts D) (H : TerminalGhosts T) (counts_now : (d :
   -- the terminal failed before the reply
   pub broke_lined : {start : Run → Outcome World} (start' : Run → Ended) {old mid : Forth D G} (new : Forth D G) {t u : T} {x : World} (h : Ran H start (Err stop.Io) old mid t u [] x)
       → ((r : Run) → start' r ≡ ended (start r)) → new.blocks ≡ mid.blocks → new.at_end ≡ mid.at_end
-      → ((c : Core) → HasSpace c mid → IsLikely (with_empty_stack (at_rest c)) new) → Rests new (dropped h.world)
+      → ((c : Core) → SameSpace c mid → SameStackAndSpace (with_empty_stack (at_rest c)) new) → Rests new (dropped h.world)
       → Lined H start' end.Io old.at_end old new t u x
-  broke_lined {start} start' {old} {mid} new {t} {u} {x} h opens blocks at_end likely rests = record {
+  broke_lined {start} start' {old} {mid} new {t} {u} {x} h opens blocks at_end same_core rests = record {
     deed = h.deed;
     world = dropped h.world;
     rests = rests;
     came = λ model.
         let l = h.comes model in
-        came_as H start' end.Io opens (record { core = with_empty_stack (at_rest l.core); likely = likely l.core (record { space = l.like }); comes = ended_broke start h.deed (core mid) h.world l });
+        came_as H start' end.Io opens (record { core = with_empty_stack (at_rest l.core); same_core = same_core l.core (record { space = l.like }); comes = ended_broke start h.deed (core mid) h.world l });
     heard = subst (λ f. Heard H (Err stop.Io) h.deed old.at_end f t u) (sym at_end) h.heard;
     cause = subst (λ (b : Blocks D G). HasRisenBy h.deed.failures (G.failures (device old)) (G.failures (device_of (store_of b)))) (sym blocks) h.cause;
-    keeps = λ model. subst (λ (b : Blocks D G). MapsKept G x.maps h.world.maps (device old) (device_of (store_of b)) h.deed.saves h.deed.wear) (sym blocks) (h.keeps model);
+    keeps = λ model. subst (λ (b : Blocks D G). KeepsAndWears G x.maps h.world.maps (device old) (device_of (store_of b)) h.deed.saves h.deed.wear) (sym blocks) (h.keeps model);
   }

@@ -135,11 +135,11 @@ module _ {D T : Type 0} (G : Ghosts D) (H : TerminalGhosts T) where
         record {
           waits = record {
             budget = system.waits.budget ∙ sym budget;
-            likely = record { stack = k.likely.stack; space = k.likely.space };
+            same_core = record { stack = k.same_core.stack; space = k.same_core.space };
             rests = record { meant = h.rests.meant; held_end = h.rests.held_end; held = h.rests.held; buffers = h.rests.buffers; maps = h.rests.maps };
           };
           model = subst IsTrue (sym model) system.model;
         },
         answers_of G H opening bytes h.deed k.core h.world t u new.at_end (device old) (device new) h.cause kept.wears e k.comes h.heard,
-        record { kept = kept.kept; shuts = kept.shuts; none = kept.none; last = kept.last },
+        kept.keeps,
       )

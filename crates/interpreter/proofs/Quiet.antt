@@ -10,7 +10,7 @@ use Rattle.cell_machine.specs.Fault.{Faults, Breaks, EndOfInput}
 use Rattle.cell_machine.specs.Frames.{Core, Level}
 use Rattle.cell_machine.specs.Value.{Outcome, Did}
 use Rattle.cell_machine.proofs.Linked.{did, ends, parted, strayed}
-use Rattle.interpreter.specs.State.{World, Run, with_run, with_input, with_output, with_terminal, block_state, blocks_done, world_with, fault_of}
+use Rattle.interpreter.specs.State.{World, Run, with_input, with_output, with_terminal, block_state, blocks_done, world_with, fault_of}
 use Rattle.interpreter.specs.Terminals.{terminal_call, print, key_of, expect_of, expect_done, asked, stored, unread, meets_end, store_input}
 use Rattle.interpreter.specs.Law.{left, run_after}
 use Rattle.interpreter.proofs.Beside as next

@@ -11,8 +11,8 @@ use Rattle.interpreter.specs.State.{World, system_cell, set_cell, to_in_cell, bl
 use Rattle.interpreter.specs.Streams.{stream_of, known}
 use Rattle.interpreter.specs.Text.{text, serve, next_word, treat}
 use Rattle.interpreter.specs.Law.{left}
-use Rattle.interpreter.specs.Turns.{IsAtText}
-use Rattle.interpreter.specs.TextTurns.{after_text, word_turn}
+use Rattle.interpreter.specs.Rounds.{IsAtText}
+use Rattle.interpreter.specs.TextRounds.{after_text, word_round}
 use Rattle.interpreter.proofs.Enter.{text_goes_on}
 
 and_then_did : (o : Outcome World) → o ≡ and_then o (λ c x. Did c x)
@@ -35,10 +35,10 @@ paid_on false n c x go k = refl
 abbrev pub moved_to : (text rest : List ℕ) → Core → Core
 moved_to text rest c = set_cell to_in_cell (length text - length rest) c
 
-abbrev pub read_turn : ℕ → List Level → List ℕ → Core → World → Outcome World
-read_turn n levels text c x =
+abbrev pub read_round : ℕ → List Level → List ℕ → Core → World → Outcome World
+read_round n levels text c x =
     let rest = drop (system_cell to_in_cell c) text in
-    word_turn n levels (word_of 32 rest) (λ c. moved_to text (after_word 32 rest) c) c x
+    word_round n levels (word_of 32 rest) (λ c. moved_to text (after_word 32 rest) c) c x
 
 module _ (m : ℕ) where
   abbrev value : Around → Core → World → Outcome World
@@ -51,7 +51,7 @@ module _ (m : ℕ) where
   at_text (Once w ∷ levels) c x h = absurd h
 
   word_on : (levels : List Level) → IsAtText levels → (word : List ℕ) (moved : Core → Core) (c : Core) (x : World)
-      → and_then (next_word (suc m) (λ a due c x. serve (suc m) a due c x) word moved (around_of levels) c x (λ c x. value (around_of levels) c x)) (λ c x. after_text (suc m) levels c x) ≡ word_turn (suc m) levels word moved c x
+      → and_then (next_word (suc m) (λ a due c x. serve (suc m) a due c x) word moved (around_of levels) c x (λ c x. value (around_of levels) c x)) (λ c x. after_text (suc m) levels c x) ≡ word_round (suc m) levels word moved c x
   word_on levels h [] moved c x = refl
   word_on levels h (b ∷ word) moved c x =
       paid_on (nat_le 1 c.steps) 1 c x _ (λ c x. after_text (suc m) levels c x)
@@ -61,7 +61,7 @@ module _ (m : ℕ) where
       (fun_ext (λ e. fun_ext (λ y. sym (at_text levels e y h))))))
 
   pub reads_on : (levels : List Level) (c : Core) (x : World) → IsAtText levels → c.steps ≤ m
-      → left (suc m) levels c x ≡ stream_of (system_cell blk_cell c) c x (λ text c x. read_turn (suc m) levels text c x)
+      → left (suc m) levels c x ≡ stream_of (system_cell blk_cell c) c x (λ text c x. read_round (suc m) levels text c x)
   reads_on levels c x h less =
       at_text levels c x h
       ∙ ap (λ o. and_then o (λ c x. after_text (suc m) levels c x)) (text_goes_on m (around_of levels) c x less)

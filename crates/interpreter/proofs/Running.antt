@@ -20,7 +20,7 @@ use Rattle.interpreter.specs.Deeds.{Deed, nothing, before, after, mended}
 use Rattle.interpreter.specs.State.{World, Run, with_run}
 use Rattle.interpreter.specs.Stops.{fault_of}
 use Rattle.interpreter.specs.Standing.{core, device, Rests, Stands, StandsAfter}
-use Rattle.interpreter.specs.Serving.{Comes, Heard, Printed, MapsKept, Gives, Altered, Ran, stopped}
+use Rattle.interpreter.specs.Serving.{Comes, Heard, Printed, KeepsAndWears, Gives, Altered, Ran, stopped}
 use Rattle.block_words.specs.declared.Blocks.{Blocks}
 use Rattle.interpreter.specs.Promise.{HasRisenBy}
 use Rattle.interpreter.specs.Law.{run_after, Grows}
@@ -50,8 +50,11 @@ comes_as start start' deed (Err (stop.Fault f)) c x same h = record { core = h.c
 abbrev pub OnlyNow : {D : Type 0} → Ghosts D → Type 0
 OnlyNow {D} G = (d : D) (c : Image) → G.left_since d (G.time d) c → MayLeave (G.disk d) c
 
-pub maps_same : {D : Type 0} (G : Ghosts D) → OnlyNow G → (store : Store D G) (m : Maps) → StandsFor store m → MapsKept G m m store.device store.device [] no_wear
-maps_same G only_now store m stands = record { kept = keeps_store G store m only_now stands; shuts = λ h. h; none = λ h. refl; last = λ h. refl; wears = wears_none G store.device }
+pub maps_same : {D : Type 0} (G : Ghosts D) → OnlyNow G → (store : Store D G) (m : Maps) → StandsFor store m → KeepsAndWears G m m store.device store.device [] no_wear
+maps_same G only_now store m stands = record {
+  keeps = record { kept = keeps_store G store m only_now stands; shuts = λ h. h; none = λ h. refl; last = λ h. refl };
+  wears = wears_none G store.device;
+}
 
 pub heard_nothing : {T : Type 0} (H : TerminalGhosts T) (result : Result (Unit {0}) Stop) (flag : Bool) (t : T) → Printed result (H.output t) (H.output t) [] [] → Heard H result nothing flag flag t t
 heard_nothing H result flag t printed =
@@ -89,8 +92,8 @@ module _ {D T : Type 0} (G : Ghosts D) (H : TerminalGhosts T) where
     heard = subst (λ f. Heard H (stopped result) nothing old.at_end f t t) (sym at_end) (heard_nothing H (stopped result) old.at_end t (printed_nothing result (H.output t)));
     cause = ap (λ (b : Blocks D G). G.failures (device_of (store_of b))) blocks;
     keeps = λ model.
-        subst (λ (b : Blocks D G). MapsKept G x.maps h.world.maps (device old) (device_of (store_of b)) [] no_wear) (sym blocks)
-        (subst (λ m. MapsKept G x.maps m (device old) (device old) [] no_wear) (sym h.maps) (maps_same G only_now (store_of old.blocks) x.maps (stands.rests.maps model)));
+        subst (λ (b : Blocks D G). KeepsAndWears G x.maps h.world.maps (device old) (device_of (store_of b)) [] no_wear) (sym blocks)
+        (subst (λ m. KeepsAndWears G x.maps m (device old) (device old) [] no_wear) (sym h.maps) (maps_same G only_now (store_of old.blocks) x.maps (stands.rests.maps model)));
   }
 
 module _ {D T : Type 0} {G : Ghosts D} (H : TerminalGhosts T) where
@@ -105,5 +108,5 @@ module _ {D T : Type 0} {G : Ghosts D} (H : TerminalGhosts T) where
     comes = λ model. comes_as start start' h.deed result (core new) h.world same (h.comes (subst (λ (b : Blocks D G). IsTrue (G.keeps_model (device_of (store_of b)))) (sym blocks) model));
     heard = subst (λ f. Heard H result h.deed f new.at_end t t') at_end h.heard;
     cause = subst (λ (b : Blocks D G). HasRisenBy h.deed.failures (G.failures (device_of (store_of b))) (G.failures (device new))) blocks h.cause;
-    keeps = λ model. subst (λ (b : Blocks D G). MapsKept G x.maps h.world.maps (device_of (store_of b)) (device new) h.deed.saves h.deed.wear) blocks (h.keeps (subst (λ (b : Blocks D G). IsTrue (G.keeps_model (device_of (store_of b)))) (sym blocks) model));
+    keeps = λ model. subst (λ (b : Blocks D G). KeepsAndWears G x.maps h.world.maps (device_of (store_of b)) (device new) h.deed.saves h.deed.wear) blocks (h.keeps (subst (λ (b : Blocks D G). IsTrue (G.keeps_model (device_of (store_of b)))) (sym blocks) model));
   }

@@ -13,7 +13,7 @@ use Rattle.interpreter.specs.Law.{left, run_after, Grows}
 use Rattle.interpreter.specs.State.{World, Run}
 use Rattle.interpreter.specs.Standing.{core}
 use Rattle.interpreter.specs.Serving.{Broke, BreaksOff, Comes, Ran}
-use Rattle.interpreter.specs.Turns.{turn_of, Turned}
+use Rattle.interpreter.specs.Rounds.{round_of, RanRound}
 use Rattle.interpreter.proofs.Lasting.{only_grows, begins_itself, holds, no_input_lasts}
 use Rattle.interpreter.proofs.Answered.{left-li}
 use Rattle.interpreter.proofs.Quiet.{stays_quiet}
@@ -71,9 +71,9 @@ module _ (n : ℕ) (levels : List Level) where
   left_on start deed (stop.Fault f) c x h = record { core = h.core; like = h.like; ends = λ r fits. ap on (h.ends r fits) }
 
 module _ {D T : Type 0} {G : Ghosts D} (H : TerminalGhosts T) (n : ℕ) (levels : List Level) where
-  pub served_turn : {start : Run → Outcome World} (result : Result (Unit {0}) Stop) {old new : Forth D G} {t u : T} {x : World}
-      → Ran H start result old new t u levels x → Turned H n (λ r. on n levels (start r)) (turn_of result) old new t u x
-  served_turn (Ok v) h = record {
+  pub served_round : {start : Run → Outcome World} (result : Result (Unit {0}) Stop) {old new : Forth D G} {t u : T} {x : World}
+      → Ran H start result old new t u levels x → RanRound H n (λ r. on n levels (start r)) (round_of result) old new t u x
+  served_round (Ok v) h = record {
     deed = h.deed;
     levels = levels;
     world = h.world;
@@ -84,7 +84,7 @@ module _ {D T : Type 0} {G : Ghosts D} (H : TerminalGhosts T) (n : ℕ) (levels 
     cause = h.cause;
     keeps = h.keeps;
   }
-  served_turn (Err s) {old} {new} h = record {
+  served_round (Err s) {old} {new} h = record {
     deed = h.deed;
     levels = levels;
     world = h.world;

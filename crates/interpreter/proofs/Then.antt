@@ -1,5 +1,5 @@
 -- One part of a line after another.
-use Rattle.std.proofs.Common.{◌≡◌, ◌⊎◌, ℕ, ◌≤◌, Bool, true, false, List, [], ◌∷◌, ◌++◌, Option, Some, Result, Ok, Err, refl, sym, ap, subst, ◌∙◌, inl, inr, append_assoc}
+use Rattle.std.proofs.Common.{◌≡◌, ◌⊎◌, ℕ, ◌≤◌, Bool, true, false, List, [], ◌++◌, Option, Some, Result, Ok, Err, refl, sym, ap, subst, ◌∙◌, inl, inr, append_assoc}
 use Rattle.std.specs.Prelude.{◌||◌}
 use Rattle.std.specs.Io.KnownBytes.{Appends}
 use Rattle.std.proofs.KnownBytes.{Consumes-trans, Appends-trans}
@@ -8,8 +8,7 @@ use Rattle.sector_disk.specs.Moments.{Elapses}
 use Rattle.sector_disk.specs.declared.device.SectorDevice.{Ghosts}
 use Rattle.journal.specs.Maps.{Maps}
 use Rattle.block_words.specs.Words.{Wear, add_wear, Save}
-use Rattle.block_words.specs.Kept.{last_map}
-use Rattle.block_words.proofs.Then.{keeps_then}
+use Rattle.interpreter.proofs.Keeping.{keeps_on}
 use Rattle.cell_machine.specs.Fault.{Ending}
 use Rattle.cell_machine.specs.Frames.{Core}
 use Rattle.cell_machine.specs.Value.{Outcome, Did, Ends}
@@ -20,7 +19,7 @@ use Rattle.interpreter.specs.Deeds.{Deed, then, before, after, mended, Fits}
 use Rattle.interpreter.specs.Law.{run_after, Grows}
 use Rattle.interpreter.specs.State.{World, Run, with_run}
 use Rattle.interpreter.specs.Stops.{ending_of}
-use Rattle.interpreter.specs.Serving.{Left, Broke, BreaksOff, Comes, Heard, Printed, MapsKept}
+use Rattle.interpreter.specs.Serving.{Left, Broke, BreaksOff, Comes, Heard, Printed, KeepsAndWears}
 use Rattle.interpreter.proofs.Deeds.{before-then, after-then, mended-then, or-assoc}
 use Rattle.block_words.proofs.Worn.{wears_then}
 
@@ -135,20 +134,9 @@ module _ {T : Type 0} (H : TerminalGhosts T) where
 module _ {D : Type 0} (G : Ghosts D) (counts_now : (d : D) (t : ℕ) (c : Image) → t ≤ G.time d → MayLeave (G.disk d) c → G.left_since d t c)
     (widens : (d : D) (s t : ℕ) (c : Image) → s ≤ t → G.left_since d t c → G.left_since d s c)
     (only_now : (d : D) (c : Image) → G.left_since d (G.time d) c → MayLeave (G.disk d) c) where
-  last_append : (map : List (List ℕ)) (made more : List Save) → last_map map (made ++ more) ≡ last_map (last_map map made) more
-  last_append map [] more = refl
-  last_append map (s ∷ made) more = last_append s.map made more
-
   pub maps_then : (m m' m'' : Maps) (old mid new : D) (made more : List Save) (wear later : Wear) → Elapses G.time G.left_since old mid → Elapses G.time G.left_since mid new
-      → MapsKept G m m' old mid made wear → MapsKept G m' m'' mid new more later → MapsKept G m m'' old new (made ++ more) (add_wear wear later)
+      → KeepsAndWears G m m' old mid made wear → KeepsAndWears G m' m'' mid new more later → KeepsAndWears G m m'' old new (made ++ more) (add_wear wear later)
   maps_then m m' m'' old mid new made more wear later on on_then first second = record {
-    kept = keeps_then G counts_now widens only_now m.closed m'.closed old mid new m.saved m'.saved made more on on_then first.shuts first.last second.none first.kept second.kept;
-    shuts = λ h. second.shuts (first.shuts h);
-    none = λ h. ap (λ l. l ++ more) (first.none h) ∙ second.none (first.shuts h);
-    last = λ h. second.last h ∙ after_both m'.closed refl h;
+    keeps = keeps_on G counts_now widens only_now m m' m'' old mid new made more on on_then first.keeps second.keeps;
     wears = wears_then G old mid new wear later first.wears second.wears;
   }
-    where
-      after_both : (t : Bool) → m'.closed ≡ t → m''.closed ≡ false → last_map m'.saved more ≡ last_map m.saved (made ++ more)
-      after_both true is h = absurd (let no : true ≡ false = sym (second.shuts is) ∙ h in cc)
-      after_both false is h = ap (λ l. last_map l more) (first.last is) ∙ sym (last_append m.saved made more)

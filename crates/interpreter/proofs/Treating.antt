@@ -1,31 +1,24 @@
 -- A word of the text: what the definitions come to, where their tests are known.
-use Rattle.std.proofs.Common.{◌≡◌, ℕ, ◌<◌, ◌≤◌, ◌-◌, Bool, true, false, List, [], ◌∷◌, length, Option, Some, None, Result, Ok, Err, refl, ap, ◌∙◌, arith}
+use Rattle.std.proofs.Common.{◌≡◌, ℕ, ◌<◌, ◌≤◌, ◌-◌, Bool, true, false, List, [], ◌∷◌, length, Result, Ok, Err, refl, ap, ◌∙◌, arith}
 use Rattle.std.specs.Prelude.{nat_le, ◌&&◌}
 use Rattle.std.proofs.lemmas.Bool.{le-leb, lt-leb}
 use Rattle.cell_machine.specs.Fault.{Faults, Steps, Base}
 use Rattle.cell_machine.specs.Frames.{Core, Level, branch, paid}
-use Rattle.cell_machine.specs.Value.{Outcome, Did, Ends, and_then}
+use Rattle.cell_machine.specs.Value.{Outcome, Ends, and_then}
 use Rattle.number_io.specs.Number.{number}
 use Rattle.number_io.specs.declared.number.Number.{Number as Read}
 use Rattle.number_io.specs.declared.number.NumberFault.{NumberFault}
-use Rattle.compiler.specs.Definition.{Definition, Adding, Adds, Refuses}
-use Rattle.compiler.specs.Promise.{on_open}
-use Rattle.lexicon.specs.Language as lexicon
-use Rattle.lexicon.specs.Kinds as kinds
-use Rattle.lexicon.specs.Language.{Language, ForthWord}
 use Rattle.sector_disk.specs.declared.device.SectorDevice.{Ghosts}
 use Rattle.interpreter.specs.declared.fault.Fault.{Fault}
 use Rattle.interpreter.specs.declared.forth.Forth.{Forth}
-use Rattle.interpreter.specs.Lexicon.{language_of, with_language}
-use Rattle.interpreter.specs.State.{World, Run, with_run, fails, used_cells, system_cell, base_cell}
-use Rattle.interpreter.specs.Text.{is_immediate, number_value}
+use Rattle.interpreter.specs.State.{World, Run, with_run, system_cell, base_cell}
+use Rattle.interpreter.specs.Text.{number_value}
 use Rattle.interpreter.specs.Pictures.{with_base}
-use Rattle.interpreter.specs.Compiling.{changing, added, definition_or}
 use Rattle.interpreter.specs.Law.{left}
 use Rattle.interpreter.specs.Standing.{core}
 use Rattle.interpreter.specs.Serving.{Altered}
-use Rattle.interpreter.specs.Turns.{Entered}
-use Rattle.interpreter.specs.TextTurns.{after_text, treated, word_turn}
+use Rattle.interpreter.specs.Rounds.{Entered}
+use Rattle.interpreter.specs.TextRounds.{after_text, treated, word_round}
 use Rattle.interpreter.proofs.Short.{needing-no, needing-yes}
 
 -- ---- tests that are known
@@ -58,29 +51,6 @@ number_is c x text v low high is =
 
 pub no_base : (c : Core) (x : World) (go : Core → Outcome World) → (nat_le 2 (system_cell base_cell c) && nat_le (system_cell base_cell c) 72) ≡ false → with_base c x go ≡ Ends (Faults Base) c x
 no_base c x go is = needing-no (nat_le 2 (system_cell base_cell c) && nat_le (system_cell base_cell c) 72) Base c x go is
-
--- an immediate word
-pub immediate_is : (o : Option ForthWord) → is_immediate o ≡ kinds.is_immediate o
-immediate_is None = refl
-immediate_is (Some w) = refl
-
--- ---- the open definition
-
--- what comes of a step of the language
-abbrev pub stepped : Adding Language → Core → World → Outcome World
-stepped (Adds m) c x = Did c (with_language m x)
-stepped (Refuses f) c x = fails f c x
-
-change_of : (a : Adding Definition) (c : Core) (x : World) → added a c x ≡ stepped (lexicon.with_definition (language_of x) a) c x
-change_of (Adds d) c x = refl
-change_of (Refuses f) c x = refl
-
-pub changing_is : (add : ℕ → Definition → Adding Definition) (c : Core) (x : World) → changing add c x ≡ stepped (lexicon.changing add (language_of x)) c x
-changing_is add c x = go x.definition
-  where
-    go : (o : Option Definition) → definition_or o c x (λ d. added (add (used_cells x.words) d) c x) ≡ stepped (lexicon.with_definition (language_of x) (on_open o (add (used_cells x.words)))) c x
-    go None = refl
-    go (Some d) = change_of (add (used_cells x.words) d) c x
 
 module _ {D : Type 0} {G : Ghosts D} where
   -- ---- one part after another
@@ -132,17 +102,17 @@ module _ {D : Type 0} {G : Ghosts D} where
 
 -- ---- a word, and none
 
-pub no-word : (n : ℕ) (levels : List Level) (word : List ℕ) (moved : Core → Core) (c : Core) (x : World) → length word ≡ 0 → word_turn n levels word moved c x ≡ after_text n levels (moved c) x
+pub no-word : (n : ℕ) (levels : List Level) (word : List ℕ) (moved : Core → Core) (c : Core) (x : World) → length word ≡ 0 → word_round n levels word moved c x ≡ after_text n levels (moved c) x
 no-word n levels [] moved c x is = refl
 no-word n levels (b ∷ word) moved c x is = absurd (omega (arith, is))
 
-pub word-unpaid : (n : ℕ) (levels : List Level) (word : List ℕ) (moved : Core → Core) (c : Core) (x : World) → 0 < length word → c.steps ≡ 0 → word_turn n levels word moved c x ≡ Ends (Faults Steps) c x
+pub word-unpaid : (n : ℕ) (levels : List Level) (word : List ℕ) (moved : Core → Core) (c : Core) (x : World) → 0 < length word → c.steps ≡ 0 → word_round n levels word moved c x ≡ Ends (Faults Steps) c x
 word-unpaid n levels [] moved c x some none = absurd (omega (arith, some))
 word-unpaid n levels (b ∷ word) moved c x some none =
     ap (λ t. paid t 1 c (λ e c. Ends e c x) (λ c. treated n levels (b ∷ word) (moved c) x)) (lt-leb 1 c.steps (omega (arith, none)))
 
 pub word-paid : (n : ℕ) (levels : List Level) (word : List ℕ) (moved : Core → Core) (c : Core) (x : World) → 0 < length word → 0 < c.steps
-    → word_turn n levels word moved c x ≡ treated n levels word (moved (record c { steps = c.steps - 1 })) x
+    → word_round n levels word moved c x ≡ treated n levels word (moved (record c { steps = c.steps - 1 })) x
 word-paid n levels [] moved c x some enough = absurd (omega (arith, some))
 word-paid n levels (b ∷ word) moved c x some enough =
     ap (λ t. paid t 1 c (λ e c. Ends e c x) (λ c. treated n levels (b ∷ word) (moved c) x)) (le-leb 1 c.steps (omega (arith, enough)))

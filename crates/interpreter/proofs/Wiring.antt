@@ -1,4 +1,4 @@
--- What a service has come to, as the turn of the loop that did it.
+-- What a service has come to, as the round of the loop that did it.
 use Rattle.std.proofs.Common.{◌≡◌, ℕ, zero, suc, ◌<◌, ◌≤◌, true, false, List, [], Option, Some, None, Result, Ok, Err, refl, sym, ap, subst, length, arith}
 use Rattle.std.specs.Prelude.{slice_get}
 use Rattle.std.proofs.lemmas.Option.{slice_get_within}
@@ -17,7 +17,7 @@ use Rattle.interpreter.specs.declared.terminal.Terminal.{Ghosts as TerminalGhost
 use Rattle.interpreter.specs.declared.fault.Fault.{Fault}
 use Rattle.interpreter.specs.declared.fault.Stop.{Stop}
 use Rattle.interpreter.specs.declared.fault.Stop.TheVariants as stop
-use Rattle.interpreter.specs.declared.interpreting.Turn.{Turn}
+use Rattle.interpreter.specs.declared.interpreting.Round.{Round}
 use Rattle.interpreter.specs.declared.forth.Forth.{Forth}
 use Rattle.interpreter.specs.Deeds.{Deed, before, after, mended}
 use Rattle.interpreter.specs.Law.{left, run_after, Grows}
@@ -25,34 +25,34 @@ use Rattle.interpreter.specs.State.{World, Run}
 use Rattle.interpreter.specs.Text.{user_kind, user_word}
 use Rattle.interpreter.specs.Standing.{core, Stands}
 use Rattle.interpreter.specs.Serving.{Broke, BreaksOff, Comes, Altered, Consulted, Ran, Spares, stopped}
-use Rattle.interpreter.specs.Turns.{turn_of, Turned, Entered}
+use Rattle.interpreter.specs.Rounds.{round_of, RanRound, Entered}
 use Rattle.interpreter.proofs.Running.{OnlyNow, quiet}
 use Rattle.interpreter.proofs.Consulting.{consulted_ran}
-use Rattle.interpreter.proofs.Entering.{entered_turn}
-use Rattle.interpreter.proofs.Serviced.{served_turn}
+use Rattle.interpreter.proofs.Entering.{round_entered}
+use Rattle.interpreter.proofs.Serviced.{served_round}
 
 pub pred_of : (s n : ℕ) → s < n → (m : ℕ) × ((n ≡ suc m) × (s ≤ m))
 pred_of s zero less = absurd (omega (arith, less))
 pred_of s (suc m) less = (m, (refl, omega (arith, less)))
 
 module _ {D T : Type 0} (G : Ghosts D) (H : TerminalGhosts T) (n : ℕ) (levels : List Level) where
-  pub ran_turned : {start : Run → Outcome World} {result : Result (Unit {0}) Stop} {turn : Result Turn Stop} (old new : Forth D G) (t u : T) {x : World}
-      → turn ≡ turn_of result → Ran H start result old new t u levels x → Turned H n (λ r. and_then (start r) (λ c x. left n levels c x)) turn old new t u x
-  ran_turned {start} {result} {turn} old new t u {x} is h =
-      subst (λ turn. Turned H n (λ r. and_then (start r) (λ c x. left n levels c x)) turn old new t u x) (sym is) (served_turn H n levels result h)
+  pub ran_round : {start : Run → Outcome World} {result : Result (Unit {0}) Stop} {round : Result Round Stop} (old new : Forth D G) (t u : T) {x : World}
+      → round ≡ round_of result → Ran H start result old new t u levels x → RanRound H n (λ r. and_then (start r) (λ c x. left n levels c x)) round old new t u x
+  ran_round {start} {result} {round} old new t u {x} is h =
+      subst (λ round. RanRound H n (λ r. and_then (start r) (λ c x. left n levels c x)) round old new t u x) (sym is) (served_round H n levels result h)
 
-  pub quiet_turned : OnlyNow G → {start : Run → Outcome World} {result : Result (Unit {0}) Fault} {turn : Result Turn Stop} (old new : Forth D G) (t : T) {x : World}
-      → turn ≡ turn_of (stopped result) → Stands old levels x → Spares old new → Altered start result old new levels x → Turned H n (λ r. and_then (start r) (λ c x. left n levels c x)) turn old new t t x
-  quiet_turned only_now old new t is stands spares h = ran_turned old new t t is (quiet G H only_now old new t stands spares.device spares.at_end h)
+  pub quiet_round : OnlyNow G → {start : Run → Outcome World} {result : Result (Unit {0}) Fault} {round : Result Round Stop} (old new : Forth D G) (t : T) {x : World}
+      → round ≡ round_of (stopped result) → Stands old levels x → Spares old new → Altered start result old new levels x → RanRound H n (λ r. and_then (start r) (λ c x. left n levels c x)) round old new t t x
+  quiet_round only_now old new t is stands spares h = ran_round old new t t is (quiet G H only_now old new t stands spares.device spares.at_end h)
 
-  pub consulted_turned : {start : Run → Outcome World} {result : Result (Unit {0}) Fault} {turn : Result Turn Stop} (old new : Forth D G) (t : T) {x : World}
-      → turn ≡ turn_of (stopped result) → Consulted start result old new levels x → Turned H n (λ r. and_then (start r) (λ c x. left n levels c x)) turn old new t t x
-  consulted_turned old new t is h = ran_turned old new t t is (consulted_ran H t h)
+  pub consulted_round : {start : Run → Outcome World} {result : Result (Unit {0}) Fault} {round : Result Round Stop} (old new : Forth D G) (t : T) {x : World}
+      → round ≡ round_of (stopped result) → Consulted start result old new levels x → RanRound H n (λ r. and_then (start r) (λ c x. left n levels c x)) round old new t t x
+  consulted_round old new t is h = ran_round old new t t is (consulted_ran H t h)
 
-  pub entered_turned : OnlyNow G → {start : Run → Outcome World} {result : Result (Unit {0}) Fault} {turn : Result Turn Stop} (old new : Forth D G) (t : T) {x : World}
-      → turn ≡ turn_of (stopped result) → Stands old levels x → Spares old new → Entered n start result old new x → Turned H n start turn old new t t x
-  entered_turned only_now {start} {result} {turn} old new t {x} is stands spares h =
-      subst (λ turn. Turned H n start turn old new t t x) (sym is) (entered_turn G H only_now n old new levels t stands spares.device spares.at_end h)
+  pub entered_round : OnlyNow G → {start : Run → Outcome World} {result : Result (Unit {0}) Fault} {round : Result Round Stop} (old new : Forth D G) (t : T) {x : World}
+      → round ≡ round_of (stopped result) → Stands old levels x → Spares old new → Entered n start result old new x → RanRound H n start round old new t t x
+  entered_round only_now {start} {result} {round} old new t {x} is stands spares h =
+      subst (λ round. RanRound H n start round old new t t x) (sym is) (round_entered G H only_now n old new levels t stands spares.device spares.at_end h)
 
 -- ---- a word that is no service
 

@@ -3,6 +3,6 @@ use Rattle.cell_machine.specs.declared.event.Op.{Op}
 use Rattle.cell_machine.specs.declared.event.Op.TheVariants as op
 
 -- P, where this is free
-abbrev pub IsFree : Op → Type 0 → Type 0
-IsFree (op.Does place) P = P
-IsFree _ P = Unit {0}
+abbrev pub WhereFree : Op → Type 0 → Type 0
+WhereFree (op.Does place) P = P
+WhereFree _ P = Unit {0}

@@ -20,6 +20,9 @@ language_of x = record { words = x.words; first = x.first; current = x.current; 
 abbrev pub with_language : Language → World → World
 with_language m x = record x { words = m.words; first = m.first; current = m.current; here = m.here; definition = m.definition }
 
+abbrev pub as_it_is : Core → Core
+as_it_is c = c
+
 -- what comes of a step of the language, where the core is then as said
 abbrev pub stepped : Adding Language → (Core → Core) → Core → World → Outcome World
 stepped (Adds m) moved c x = Did (moved c) (with_language m x)

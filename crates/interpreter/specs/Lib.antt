@@ -17,13 +17,13 @@ pub mod Lexicon
 pub mod Stops
 pub mod Standing
 pub mod Serving
-pub mod Turns
+pub mod Rounds
 pub mod Falls
 pub mod Lining
 pub mod Services
 pub mod Compiled
 pub mod Taken
 pub mod Looking
-pub mod TextTurns
+pub mod TextRounds
 pub mod Reading
 pub mod Resting

@@ -17,7 +17,7 @@ use Rattle.interpreter.specs.State as lines_state
 use Rattle.interpreter.specs.State.{World, Run, with_run}
 use Rattle.interpreter.specs.Stops.{fault_of}
 use Rattle.interpreter.specs.Standing.{device, HasModel, Rests}
-use Rattle.interpreter.specs.Serving.{Heard, MapsKept, Lasts}
+use Rattle.interpreter.specs.Serving.{Heard, KeepsAndWears, Lasts}
 
 abbrev pub line_end : LineEnd → lines.LineEnd
 line_end end.Interpreting = lines.LineEnd.Interpreting
@@ -67,17 +67,17 @@ LineComes start deed e c x = LineLeft start deed e c x
 
 module _ {D : Type 0} {G : Ghosts D} where
   -- the same stack and data space: no steps are left over
-  pub record IsLikely (c : Core) (forth : Forth D G) : Type 0 where
+  pub record SameStackAndSpace (c : Core) (forth : Forth D G) : Type 0 where
     pub stack : c.stack ≡ forth.stack
     pub space : c.space ≡ forth.space
 
-  pub record HasSpace (c : Core) (forth : Forth D G) : Type 0 where
+  pub record SameSpace (c : Core) (forth : Forth D G) : Type 0 where
     pub space : c.space ≡ forth.space
 
   -- between two lines the system stands for this
   pub record Waits (opening : lines_state.Forth) (forth : Forth D G) : Type 0 where
     pub budget : opening.budget ≡ forth.budget
-    pub likely : IsLikely opening.core forth
+    pub same_core : SameStackAndSpace opening.core forth
     pub rests : Rests forth opening.world
 
   -- the system stands for this abstract Forth
@@ -87,7 +87,7 @@ module _ {D : Type 0} {G : Ghosts D} where
 
   pub record LineCame (start : Run → Ended) (deed : Deed) (e : LineEnd) (new : Forth D G) (x : World) : Type 0 where
     pub core : Core
-    pub likely : IsLikely core new
+    pub same_core : SameStackAndSpace core new
     pub comes : LineComes start deed e core x
 
 module _ {D T : Type 0} {G : Ghosts D} (H : TerminalGhosts T) where
@@ -99,4 +99,4 @@ module _ {D T : Type 0} {G : Ghosts D} (H : TerminalGhosts T) where
     pub came : HasModel old → LineCame start deed e new world
     pub heard : Heard H (heard_of e) deed was new.at_end terminal terminal'
     pub cause : HasRisenBy deed.failures (G.failures (device old)) (G.failures (device new))
-    pub keeps : HasModel old → MapsKept G x.maps world.maps (device old) (device new) deed.saves deed.wear
+    pub keeps : HasModel old → KeepsAndWears G x.maps world.maps (device old) (device new) deed.saves deed.wear

@@ -6,8 +6,7 @@ use Rattle.sector_disk.specs.Moments.{Elapses}
 use Rattle.sector_disk.specs.declared.device.SectorDevice.{Ghosts}
 use Rattle.journal.specs.Maps.{Maps}
 use Rattle.block_words.specs.Words.{Answer, Save, Wear}
-use Rattle.block_words.specs.Kept.{last_map}
-use Rattle.block_words.specs.Calls.{CallKeeps, WearsAtMost}
+use Rattle.block_words.specs.Calls.{WearsAtMost}
 use Rattle.cell_machine.specs.Fault.{Ending, Quits, Breaks, Faults}
 use Rattle.cell_machine.specs.Frames.{Core, Around, Level, around_of}
 use Rattle.cell_machine.specs.Value.{Outcome, Did, Ends}
@@ -19,7 +18,7 @@ use Rattle.interpreter.specs.declared.forth.Forth.{Forth}
 use Rattle.interpreter.specs.Stops.{fault_of, ending_of}
 use Rattle.interpreter.specs.Deeds.{Deed, before, after, Fits, mended, asking}
 use Rattle.interpreter.specs.Law.{run_after, Grows}
-use Rattle.interpreter.specs.Promise.{HasRisenBy}
+use Rattle.interpreter.specs.Promise.{HasRisenBy, KeepsMaps}
 use Rattle.interpreter.specs.State.{World, Run, with_run}
 use Rattle.interpreter.specs.Standing.{core, device, HasModel, Stands, StandsAfter}
 use Rattle.interpreter.specs.Terminal.{Begins}
@@ -90,12 +89,9 @@ pub record Heard {T : Type 0} (H : TerminalGhosts T) (result : Result (Unit {0})
   pub no_more : was ≡ true → (deed.given ≡ []) × (H.input new ≡ H.input old)
   pub printed : Printed result (H.output old) (H.output new) deed.printed deed.tried
 
--- what a stop may have left since these maps were those of an open store, and how much the device began since
-pub record MapsKept {D : Type 0} (G : Ghosts D) (m m' : Maps) (old new : D) (made : List Save) (wear : Wear) : Type 0 where
-  pub kept : CallKeeps G m.closed old new m.saved made
-  pub shuts : m.closed ≡ true → m'.closed ≡ true
-  pub none : m.closed ≡ true → made ≡ []
-  pub last : m'.closed ≡ false → m'.saved ≡ last_map m.saved made
+-- what a stop may have left since a part of a line began, and how much the device began since
+pub record KeepsAndWears {D : Type 0} (G : Ghosts D) (m m' : Maps) (old new : D) (made : List Save) (wear : Wear) : Type 0 where
+  pub keeps : KeepsMaps G m m' old new made
   pub wears : WearsAtMost G old new wear
 
 -- the device's count of failures after a call, by what an error makes of it
@@ -157,7 +153,7 @@ module _ {D : Type 0} {G : Ghosts D} where
     pub at_end : new.at_end ≡ old.at_end
     pub comes : HasModel old → Comes start (asking answers failures wear saves) (stopped result) (core new) world
     pub cause : HasRisenBy failures (G.failures (device old)) (G.failures (device new))
-    pub keeps : HasModel old → MapsKept G x.maps world.maps (device old) (device new) saves wear
+    pub keeps : HasModel old → KeepsAndWears G x.maps world.maps (device old) (device new) saves wear
 
   abbrev pub Consults : (does : Around → Core → World → Outcome World) → (result : Result (Unit {0}) Fault) → (old new : Forth D G) → Type 0
   Consults does result old new =
@@ -176,7 +172,7 @@ module _ {D : Type 0} {G : Ghosts D} where
     pub at_end : new.at_end ≡ old.at_end
     pub hands : HasModel old → Hands start (asking answers failures wear saves) result (core new) world
     pub cause : HasRisenBy failures (G.failures (device old)) (G.failures (device new))
-    pub keeps : HasModel old → MapsKept G x.maps world.maps (device old) (device new) saves wear
+    pub keeps : HasModel old → KeepsAndWears G x.maps world.maps (device old) (device new) saves wear
 
   abbrev pub HandsOn : {B : Type 0} → (takes : Core → World → (B → Core → World → Outcome World) → Outcome World) → (result : Result B Fault) → (old new : Forth D G) → Type 0
   HandsOn {B} takes result old new =
@@ -203,7 +199,7 @@ module _ {D T : Type 0} {G : Ghosts D} (H : TerminalGhosts T) where
     pub comes : HasModel old → Comes start deed result (core new) world
     pub heard : Heard H result deed old.at_end new.at_end terminal terminal'
     pub cause : HasRisenBy deed.failures (G.failures (device old)) (G.failures (device new))
-    pub keeps : HasModel old → MapsKept G x.maps world.maps (device old) (device new) deed.saves deed.wear
+    pub keeps : HasModel old → KeepsAndWears G x.maps world.maps (device old) (device new) deed.saves deed.wear
 
   -- a service
   abbrev pub Serves : (does : Around → Core → World → Outcome World) → (result : Result (Unit {0}) Stop) → (old new : Forth D G) → (terminal terminal' : T) → Type 0

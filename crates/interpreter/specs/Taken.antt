@@ -1,15 +1,15 @@
--- What is taken from a text: a word or a text, as TAKE of the stream says.
-use Rattle.std.specs.Prelude.{◌≡◌, ℕ, ◌-◌, nat_lt, List, length, take, drop, min, Result, Ok, Err}
-use Rattle.data_space.specs.Space.{cell_at, with_cell, bytes_at}
+-- What is taken from the stream: a word, or a text.
+use Rattle.std.specs.Prelude.{ℕ, nat_lt, List, length, take, min, Result, Ok, Err}
+use Rattle.data_space.specs.Space.{cell_at, bytes_at}
 use Rattle.number_io.specs.Taking.{word_of, after_word, text_of, after_text}
 use Rattle.cell_machine.specs.Fault.{Name}
 use Rattle.cell_machine.specs.Frames.{Core}
 use Rattle.cell_machine.specs.Value.{Outcome}
-use Rattle.interpreter.specs.State.{World, needing, to_in_cell, tib_cell, tib, tib_bytes}
+use Rattle.interpreter.specs.State.{World, needing, tib_cell, tib, tib_bytes}
 use Rattle.interpreter.specs.Streams.{from_stream, take_word}
 use Rattle.interpreter.specs.declared.fault.Fault.{Fault}
-use Rattle.interpreter.specs.declared.services.taking.Cut.{Cut}
-use Rattle.interpreter.specs.declared.services.taking.Cut.TheVariants.{Word, Text}
+use Rattle.interpreter.specs.declared.services.looking.Cut.{Cut}
+use Rattle.interpreter.specs.declared.services.looking.Cut.TheVariants.{Word, Text}
 
 -- what is cut from a text, and what is left after the delimiter behind it
 abbrev pub cut_of : Cut → ℕ → List ℕ → List ℕ
@@ -35,8 +35,3 @@ taken (Err fault) kept = Err fault
 -- the line's text
 abbrev pub line_of : List ℕ → List ℕ
 line_of space = bytes_at space tib (min (cell_at space tib_cell) tib_bytes)
-
--- So many of the bytes that are kept were taken from the text, from >IN on, and >IN stands behind them.
-pub record IsTaken (cut : Cut) (delimiter : ℕ) (text : List ℕ) (count : ℕ) (kept space space' : List ℕ) : Type 0 where
-  pub taken : take count kept ≡ cut_of cut delimiter (drop (cell_at space to_in_cell) text)
-  pub moved : space' ≡ with_cell space to_in_cell (length text - length (after_cut cut delimiter (drop (cell_at space to_in_cell) text)))

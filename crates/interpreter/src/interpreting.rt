@@ -10,9 +10,9 @@ use cell_machine::event::{Event, MachineFault};
 use lexicon::laws::services;
 use sector_disk::SectorDevice;
 
-/// What a turn of the loop leaves to do.
+/// What a round of the loop leaves to do.
 #[derive(Clone, Copy, Debug, PartialEq, Eq)]
-pub enum Turn {
+pub enum Round {
     /// What the machine's place and the return stack say, and then the text.
     GoesOn,
     /// The line's text is at its end.
@@ -42,15 +42,15 @@ impl<D: SectorDevice> Forth<D> {
     ghost use Rattle.interpreter.specs.Standing.{core, device, Stands, IsSound};
     ghost use Rattle.interpreter.specs.Serving.{Ran, Lasts, Tells};
     ghost use Rattle.interpreter.specs.Stops.{stop_count};
-    ghost use Rattle.interpreter.specs.Turns.{Turned, LastsTurn, weight, GoesDown, IsAtText};
+    ghost use Rattle.interpreter.specs.Rounds.{RanRound, LastsRound, weight, GoesDown, IsAtText};
 
     /// What is left to do in the machine, up to what it asks for; and that, or a word of the text.
-    pub(crate) fn turn<T: Terminal>(&mut self, terminal: &mut T) -> Result<Turn, Stop>
+    pub(crate) fn round<T: Terminal>(&mut self, terminal: &mut T) -> Result<Round, Stop>
         requires sound { IsSound self.old }
-        ensures turned { (n : ℕ) (levels : List Level) (x : World) → self.old.steps < n → Stands self.old levels x
-            → Turned T.Terminal n (λ r. left n levels (core self.old) (with_run r x)) result self.old self.new terminal.old terminal.new x }
+        ensures round { (n : ℕ) (levels : List Level) (x : World) → self.old.steps < n → Stands self.old levels x
+            → RanRound T.Terminal n (λ r. left n levels (core self.old) (with_run r x)) result self.old self.new terminal.old terminal.new x }
         ensures down { GoesDown result (weight self.old) (weight self.new) }
-        ensures lasts { LastsTurn D.SectorDevice T.Terminal result (device self.old) (device self.new) terminal.old terminal.new }
+        ensures lasts { LastsRound D.SectorDevice T.Terminal result (device self.old) (device self.new) terminal.old terminal.new }
         ensures tells { Tells stop_count result self.old self.new }
         ensures budget { self.new.budget ≡ self.old.budget }
     {
@@ -73,19 +73,19 @@ impl<D: SectorDevice> Forth<D> {
 
     /// A word of the text, or its end: then the load that it belongs to is over, or the line's text is. It reaches no
     /// terminal.
-    pub(crate) fn read<T: Terminal>(&mut self, terminal: &mut T) -> Result<Turn, Stop>
+    pub(crate) fn read<T: Terminal>(&mut self, terminal: &mut T) -> Result<Round, Stop>
         requires sound { IsSound self.old }
         requires idle { self.old.machine.pending ≡ None }
-        ensures turned { (n : ℕ) (levels : List Level) (x : World) → self.old.steps < n → Stands self.old levels x → IsAtText levels
-            → Turned T.Terminal n (λ r. left n levels (core self.old) (with_run r x)) result self.old self.new terminal.old terminal.new x }
+        ensures round { (n : ℕ) (levels : List Level) (x : World) → self.old.steps < n → Stands self.old levels x → IsAtText levels
+            → RanRound T.Terminal n (λ r. left n levels (core self.old) (with_run r x)) result self.old self.new terminal.old terminal.new x }
         ensures down { GoesDown result (weight self.old) (weight self.new) }
-        ensures lasts { LastsTurn D.SectorDevice T.Terminal result (device self.old) (device self.new) terminal.old terminal.new }
+        ensures lasts { LastsRound D.SectorDevice T.Terminal result (device self.old) (device self.new) terminal.old terminal.new }
         ensures tells { Tells stop_count result self.old self.new }
         ensures budget { self.new.budget ≡ self.old.budget }
     {
         let _ = terminal;
         match self.advance() {
-            Ok(turn) => Ok(turn),
+            Ok(round) => Ok(round),
             Err(fault) => Err(Stop::Fault(fault)),
         }
     }
@@ -99,10 +99,10 @@ impl<D: SectorDevice> Forth<D> {
         ensures tells { Tells stop_count result self.old self.new }
         ensures budget { self.new.budget ≡ self.old.budget }
     {
-        'turns: loop {
-            match self.turn(terminal) {
-                Ok(Turn::GoesOn) => {}
-                Ok(Turn::Over) => return Ok(()),
+        'rounds: loop {
+            match self.round(terminal) {
+                Ok(Round::GoesOn) => {}
+                Ok(Round::Over) => return Ok(()),
                 Err(stop) => return Err(stop),
             }
         }

@@ -44,7 +44,7 @@ pub enum LineEnd {
     Quit,
     /// The reply ended in the fault's name.
     Fault(Fault),
-    /// The terminal failed, and the reply may be cut anywhere.
+    /// The terminal failed. Any beginning of the reply may be all that it took.
     Io,
 }
 
@@ -58,7 +58,7 @@ impl<D: SectorDevice> Forth<D> {
     ghost use Rattle.interpreter.specs.Lines.{replied, ended, after_fault, end_of_line, at_rest, dropped, with_empty_stack, with_line, line};
     ghost use Rattle.interpreter.specs.State.{World, Forth as Abstract, with_run};
     ghost use Rattle.interpreter.specs.Standing.{core, device, Rests, IsAtRest, Stands};
-    ghost use Rattle.interpreter.specs.Lining.{Lined, LastsLine, line_end, IsLikely, HasSpace, Waits, IsSystem, is_broken, Counts};
+    ghost use Rattle.interpreter.specs.Lining.{Lined, LastsLine, line_end, SameStackAndSpace, SameSpace, Waits, IsSystem, is_broken, Counts};
     ghost use Rattle.block_words.specs.Words.{Save};
     ghost use Rattle.interpreter.specs.Promise.{Answers, Keeps};
     ghost use Rattle.interpreter.specs.Serving.{Spares};
@@ -66,7 +66,7 @@ impl<D: SectorDevice> Forth<D> {
     /// STATE and BLK are 0, and no definition is open.
     fn close(&mut self)
         ensures closes { (x : World) → Rests self.old x → Rests self.new (dropped x) }
-        ensures space { (c : Core) → HasSpace c self.old → HasSpace (at_rest c) self.new }
+        ensures space { (c : Core) → SameSpace c self.old → SameSpace (at_rest c) self.new }
         ensures stack { self.new.stack ≡ self.old.stack }
         ensures spares { Spares self.old self.new }
         ensures budget { self.new.budget ≡ self.old.budget }
@@ -79,7 +79,7 @@ impl<D: SectorDevice> Forth<D> {
     /// The same, and the data stack is empty.
     fn abandon(&mut self)
         ensures closes { (x : World) → Rests self.old x → Rests self.new (dropped x) }
-        ensures likely { (c : Core) → HasSpace c self.old → IsLikely (with_empty_stack (at_rest c)) self.new }
+        ensures same_core { (c : Core) → SameSpace c self.old → SameStackAndSpace (with_empty_stack (at_rest c)) self.new }
         ensures spares { Spares self.old self.new }
         ensures budget { self.new.budget ≡ self.old.budget }
     {
@@ -90,7 +90,7 @@ impl<D: SectorDevice> Forth<D> {
     /// Prints the end of the reply.
     fn say<T: Terminal>(&mut self, bytes: &[u8], end: LineEnd, terminal: &mut T) -> LineEnd
         requires { is_broken end ≡ false }
-        ensures lined { (c : Core) (x : World) → IsLikely c self.old → Rests self.old x
+        ensures lined { (c : Core) (x : World) → SameStackAndSpace c self.old → Rests self.old x
             → Lined T.Terminal (λ r. replied (line_end end) (print bytes.now c (with_run r x))) result self.old.at_end self.old self.new terminal.old terminal.new x }
         ensures lasts { LastsLine D.SectorDevice T.Terminal result (device self.old) (device self.new) terminal.old terminal.new }
         ensures tells { D.failures (device self.new) ≡ D.failures (device self.old) }
@@ -108,7 +108,7 @@ impl<D: SectorDevice> Forth<D> {
 
     /// The end of a line that a fault stopped.
     fn fail<T: Terminal>(&mut self, fault: Fault, terminal: &mut T) -> LineEnd
-        ensures lined { (c : Core) (x : World) → HasSpace c self.old → Rests self.old x
+        ensures lined { (c : Core) (x : World) → SameSpace c self.old → Rests self.old x
             → Lined T.Terminal (λ r. after_fault (fault_of fault) c (with_run r x)) result self.old.at_end self.old self.new terminal.old terminal.new x }
         ensures lasts { LastsLine D.SectorDevice T.Terminal result (device self.old) (device self.new) terminal.old terminal.new }
         ensures tells { D.failures (device self.new) ≡ D.failures (device self.old) }
@@ -122,7 +122,7 @@ impl<D: SectorDevice> Forth<D> {
 
     /// The end of a line that `QUIT` left: the data stack stays.
     fn quit<T: Terminal>(&mut self, terminal: &mut T) -> LineEnd
-        ensures lined { (c : Core) (x : World) → IsLikely c self.old → Rests self.old x
+        ensures lined { (c : Core) (x : World) → SameStackAndSpace c self.old → Rests self.old x
             → Lined T.Terminal (λ r. ended (Ends Quits c (with_run r x))) result self.old.at_end self.old self.new terminal.old terminal.new x }
         ensures lasts { LastsLine D.SectorDevice T.Terminal result (device self.old) (device self.new) terminal.old terminal.new }
         ensures tells { D.failures (device self.new) ≡ D.failures (device self.old) }
@@ -135,7 +135,7 @@ impl<D: SectorDevice> Forth<D> {
 
     /// The end of a line that `ABORT` left.
     fn abort<T: Terminal>(&mut self, terminal: &mut T) -> LineEnd
-        ensures lined { (c : Core) (x : World) → HasSpace c self.old → Rests self.old x
+        ensures lined { (c : Core) (x : World) → SameSpace c self.old → Rests self.old x
             → Lined T.Terminal (λ r. ended (Ends Aborts c (with_run r x))) result self.old.at_end self.old self.new terminal.old terminal.new x }
         ensures lasts { LastsLine D.SectorDevice T.Terminal result (device self.old) (device self.new) terminal.old terminal.new }
         ensures tells { D.failures (device self.new) ≡ D.failures (device self.old) }
@@ -155,7 +155,7 @@ impl<D: SectorDevice> Forth<D> {
 
     /// The end of a line whose text came to its end.
     fn finish<T: Terminal>(&mut self, terminal: &mut T) -> LineEnd
-        ensures lined { (c : Core) (x : World) → IsLikely c self.old → Rests self.old x
+        ensures lined { (c : Core) (x : World) → SameStackAndSpace c self.old → Rests self.old x
             → Lined T.Terminal (λ r. end_of_line (compiling c) c (with_run r x)) result self.old.at_end self.old self.new terminal.old terminal.new x }
         ensures lasts { LastsLine D.SectorDevice T.Terminal result (device self.old) (device self.new) terminal.old terminal.new }
         ensures tells { D.failures (device self.new) ≡ D.failures (device self.old) }
@@ -173,7 +173,7 @@ impl<D: SectorDevice> Forth<D> {
     fn take_line(&mut self, text: &[u8])
         requires short { length text.now ≤ 1024 }
         ensures stands { (x : World) → Rests self.old x → Stands self.new [] x }
-        ensures taken { (c : Core) → IsLikely c self.old → core self.new ≡ with_line text.now self.old.budget c }
+        ensures taken { (c : Core) → SameStackAndSpace c self.old → core self.new ≡ with_line text.now self.old.budget c }
         ensures steps { self.new.steps ≡ self.old.budget }
         ensures device { self.new.blocks ≡ self.old.blocks }
         ensures at_end { self.new.at_end ≡ self.old.at_end }

@@ -24,7 +24,7 @@ impl<D: SectorDevice> Forth<D> {
     ghost use Rattle.interpreter.specs.Standing.{core, Rests, Stands};
     ghost use Rattle.interpreter.specs.Serving.{Spares, Tells};
     ghost use Rattle.interpreter.specs.Stops.{fault_count};
-    ghost use Rattle.interpreter.specs.Turns.{Entered};
+    ghost use Rattle.interpreter.specs.Rounds.{Entered};
 
     /// May `EXECUTE` run the word of this token?
     fn may_execute(&self, token: u16) -> bool

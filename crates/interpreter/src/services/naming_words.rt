@@ -6,10 +6,8 @@ ghost use Rattle.interpreter.specs.Naming.{here_moved};
 use crate::fault::Fault;
 use crate::forth::Forth;
 use crate::services::compiling_words::lexicon_fault;
+use lexicon::FIRST_HERE;
 use sector_disk::SectorDevice;
-
-/// Where data fields begin.
-const FIRST_HERE: u16 = 1280;
 
 /// The last address at which `HERE` may stand.
 const LAST_HERE: u16 = 60928;

@@ -1,10 +1,10 @@
-//! The text interpreter's turn: the next word of the stream, done or compiled, or the end of the text.
+//! A round of the loop at the text: the next word of the stream, done or compiled, or the end of the text.
 ghost use Rattle.std.specs.Prelude.{◌≡◌, ◌≤◌, ◌<◌, ℕ, List, ◌∷◌, None, Ok, length, take};
 
 use crate::fault::Fault;
 use crate::forth::Forth;
-use crate::interpreting::Turn;
-use crate::services::looking::Look;
+use crate::interpreting::Round;
+use crate::services::looking::{Cut, Look};
 use crate::system_cells::{BASE, BLK, TO_IN, cell_of};
 use cell_machine::event::Work;
 use dictionary::is_compile_only;
@@ -26,12 +26,12 @@ impl<D: SectorDevice> Forth<D> {
     ghost use Rattle.interpreter.specs.Standing.{core, device, Rests, Stands, IsSound};
     ghost use Rattle.interpreter.specs.Serving.{Alters, Spares, LastsAlone, stopped, Tells};
     ghost use Rattle.interpreter.specs.Stops.{fault_count};
-    ghost use Rattle.interpreter.specs.Turns.{Entered, IsAtText, GoesDown, weight};
+    ghost use Rattle.interpreter.specs.Rounds.{Entered, IsAtText, GoesDown, weight};
     ghost use Rattle.interpreter.specs.Looking.{seen_in};
-    ghost use Rattle.interpreter.specs.TextTurns.{Passed, Advanced, after_text, treated, seen_turn, found_compiling, with_double};
+    ghost use Rattle.interpreter.specs.TextRounds.{Passed, Advanced, after_text, treated, seen_round, found_compiling, with_double};
 
     /// A word of the text, or its end.
-    pub(crate) fn advance(&mut self) -> Result<Turn, Fault>
+    pub(crate) fn advance(&mut self) -> Result<Round, Fault>
         requires sound { IsSound self.old }
         requires idle { self.old.machine.pending ≡ None }
         ensures advanced { (n : ℕ) (levels : List Level) (x : World) → self.old.steps < n → Stands self.old levels x → IsAtText levels
@@ -41,20 +41,20 @@ impl<D: SectorDevice> Forth<D> {
         ensures tells { Tells fault_count result self.old self.new }
         ensures budget { self.new.budget ≡ self.old.budget }
     {
-        match self.look() {
+        match self.look(Cut::Word, b' ') {
             Ok(look) => self.pass(look),
             Err(fault) => Err(fault),
         }
     }
 
     /// The word that was looked at is taken and done. Where there is none, the text is at its end.
-    fn pass(&mut self, look: Look) -> Result<Turn, Fault>
+    fn pass(&mut self, look: Look) -> Result<Round, Fault>
         requires sound { IsSound self.old }
         requires idle { self.old.machine.pending ≡ None }
         requires within { look.count ≤ 1024 }
         requires whole { length (take look.count self.old.text) ≡ look.count }
         ensures passed { (n : ℕ) (levels : List Level) (x : World) → self.old.steps < n → Stands self.old levels x → IsAtText levels
-            → Passed n (λ r. seen_turn n levels (seen_in look self.old.text) (core self.old) (with_run r x)) result self.old self.new x }
+            → Passed n (λ r. seen_round n levels (seen_in look self.old.text) (core self.old) (with_run r x)) result self.old self.new x }
         ensures down { GoesDown (stopped result) (weight self.old) (weight self.new) }
         ensures spares { Spares self.old self.new }
         ensures tells { Tells fault_count result self.old self.new }
@@ -69,13 +69,13 @@ impl<D: SectorDevice> Forth<D> {
         self.steps -= 1;
         self.space.set_cell(TO_IN, look.behind);
         match self.treat(look.count) {
-            Ok(()) => Ok(Turn::GoesOn),
+            Ok(()) => Ok(Round::GoesOn),
             Err(fault) => Err(fault),
         }
     }
 
     /// The end of the text: of a load, and what stood around it goes on; or of the line.
-    fn leave_text(&mut self) -> Turn
+    fn leave_text(&mut self) -> Round
         requires idle { self.old.machine.pending ≡ None }
         ensures passed { (n : ℕ) (levels : List Level) (x : World) → Stands self.old levels x → IsAtText levels
             → Passed n (λ r. after_text n levels (core self.old) (with_run r x)) (Ok result) self.old self.new x }
@@ -84,14 +84,14 @@ impl<D: SectorDevice> Forth<D> {
     {
         levels();
         let Ok(entry) = self.returns.pop() else {
-            return Turn::Over;
+            return Round::Over;
         };
         let Entry::Load { block, to_in } = entry else {
-            return Turn::Over;
+            return Round::Over;
         };
         self.space.set_cell(BLK, block);
         self.space.set_cell(TO_IN, to_in);
-        Turn::GoesOn
+        Round::GoesOn
     }
 
     /// A word of the text: one that the search finds, or a number.

@@ -1,33 +1,33 @@
 //! The services that the machine asks for, by their kinds.
 ghost use Rattle.std.specs.Prelude.{◌≡◌};
 ghost use Rattle.interpreter.specs.Serving.{stopped};
-ghost use Rattle.interpreter.specs.Turns.{turn_of};
+ghost use Rattle.interpreter.specs.Rounds.{round_of};
 
 use super::table::{DeviceWord, QuietWord, Service, TerminalWord, service_of};
 use crate::fault::{Fault, Stop};
 use crate::forth::Forth;
-use crate::interpreting::Turn;
+use crate::interpreting::Round;
 use crate::terminal::Terminal;
 use cell_machine::event::Op;
 use lexicon::TextKind;
 use sector_disk::SectorDevice;
 
 /// The line goes on where the service is done.
-fn goes_on(done: Result<(), Stop>) -> Result<Turn, Stop>
-    ensures { result ≡ turn_of done }
+fn goes_on(done: Result<(), Stop>) -> Result<Round, Stop>
+    ensures { result ≡ round_of done }
 {
     match done {
-        Ok(()) => Ok(Turn::GoesOn),
+        Ok(()) => Ok(Round::GoesOn),
         Err(stop) => Err(stop),
     }
 }
 
 /// The same of what reaches no terminal.
-fn goes_on_quietly(done: Result<(), Fault>) -> Result<Turn, Stop>
-    ensures { result ≡ turn_of (stopped done) }
+fn goes_on_quietly(done: Result<(), Fault>) -> Result<Round, Stop>
+    ensures { result ≡ round_of (stopped done) }
 {
     match done {
-        Ok(()) => Ok(Turn::GoesOn),
+        Ok(()) => Ok(Round::GoesOn),
         Err(fault) => Err(Stop::Fault(fault)),
     }
 }
@@ -47,12 +47,12 @@ impl<D: SectorDevice> Forth<D> {
     ghost use Rattle.interpreter.specs.Terminals.{print};
     ghost use Rattle.interpreter.specs.Law.{left};
     ghost use Rattle.interpreter.specs.Lexicon.{language_of, IsDue};
-    ghost use Rattle.interpreter.specs.Falls.{IsFree};
+    ghost use Rattle.interpreter.specs.Falls.{WhereFree};
     ghost use Rattle.interpreter.specs.Services.{quiet_word, device_word, terminal_word, service_in};
     ghost use Rattle.interpreter.specs.Standing.{core, device, Stands, IsSound};
     ghost use Rattle.interpreter.specs.Serving.{Alters, Altered, Spares, Consults, LastsAlone, Serves, Lasts, Tells};
     ghost use Rattle.interpreter.specs.Stops.{fault_count, stop_count};
-    ghost use Rattle.interpreter.specs.Turns.{Turned, LastsTurn, weight};
+    ghost use Rattle.interpreter.specs.Rounds.{RanRound, LastsRound, weight};
 
     /// A word that reaches neither device nor terminal.
     fn quiet(&mut self, word: QuietWord) -> Result<(), Fault>
@@ -143,13 +143,13 @@ impl<D: SectorDevice> Forth<D> {
     }
 
     /// A service of the table.
-    fn do_service<T: Terminal>(&mut self, service: Service, terminal: &mut T) -> Result<Turn, Stop>
+    fn do_service<T: Terminal>(&mut self, service: Service, terminal: &mut T) -> Result<Round, Stop>
         requires standing { IsSound self.old }
         requires sound { IsSoundLexicon self.old.lexicon }
         requires idle { self.old.machine.pending ≡ None }
-        ensures turned { (m : ℕ) (levels : List Level) (x : World) → self.old.steps ≤ m → Stands self.old levels x
-            → Turned T.Terminal (suc m) (λ r. and_then (on_service (suc m) (λ a due c x. serve m a due c x) (service_in service) (around_of levels) (core self.old) (with_run r x)) (λ c x. left (suc m) levels c x)) result self.old self.new terminal.old terminal.new x }
-        ensures lasts { LastsTurn D.SectorDevice T.Terminal result (device self.old) (device self.new) terminal.old terminal.new }
+        ensures round { (m : ℕ) (levels : List Level) (x : World) → self.old.steps ≤ m → Stands self.old levels x
+            → RanRound T.Terminal (suc m) (λ r. and_then (on_service (suc m) (λ a due c x. serve m a due c x) (service_in service) (around_of levels) (core self.old) (with_run r x)) (λ c x. left (suc m) levels c x)) result self.old self.new terminal.old terminal.new x }
+        ensures lasts { LastsRound D.SectorDevice T.Terminal result (device self.old) (device self.new) terminal.old terminal.new }
         ensures tells { Tells stop_count result self.old self.new }
         ensures budget { self.new.budget ≡ self.old.budget }
     {
@@ -178,13 +178,13 @@ impl<D: SectorDevice> Forth<D> {
     }
 
     /// The word of this token.
-    fn do_word<T: Terminal>(&mut self, token: u16, terminal: &mut T) -> Result<Turn, Stop>
+    fn do_word<T: Terminal>(&mut self, token: u16, terminal: &mut T) -> Result<Round, Stop>
         requires standing { IsSound self.old }
         requires sound { IsSoundLexicon self.old.lexicon }
         requires idle { self.old.machine.pending ≡ None }
-        ensures turned { (m : ℕ) (levels : List Level) (x : World) → self.old.steps ≤ m → Stands self.old levels x → meanings (language_of x) token ≡ Outside
-            → Turned T.Terminal (suc m) (λ r. and_then (serve (suc m) (around_of levels) (Word token) (core self.old) (with_run r x)) (λ c x. left (suc m) levels c x)) result self.old self.new terminal.old terminal.new x }
-        ensures lasts { LastsTurn D.SectorDevice T.Terminal result (device self.old) (device self.new) terminal.old terminal.new }
+        ensures round { (m : ℕ) (levels : List Level) (x : World) → self.old.steps ≤ m → Stands self.old levels x → meanings (language_of x) token ≡ Outside
+            → RanRound T.Terminal (suc m) (λ r. and_then (serve (suc m) (around_of levels) (Word token) (core self.old) (with_run r x)) (λ c x. left (suc m) levels c x)) result self.old self.new terminal.old terminal.new x }
+        ensures lasts { LastsRound D.SectorDevice T.Terminal result (device self.old) (device self.new) terminal.old terminal.new }
         ensures tells { Tells stop_count result self.old self.new }
         ensures budget { self.new.budget ≡ self.old.budget }
     {
@@ -222,13 +222,13 @@ impl<D: SectorDevice> Forth<D> {
     }
 
     /// The service that the machine asks for.
-    pub(crate) fn serve<T: Terminal>(&mut self, op: Op, terminal: &mut T) -> Result<Turn, Stop>
+    pub(crate) fn serve<T: Terminal>(&mut self, op: Op, terminal: &mut T) -> Result<Round, Stop>
         requires asked { (levels : List Level) × (x : World) × (due : Due) × (Stands self.old levels x × IsDue self.old.lexicon (language_of x) op due) }
         requires idle { self.old.machine.pending ≡ None }
-        ensures turned { (n : ℕ) (levels : List Level) (x : World) (due : Due) → self.old.steps < n → Stands self.old levels x → IsDue self.old.lexicon (language_of x) op due
-            → Turned T.Terminal n (λ r. and_then (serve n (around_of levels) due (core self.old) (with_run r x)) (λ c x. left n levels c x)) result self.old self.new terminal.old terminal.new x }
-        ensures given { IsFree op (weight self.new ≤ weight self.old) }
-        ensures lasts { LastsTurn D.SectorDevice T.Terminal result (device self.old) (device self.new) terminal.old terminal.new }
+        ensures round { (n : ℕ) (levels : List Level) (x : World) (due : Due) → self.old.steps < n → Stands self.old levels x → IsDue self.old.lexicon (language_of x) op due
+            → RanRound T.Terminal n (λ r. and_then (serve n (around_of levels) due (core self.old) (with_run r x)) (λ c x. left n levels c x)) result self.old self.new terminal.old terminal.new x }
+        ensures given { WhereFree op (weight self.new ≤ weight self.old) }
+        ensures lasts { LastsRound D.SectorDevice T.Terminal result (device self.old) (device self.new) terminal.old terminal.new }
         ensures tells { Tells stop_count result self.old self.new }
         ensures budget { self.new.budget ≡ self.old.budget }
     {

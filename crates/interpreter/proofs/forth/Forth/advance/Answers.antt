@@ -1,8 +1,8 @@
 use Rattle.std.proofs.Common.{Err, ap, ◌∙◌, arith}
 use Rattle.interpreter.specs.State.{with_run}
 use Rattle.interpreter.specs.Standing.{core}
-use Rattle.interpreter.specs.TextTurns.{seen_turn}
-use Rattle.interpreter.specs.Turns.{weight}
+use Rattle.interpreter.specs.TextRounds.{seen_round}
+use Rattle.interpreter.specs.Rounds.{weight}
 use Rattle.interpreter.proofs.Advancing.{looks_on, handed_passed, handed_stopped, advanced_as, down_from}
 use Rattle.interpreter.proofs.forth.Forth.advance.Goals as goal
 
@@ -17,7 +17,7 @@ returns-in-Ok-clause-advanced g c = λ n levels x less stands at.
     let old = c.args.self.now in
     let h = c.in-Ok.ensures.hands levels x stands in
     advanced_as n _ c.pass.result (λ r. looks_on n levels (core old) (with_run r x) less at)
-    (handed_passed n (λ s c' y. seen_turn n levels s c' y) c.pass.result old _ c.pass.new.self h c.pass.ensures.spares.device c.pass.ensures.spares.at_end
+    (handed_passed n (λ s c' y. seen_round n levels s c' y) c.pass.result old _ c.pass.new.self h c.pass.ensures.spares.device c.pass.ensures.spares.at_end
     (c.pass.ensures.passed n levels h.world (omega (arith, h.steps, less)) h.stands at))
 
 pub returns-in-Ok-clause-down : goal.returns-in-Ok-clause-down
@@ -26,4 +26,4 @@ returns-in-Ok-clause-down g c = down_from c.pass.result (weight c.args.self.now)
 pub returns-in-Err-clause-advanced : goal.returns-in-Err-clause-advanced
 returns-in-Err-clause-advanced g c = λ n levels x less stands at.
     advanced_as n _ (Err c.in-Err.fault) (λ r. looks_on n levels (core c.args.self.now) (with_run r x) less at)
-    (handed_stopped n (λ s c' y. seen_turn n levels s c' y) (c.in-Err.ensures.hands levels x stands))
+    (handed_stopped n (λ s c' y. seen_round n levels s c' y) (c.in-Err.ensures.hands levels x stands))

@@ -14,7 +14,7 @@ returns-clause-lined g c = λ d x space rests.
     lined_as g.T.Terminal _ c.say.result c.args.self.now x
     (λ r. ap (λ l. replied (lines.LineEnd.Fails (fault_of c.args.fault)) (print l (with_empty_stack (at_rest d)) (with_run r (dropped x)))) (sym c.fault_text-text.ensures ∙ sym c.as_slice.ensures.value))
     c.abandon.ensures.spares.device c.abandon.ensures.spares.at_end refl
-    (c.say.ensures.lined (with_empty_stack (at_rest d)) (dropped x) (c.abandon.ensures.likely d space) (c.abandon.ensures.closes x rests))
+    (c.say.ensures.lined (with_empty_stack (at_rest d)) (dropped x) (c.abandon.ensures.same_core d space) (c.abandon.ensures.closes x rests))
 
 pub returns-clause-counts : goal.returns-clause-counts
 returns-clause-counts g c = λ count. c.say.ensures.counts count (fault_count c.args.fault count) (fault_counts c.args.fault count)

@@ -1,18 +1,16 @@
 use Rattle.std.proofs.Common.{refl, arith}
-use Rattle.cell_machine.specs.Frames.{around_of}
 use Rattle.lexicon.specs.Language.{marking}
-use Rattle.interpreter.specs.State.{with_run}
 use Rattle.interpreter.specs.Standing.{core}
-use Rattle.interpreter.proofs.Lexical.{as_it_is, marked_is}
+use Rattle.interpreter.specs.Lexicon.{as_it_is}
 use Rattle.interpreter.proofs.Stepping.{step_done, step_refused}
 use Rattle.interpreter.proofs.forth.Forth.immediate.Goals as goal
 
 pub returns-in-Ok-clause-alters : goal.returns-in-Ok-clause-alters
 returns-in-Ok-clause-alters g c = λ levels x stands.
     step_done c.args.self.now _ c.args.self.now.lexicon marking as_it_is (core c.args.self.now) stands c.in-Ok.ensures.marked
-    (λ r. marked_is (around_of levels) (core c.args.self.now) (with_run r x)) refl (omega arith)
+    (λ r. refl) refl (omega arith)
 
 pub returns-in-Err-clause-alters : goal.returns-in-Err-clause-alters
 returns-in-Err-clause-alters g c = λ levels x stands.
     step_refused c.args.self.now _ c.args.self.now.lexicon marking as_it_is (core c.args.self.now) stands c.in-Err.ensures.refused c.lexicon_fault.ensures.fault
-    (λ r. marked_is (around_of levels) (core c.args.self.now) (with_run r x)) refl (omega arith)
+    (λ r. refl) refl (omega arith)

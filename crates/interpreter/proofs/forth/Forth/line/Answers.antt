@@ -13,7 +13,7 @@ pub returns-then-text-gt-LINE_LIMIT-clause-lined : goal.returns-then-text-gt-LIN
 returns-then-text-gt-LINE_LIMIT-clause-lined g c = λ opening waits.
     let long : nat_le (length c.args.text.now) 1024 ≡ false = lt-leb _ _ (omega (arith, c.if-text-gt-LINE_LIMIT.true)) in
     lined_as g.T.Terminal _ c.fail.result c.args.self.now opening.world (line_too_long opening c.args.text.now long) refl refl refl
-    (c.fail.ensures.lined opening.core opening.world (record { space = waits.likely.space }) waits.rests)
+    (c.fail.ensures.lined opening.core opening.world (record { space = waits.same_core.space }) waits.rests)
 
 pub interpret-requires : goal.interpret-requires
 interpret-requires g c = record { sound = ([], c.requires.sound.0, c.take_line.ensures.stands c.requires.sound.0 c.requires.sound.1) }
@@ -22,7 +22,7 @@ pub returns-in-Ok-clause-lined : goal.returns-in-Ok-clause-lined
 returns-in-Ok-clause-lined g c = λ opening waits.
     let D = g.met.D.SectorDevice in
     let short : nat_le (length c.args.text.now) 1024 ≡ true = le-leb _ _ (omega (arith, c.if-text-gt-LINE_LIMIT.false)) in
-    let opens = line_opens opening c.args.text.now c.args.self.now.budget (core c.take_line.new.self) waits.budget short (c.take_line.ensures.taken opening.core (record { stack = waits.likely.stack; space = waits.likely.space })) in
+    let opens = line_opens opening c.args.text.now c.args.self.now.budget (core c.take_line.new.self) waits.budget short (c.take_line.ensures.taken opening.core (record { stack = waits.same_core.stack; space = waits.same_core.space })) in
     let h = c.in-Ok.ensures.ran (suc c.args.self.now.budget) [] opening.world (omega (arith, c.take_line.ensures.steps)) (c.take_line.ensures.stands opening.world waits.rests) in
     lined_as g.T.Terminal _ c.finish.result c.args.self.now opening.world (λ r. refl) c.take_line.ensures.device c.take_line.ensures.at_end refl
     (over_lined g.D.SectorDevice g.T.Terminal D.counts_now D.widens D.only_now _ h opens c.in-Ok.ensures.lasts c.finish.ensures.lasts
@@ -32,18 +32,18 @@ pub returns-in-Err-Io-clause-lined : goal.returns-in-Err-Io-clause-lined
 returns-in-Err-Io-clause-lined g c = λ opening waits.
     let D = g.met.D.SectorDevice in
     let short : nat_le (length c.args.text.now) 1024 ≡ true = le-leb _ _ (omega (arith, c.if-text-gt-LINE_LIMIT.false)) in
-    let opens = line_opens opening c.args.text.now c.args.self.now.budget (core c.take_line.new.self) waits.budget short (c.take_line.ensures.taken opening.core (record { stack = waits.likely.stack; space = waits.likely.space })) in
+    let opens = line_opens opening c.args.text.now c.args.self.now.budget (core c.take_line.new.self) waits.budget short (c.take_line.ensures.taken opening.core (record { stack = waits.same_core.stack; space = waits.same_core.space })) in
     let ran = rw c.in-Err-Io.field-0-is at c.in-Err-Io.ensures.ran in
     let h = ran (suc c.args.self.now.budget) [] opening.world (omega (arith, c.take_line.ensures.steps)) (c.take_line.ensures.stands opening.world waits.rests) in
     lined_as g.T.Terminal _ end.Io c.args.self.now opening.world (λ r. refl) c.take_line.ensures.device c.take_line.ensures.at_end refl
     (broke_lined g.D.SectorDevice g.T.Terminal D.counts_now D.widens D.only_now _ c.abandon.new.self h opens c.abandon.ensures.spares.device c.abandon.ensures.spares.at_end
-    (λ d space. c.abandon.ensures.likely d space) (c.abandon.ensures.closes h.world h.stands))
+    (λ d space. c.abandon.ensures.same_core d space) (c.abandon.ensures.closes h.world h.stands))
 
 pub returns-in-Err-Fault-clause-lined : goal.returns-in-Err-Fault-clause-lined
 returns-in-Err-Fault-clause-lined g c = λ opening waits.
     let D = g.met.D.SectorDevice in
     let short : nat_le (length c.args.text.now) 1024 ≡ true = le-leb _ _ (omega (arith, c.if-text-gt-LINE_LIMIT.false)) in
-    let opens = line_opens opening c.args.text.now c.args.self.now.budget (core c.take_line.new.self) waits.budget short (c.take_line.ensures.taken opening.core (record { stack = waits.likely.stack; space = waits.likely.space })) in
+    let opens = line_opens opening c.args.text.now c.args.self.now.budget (core c.take_line.new.self) waits.budget short (c.take_line.ensures.taken opening.core (record { stack = waits.same_core.stack; space = waits.same_core.space })) in
     let ran = rw c.in-Err-Fault.field-0-is at c.in-Err-Fault.ensures.ran in
     let h = ran (suc c.args.self.now.budget) [] opening.world (omega (arith, c.take_line.ensures.steps)) (c.take_line.ensures.stands opening.world waits.rests) in
     let lasts = rw c.in-Err-Fault.field-0-is at c.in-Err-Fault.ensures.lasts in
@@ -55,7 +55,7 @@ pub returns-in-Err-Quit-clause-lined : goal.returns-in-Err-Quit-clause-lined
 returns-in-Err-Quit-clause-lined g c = λ opening waits.
     let D = g.met.D.SectorDevice in
     let short : nat_le (length c.args.text.now) 1024 ≡ true = le-leb _ _ (omega (arith, c.if-text-gt-LINE_LIMIT.false)) in
-    let opens = line_opens opening c.args.text.now c.args.self.now.budget (core c.take_line.new.self) waits.budget short (c.take_line.ensures.taken opening.core (record { stack = waits.likely.stack; space = waits.likely.space })) in
+    let opens = line_opens opening c.args.text.now c.args.self.now.budget (core c.take_line.new.self) waits.budget short (c.take_line.ensures.taken opening.core (record { stack = waits.same_core.stack; space = waits.same_core.space })) in
     let ran = rw c.in-Err-Quit.field-0-is at c.in-Err-Quit.ensures.ran in
     let h = ran (suc c.args.self.now.budget) [] opening.world (omega (arith, c.take_line.ensures.steps)) (c.take_line.ensures.stands opening.world waits.rests) in
     let lasts = rw c.in-Err-Quit.field-0-is at c.in-Err-Quit.ensures.lasts in
@@ -67,7 +67,7 @@ pub returns-in-Err-Abort-clause-lined : goal.returns-in-Err-Abort-clause-lined
 returns-in-Err-Abort-clause-lined g c = λ opening waits.
     let D = g.met.D.SectorDevice in
     let short : nat_le (length c.args.text.now) 1024 ≡ true = le-leb _ _ (omega (arith, c.if-text-gt-LINE_LIMIT.false)) in
-    let opens = line_opens opening c.args.text.now c.args.self.now.budget (core c.take_line.new.self) waits.budget short (c.take_line.ensures.taken opening.core (record { stack = waits.likely.stack; space = waits.likely.space })) in
+    let opens = line_opens opening c.args.text.now c.args.self.now.budget (core c.take_line.new.self) waits.budget short (c.take_line.ensures.taken opening.core (record { stack = waits.same_core.stack; space = waits.same_core.space })) in
     let ran = rw c.in-Err-Abort.field-0-is at c.in-Err-Abort.ensures.ran in
     let h = ran (suc c.args.self.now.budget) [] opening.world (omega (arith, c.take_line.ensures.steps)) (c.take_line.ensures.stands opening.world waits.rests) in
     let lasts = rw c.in-Err-Abort.field-0-is at c.in-Err-Abort.ensures.lasts in

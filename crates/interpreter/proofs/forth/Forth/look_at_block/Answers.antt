@@ -1,5 +1,5 @@
 use Rattle.std.proofs.Common.{◌-◌, ℕ, List, [], Ok, Err, refl, ap, sym, ◌∙◌, arith, length, drop}
-use Rattle.number_io.specs.Taking.{word_of, after_word}
+use Rattle.interpreter.specs.Taken.{cut_of, after_cut}
 use Rattle.block_words.specs.Words.{source}
 use Rattle.cell_machine.specs.Fault.{Faults}
 use Rattle.cell_machine.specs.Value.{Ends}
@@ -16,8 +16,8 @@ returns-in-Ok-clause-hands g c = λ levels x stands.
     let text = c.source.new.out in
     let h = called g.D.SectorDevice (source c.args.block) (Ok text) (λ m. []) old.blocks c.source.new.self old.space old.space
     c.in-Ok.ensures.runs (λ m shut. refl) (tells_left {A = Unit {0}} (Ok tt) text _ _ c.in-Ok.ensures.asks.failures) c.in-Ok.ensures.asks.continues.model stands.rests in
-    let word = c.keep-count.ensures.taken ∙ ap (λ n. word_of 32 (drop n text)) c.cell_of-to_in.ensures in
-    let behind = c.keep-count.ensures.moved ∙ ap (λ n. length text - length (after_word 32 (drop n text))) c.cell_of-to_in.ensures in
+    let word = c.keep-count.ensures.taken ∙ ap (λ n. cut_of c.args.cut c.args.delimiter (drop n text)) c.cell_of-to_in.ensures in
+    let behind = c.keep-count.ensures.moved ∙ ap (λ n. length text - length (after_cut c.args.cut c.args.delimiter (drop n text))) c.cell_of-to_in.ensures in
     record {
       answers = h.answers;
       failures = 0;
@@ -28,9 +28,9 @@ returns-in-Ok-clause-hands g c = λ levels x stands.
       steps = omega arith;
       at_end = refl;
       hands = λ model r go.
-          from_block go c.args.block (core old) _ c.requires.block c.requires.loaded
-          ∙ comes_of h model r (core old) (looks go)
-          ∙ sym (λ t. go (record { word = word t; behind = behind t }) (core old) (with_run (after (deed h) r) (world h)));
+          from_block c.args.cut c.args.delimiter go c.args.block (core old) _ c.requires.block c.requires.loaded
+          ∙ comes_of h model r (core old) (looks c.args.cut c.args.delimiter go)
+          ∙ sym (λ t. go (record { bytes = word t; behind = behind t }) (core old) (with_run (after (deed h) r) (world h)));
       cause = h.cause;
       keeps = h.keeps;
     }
@@ -52,8 +52,8 @@ returns-in-Err-clause-hands g c = λ levels x stands.
       hands = λ model. (
         core old,
         refl,
-        λ r go. from_block go c.args.block (core old) _ c.requires.block c.requires.loaded
-            ∙ comes_of h model r (core old) (looks go)
+        λ r go. from_block c.args.cut c.args.delimiter go c.args.block (core old) _ c.requires.block c.requires.loaded
+            ∙ comes_of h model r (core old) (looks c.args.cut c.args.delimiter go)
             ∙ ap (λ f. Ends (Faults f) (core old) (with_run (after (deed h) r) (world h))) (sym c.block_fault.ensures.fault),
       );
       cause = h.cause;

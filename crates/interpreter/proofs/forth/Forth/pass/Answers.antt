@@ -2,10 +2,10 @@ use Rattle.std.proofs.Common.{◌≡◌, ◌<◌, ◌-◌, length, take, Ok, Err
 use Rattle.std.proofs.lemmas.Grind.{common_steps}
 use Rattle.data_space.specs.Space.{with_cell}
 use Rattle.stacks.specs.Stacks.{units}
-use Rattle.interpreter.specs.declared.interpreting.Turn.TheVariants.{GoesOn}
+use Rattle.interpreter.specs.declared.interpreting.Round.TheVariants.{GoesOn}
 use Rattle.interpreter.specs.State.{with_run, set_cell, to_in_cell}
 use Rattle.interpreter.specs.Standing.{core}
-use Rattle.interpreter.specs.TextTurns.{after_text, treated}
+use Rattle.interpreter.specs.TextRounds.{after_text, treated}
 use Rattle.interpreter.proofs.Treating.{no-word, word-unpaid, word-paid}
 use Rattle.interpreter.proofs.Advancing.{entered_passed, passed_as, paid_down}
 use Rattle.interpreter.proofs.forth.Forth.pass.Goals as goal

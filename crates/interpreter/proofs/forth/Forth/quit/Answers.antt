@@ -4,6 +4,6 @@ use Rattle.interpreter.proofs.Lining.{lined_as}
 use Rattle.interpreter.proofs.forth.Forth.quit.Goals as goal
 
 pub returns-clause-lined : goal.returns-clause-lined
-returns-clause-lined g c = λ d x likely rests.
+returns-clause-lined g c = λ d x same_core rests.
     lined_as g.T.Terminal _ c.say.result c.args.self.now x (λ r. refl) c.close.ensures.spares.device c.close.ensures.spares.at_end refl
-    (c.say.ensures.lined (at_rest d) (dropped x) (record { stack = likely.stack ∙ sym c.close.ensures.stack; space = (c.close.ensures.space d (record { space = likely.space })).space }) (c.close.ensures.closes x rests))
+    (c.say.ensures.lined (at_rest d) (dropped x) (record { stack = same_core.stack ∙ sym c.close.ensures.stack; space = (c.close.ensures.space d (record { space = same_core.space })).space }) (c.close.ensures.closes x rests))

@@ -1,19 +1,25 @@
-use Rattle.std.proofs.Common.{Ok, take, refl, sym, subst, ◌∙◌, arith}
-use Rattle.interpreter.specs.State.{with_run}
+use Rattle.std.proofs.Common.{◌≡◌, ℕ, List, take, refl, ap, sym, arith}
+use Rattle.std.proofs.lemmas.Grind.{common_steps}
+use Rattle.data_space.specs.Space.{with_cell}
+use Rattle.cell_machine.specs.Frames.{Core}
+use Rattle.cell_machine.specs.Value.{Outcome}
+use Rattle.interpreter.specs.State.{World, with_run, set_cell, to_in_cell}
 use Rattle.interpreter.specs.Standing.{core}
-use Rattle.interpreter.specs.Serving.{Handed}
-use Rattle.interpreter.specs.Taken.{take_cut, line_of}
-use Rattle.interpreter.specs.declared.forth.Forth.{Forth}
-use Rattle.interpreter.proofs.Called.{handed_quiet}
-use Rattle.interpreter.proofs.Taking.{from_line, cuts_kept}
+use Rattle.interpreter.specs.Looking.{Seen}
+use Rattle.interpreter.proofs.Called.{handed_moved, handed_fault}
 use Rattle.interpreter.proofs.forth.Forth.take.Goals as goal
 
-pub returns-in-0-clause-hands : goal.returns-in-0-clause-hands
-returns-in-0-clause-hands g c = λ levels x stands.
-    let old = c.args.self.now in
-    let new = c.take_of_line.new.self in
-    let line = c.take_of_line.ensures.taken in
-    subst (λ (n : Forth g.row.D.Denot g.D.SectorDevice). Handed (λ r go. take_cut c.args.cut c.args.delimiter (core old) (with_run r x) go) (Ok (take c.take_of_line.result new.text)) old n levels x)
-    (sym c.take_of_line.ensures.rest)
-    (handed_quiet g.D.SectorDevice g.met.D.SectorDevice.only_now old (record old { space = new.space; text = new.text }) stands stands refl refl (omega arith)
-    (λ r go. from_line c.args.cut c.args.delimiter go (core old) (with_run r x) (sym c.in-0.is ∙ c.cell_of.ensures) ∙ cuts_kept c.args.cut c.args.delimiter go (line_of old.space) _ _ _ (core old) (with_run r x) line))
+-- >IN is then moved behind it
+abbrev moved : (List ℕ → Core → World → Outcome World) → Seen → Core → World → Outcome World
+moved go seen c x = go seen.bytes (set_cell to_in_cell seen.behind c) x
+
+pub returns-in-Ok-clause-hands : goal.returns-in-Ok-clause-hands
+returns-in-Ok-clause-hands g c = λ levels x stands.
+    let mid = c.look.new.self in
+    let h = c.in-Ok.ensures.hands levels x stands in
+    let wrote : c.set_cell.new.self ≡ with_cell mid.space 20 c.in-Ok.look.behind = grind (arith, common_steps, c.set_cell.ensures.after, c.set_cell.ensures.within) in
+    handed_moved c.set_cell.new.self moved (λ r go. refl) h
+    (λ r go. ap (λ s. go (take c.in-Ok.look.count mid.text) (record (core mid) { space = s }) (with_run r h.world)) (sym wrote))
+
+pub returns-in-Err-clause-hands : goal.returns-in-Err-clause-hands
+returns-in-Err-clause-hands g c = λ levels x stands. handed_fault moved (λ r go. refl) (c.in-Err.ensures.hands levels x stands)

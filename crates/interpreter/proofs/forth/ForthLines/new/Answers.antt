@@ -26,7 +26,7 @@ returns-clause-opens g c = λ m gives.
     record {
       waits = record {
         budget = refl;
-        likely = record { stack = sym c.new-2.ensures; space = ap (λ l. with_cell l 16 10) (sym c.in_ok-space.ensures.zero) ∙ sym wrote };
+        same_core = record { stack = sym c.new-2.ensures; space = ap (λ l. with_cell l 16 10) (sym c.in_ok-space.ensures.zero) ∙ sym wrote };
         rests = record {
           meant = c.in_ok-new.ensures;
           held_end = refl;

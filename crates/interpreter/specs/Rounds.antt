@@ -1,4 +1,4 @@
--- What a turn of a line's loop promises.
+-- What a round of a line's loop promises.
 use Rattle.std.specs.Prelude.{◌≡◌, ℕ, ◌<◌, ◌≤◌, List, [], ◌∷◌, Result, Ok, Err}
 use Rattle.sector_disk.specs.declared.device.SectorDevice.{Ghosts}
 use Rattle.cell_machine.specs.Frames.{Core, Level, Load}
@@ -8,8 +8,8 @@ use Rattle.cell_machine.specs.Fault.{Faults}
 use Rattle.interpreter.specs.declared.fault.Fault.{Fault}
 use Rattle.interpreter.specs.Stops.{fault_of}
 use Rattle.interpreter.specs.declared.fault.Stop.{Stop}
-use Rattle.interpreter.specs.declared.interpreting.Turn.{Turn}
-use Rattle.interpreter.specs.declared.interpreting.Turn.TheVariants.{GoesOn, Over}
+use Rattle.interpreter.specs.declared.interpreting.Round.{Round}
+use Rattle.interpreter.specs.declared.interpreting.Round.TheVariants.{GoesOn, Over}
 use Rattle.interpreter.specs.declared.forth.Forth.{Forth}
 use Rattle.lexicon.specs.Falling.{fall_of}
 use Rattle.interpreter.specs.Deeds.{Deed, before, after, Fits}
@@ -17,54 +17,54 @@ use Rattle.interpreter.specs.Law.{left}
 use Rattle.interpreter.specs.Promise.{HasRisenBy}
 use Rattle.interpreter.specs.State.{World, Run, with_run}
 use Rattle.interpreter.specs.Standing.{core, device, HasModel, Rests, Stands, StandsAfter}
-use Rattle.interpreter.specs.Serving.{Comes, Heard, MapsKept, Lasts}
+use Rattle.interpreter.specs.Serving.{Comes, Heard, KeepsAndWears, Lasts}
 
--- what terminal and device see of a turn
-abbrev pub seen : Result Turn Stop → Result (Unit {0}) Stop
+-- what terminal and device see of a round
+abbrev pub seen : Result Round Stop → Result (Unit {0}) Stop
 seen (Ok _) = Ok tt
 seen (Err stop) = Err stop
 
--- a turn that did a service
-abbrev pub turn_of : Result (Unit {0}) Stop → Result Turn Stop
-turn_of (Ok _) = Ok GoesOn
-turn_of (Err stop) = Err stop
+-- a round that did a service
+abbrev pub round_of : Result (Unit {0}) Stop → Result Round Stop
+round_of (Ok _) = Ok GoesOn
+round_of (Err stop) = Err stop
 
 -- what comes of the line
-abbrev pub TurnComes : (n : ℕ) → (start : Run → Outcome World) → Deed → Result Turn Stop → List Level → Core → World → Type 0
-TurnComes n start deed (Ok GoesOn) levels c x = (r : Run) → Fits deed r → start (before deed r) ≡ left n levels c (with_run (after deed r) x)
-TurnComes n start deed (Ok Over) levels c x = (r : Run) → Fits deed r → start (before deed r) ≡ Did c (with_run (after deed r) x)
-TurnComes n start deed (Err stop) levels c x = Comes start deed (Err stop) c x
+abbrev pub RoundComes : (n : ℕ) → (start : Run → Outcome World) → Deed → Result Round Stop → List Level → Core → World → Type 0
+RoundComes n start deed (Ok GoesOn) levels c x = (r : Run) → Fits deed r → start (before deed r) ≡ left n levels c (with_run (after deed r) x)
+RoundComes n start deed (Ok Over) levels c x = (r : Run) → Fits deed r → start (before deed r) ≡ Did c (with_run (after deed r) x)
+RoundComes n start deed (Err stop) levels c x = Comes start deed (Err stop) c x
 
--- what falls with each turn: the steps, and where a turn is free, the units of the return stack
+-- what falls with each round: the steps, and where a round is free, the units of the return stack
 abbrev pub weight : {D : Type 0} {G : Ghosts D} → Forth D G → ℕ
 weight forth = fall_of forth.steps forth.returns
 
-abbrev pub GoesDown : Result Turn Stop → (before after : ℕ) → Type 0
+abbrev pub GoesDown : Result Round Stop → (before after : ℕ) → Type 0
 GoesDown (Ok GoesOn) before after = after < before
 GoesDown _ before after = Unit {0}
 
 -- at any device and terminal
-abbrev pub LastsTurn : {D T : Type 0} → Ghosts D → TerminalGhosts T → Result Turn Stop → (old new : D) (terminal terminal' : T) → Type 0
-LastsTurn G H result old new terminal terminal' = Lasts G H (seen result) old new terminal terminal'
+abbrev pub LastsRound : {D T : Type 0} → Ghosts D → TerminalGhosts T → Result Round Stop → (old new : D) (terminal terminal' : T) → Type 0
+LastsRound G H result old new terminal terminal' = Lasts G H (seen result) old new terminal terminal'
 
 module _ {D : Type 0} {G : Ghosts D} where
-  -- after a turn
-  abbrev pub StandsAfterTurn : Result Turn Stop → Forth D G → List Level → World → Type 0
-  StandsAfterTurn (Ok GoesOn) forth levels x = Stands forth levels x
-  StandsAfterTurn (Ok Over) forth levels x = Stands forth [] x
-  StandsAfterTurn (Err stop) forth levels x = Rests forth x
+  -- after a round
+  abbrev pub StandsAfterRound : Result Round Stop → Forth D G → List Level → World → Type 0
+  StandsAfterRound (Ok GoesOn) forth levels x = Stands forth levels x
+  StandsAfterRound (Ok Over) forth levels x = Stands forth [] x
+  StandsAfterRound (Err stop) forth levels x = Rests forth x
 
 module _ {D T : Type 0} {G : Ghosts D} (H : TerminalGhosts T) (n : ℕ) where
-  pub record Turned (start : Run → Outcome World) (result : Result Turn Stop) (old new : Forth D G) (terminal terminal' : T) (x : World) : Type 0 where
+  pub record RanRound (start : Run → Outcome World) (result : Result Round Stop) (old new : Forth D G) (terminal terminal' : T) (x : World) : Type 0 where
     pub deed : Deed
     pub levels : List Level
     pub world : World
-    pub stands : StandsAfterTurn result new levels world
+    pub stands : StandsAfterRound result new levels world
     pub steps : new.steps ≤ old.steps
-    pub comes : HasModel old → TurnComes n start deed result levels (core new) world
+    pub comes : HasModel old → RoundComes n start deed result levels (core new) world
     pub heard : Heard H (seen result) deed old.at_end new.at_end terminal terminal'
     pub cause : HasRisenBy deed.failures (G.failures (device old)) (G.failures (device new))
-    pub keeps : HasModel old → MapsKept G x.maps world.maps (device old) (device new) deed.saves deed.wear
+    pub keeps : HasModel old → KeepsAndWears G x.maps world.maps (device old) (device new) deed.saves deed.wear
 
 -- nothing is left to do above the text of the line, or of the innermost load
 abbrev pub IsAtText : List Level → Type 0

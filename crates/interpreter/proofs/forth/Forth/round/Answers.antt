@@ -8,8 +8,8 @@ use Rattle.interpreter.specs.Law.{next}
 use Rattle.interpreter.specs.Lexicon.{language_of}
 use Rattle.interpreter.specs.Standing.{core}
 use Rattle.interpreter.proofs.Events.{due_of, left_calls, paid_least, service_falls, down_if, finished_at_text}
-use Rattle.interpreter.proofs.Turning.{turned_as, turned_left, left_so}
-use Rattle.interpreter.proofs.forth.Forth.turn.Goals as goal
+use Rattle.interpreter.proofs.Rounds.{round_as, round_left, left_so}
+use Rattle.interpreter.proofs.forth.Forth.round.Goals as goal
 
 pub serve-requires : goal.serve-requires
 serve-requires g c =
@@ -18,15 +18,15 @@ serve-requires g c =
     let due = due_of _ _ _ _ _ _ runs.1.1.1 in
     record { asked = (runs.1.0, s.1, due.0, (record { rests = s.2.rests; left = runs.1.1.0 }, due.1.0)); idle = c.resume-event.ensures.nothing_pending }
 
-pub returns-in-Service-clause-turned : goal.returns-in-Service-clause-turned
-returns-in-Service-clause-turned g c = λ n levels x less stands.
+pub returns-in-Service-clause-round : goal.returns-in-Service-clause-round
+returns-in-Service-clause-round g c = λ n levels x less stands.
     let runs = c.in-Service.ensures.runs (language_of x) levels stands.rests.meant stands.left in
     let due = due_of _ _ _ _ _ _ runs.1.1.1 in
     let paid = paid_least c.in-Service.op _ _ c.in-Service.ensures.paid in
-    turned_as g.T.Terminal n _ c.args.self.now
+    round_as g.T.Terminal n _ c.args.self.now
     (λ r. left_calls c.services.ensures n c.args.self.now.lexicon (with_run r x) runs.0 levels (core c.args.self.now) stands.rests.meant less ∙ ap (λ e. next n e (with_run r x)) due.1.1)
     paid refl refl
-    (c.serve.ensures.turned n runs.1.0 x due.0 (omega (arith, paid, less)) (record { rests = stands.rests; left = runs.1.1.0 }) due.1.0)
+    (c.serve.ensures.round n runs.1.0 x due.0 (omega (arith, paid, less)) (record { rests = stands.rests; left = runs.1.1.0 }) due.1.0)
 
 pub returns-in-Service-clause-down : goal.returns-in-Service-clause-down
 returns-in-Service-clause-down g c =
@@ -34,31 +34,31 @@ returns-in-Service-clause-down g c =
     let runs = c.in-Service.ensures.runs (language_of s.1) s.0 s.2.rests.meant s.2.left in
     let due = due_of _ _ _ _ _ _ runs.1.1.1 in
     let paid = paid_least c.in-Service.op _ _ c.in-Service.ensures.paid in
-    let h = c.serve.ensures.turned (c.args.self.now.steps + 1) runs.1.0 s.1 due.0 (omega (arith, paid)) (record { rests = s.2.rests; left = runs.1.1.0 }) due.1.0 in
+    let h = c.serve.ensures.round (c.args.self.now.steps + 1) runs.1.0 s.1 due.0 (omega (arith, paid)) (record { rests = s.2.rests; left = runs.1.1.0 }) due.1.0 in
     down_if c.serve.result _ _
     (service_falls c.in-Service.op c.args.self.now.steps c.resume-event.new.budget c.serve.new.self.steps c.args.self.now.returns c.resume-event.new.returns c.serve.new.self.returns
     c.in-Service.ensures.falls c.in-Service.ensures.paid c.serve.ensures.given h.steps)
 
-pub returns-in-Fault-clause-turned : goal.returns-in-Fault-clause-turned
-returns-in-Fault-clause-turned g c = λ n levels x less stands.
+pub returns-in-Fault-clause-round : goal.returns-in-Fault-clause-round
+returns-in-Fault-clause-round g c = λ n levels x less stands.
     let runs = c.in-Fault.ensures.runs (language_of x) levels stands.rests.meant stands.left in
-    turned_left g.D.SectorDevice g.T.Terminal g.met.D.SectorDevice.only_now n (stop.Fault c.machine_fault.result) c.args.self.now _ c.args.terminal.now stands.rests refl refl c.in-Fault.ensures.paid
+    round_left g.D.SectorDevice g.T.Terminal g.met.D.SectorDevice.only_now n (stop.Fault c.machine_fault.result) c.args.self.now _ c.args.terminal.now stands.rests refl refl c.in-Fault.ensures.paid
     (left_so _ _ runs.1.0 _ x runs.1.1.1.0
     (λ r. left_calls c.services.ensures n c.args.self.now.lexicon (with_run r x) runs.0 levels (core c.args.self.now) stands.rests.meant less ∙ ap (λ e. next n e (with_run r x)) runs.1.1.0 ∙ ap (λ f. Ends (Faults f) runs.1.0 (with_run r x)) (sym c.machine_fault.ensures.fault)))
     (Appends-nil _)
 
-pub returns-in-Quit-clause-turned : goal.returns-in-Quit-clause-turned
-returns-in-Quit-clause-turned g c = λ n levels x less stands.
+pub returns-in-Quit-clause-round : goal.returns-in-Quit-clause-round
+returns-in-Quit-clause-round g c = λ n levels x less stands.
     let runs = c.in-Quit.ensures.runs (language_of x) levels stands.rests.meant stands.left in
-    turned_left g.D.SectorDevice g.T.Terminal g.met.D.SectorDevice.only_now n stop.Quit c.args.self.now _ c.args.terminal.now stands.rests refl refl c.in-Quit.ensures.paid
+    round_left g.D.SectorDevice g.T.Terminal g.met.D.SectorDevice.only_now n stop.Quit c.args.self.now _ c.args.terminal.now stands.rests refl refl c.in-Quit.ensures.paid
     (left_so _ Quits _ _ x refl
     (λ r. left_calls c.services.ensures n c.args.self.now.lexicon (with_run r x) runs.0 levels (core c.args.self.now) stands.rests.meant less ∙ ap (λ e. next n e (with_run r x)) runs.1))
     (Appends-nil _)
 
-pub returns-in-Abort-clause-turned : goal.returns-in-Abort-clause-turned
-returns-in-Abort-clause-turned g c = λ n levels x less stands.
+pub returns-in-Abort-clause-round : goal.returns-in-Abort-clause-round
+returns-in-Abort-clause-round g c = λ n levels x less stands.
     let runs = c.in-Abort.ensures.runs (language_of x) levels stands.rests.meant stands.left in
-    turned_left g.D.SectorDevice g.T.Terminal g.met.D.SectorDevice.only_now n stop.Abort c.args.self.now _ c.args.terminal.now stands.rests refl refl c.in-Abort.ensures.paid
+    round_left g.D.SectorDevice g.T.Terminal g.met.D.SectorDevice.only_now n stop.Abort c.args.self.now _ c.args.terminal.now stands.rests refl refl c.in-Abort.ensures.paid
     (left_so _ Aborts _ _ x refl
     (λ r. left_calls c.services.ensures n c.args.self.now.lexicon (with_run r x) runs.0 levels (core c.args.self.now) stands.rests.meant less ∙ ap (λ e. next n e (with_run r x)) runs.1))
     (Appends-nil _)
@@ -69,10 +69,10 @@ read-requires g c =
     let runs = c.in-Done.ensures.runs (language_of s.1) s.0 s.2.rests.meant s.2.left in
     record { sound = (runs.1.0, s.1, record { rests = s.2.rests; left = runs.1.1.0 }); idle = c.in-Done.ensures.nothing_pending }
 
-pub returns-in-Done-clause-turned : goal.returns-in-Done-clause-turned
-returns-in-Done-clause-turned g c = λ n levels x less stands.
+pub returns-in-Done-clause-round : goal.returns-in-Done-clause-round
+returns-in-Done-clause-round g c = λ n levels x less stands.
     let runs = c.in-Done.ensures.runs (language_of x) levels stands.rests.meant stands.left in
-    turned_as g.T.Terminal n _ c.args.self.now
+    round_as g.T.Terminal n _ c.args.self.now
     (λ r. left_calls c.services.ensures n c.args.self.now.lexicon (with_run r x) runs.0 levels (core c.args.self.now) stands.rests.meant less ∙ ap (λ e. next n e (with_run r x)) runs.1.1.1)
     c.in-Done.ensures.paid refl refl
-    (c.read.ensures.turned n runs.1.0 x (omega (arith, c.in-Done.ensures.paid, less)) (record { rests = stands.rests; left = runs.1.1.0 }) (finished_at_text _ runs.0 levels runs.1.0 _ _ runs.1.1.1))
+    (c.read.ensures.round n runs.1.0 x (omega (arith, c.in-Done.ensures.paid, less)) (record { rests = stands.rests; left = runs.1.1.0 }) (finished_at_text _ runs.0 levels runs.1.0 _ _ runs.1.1.1))
