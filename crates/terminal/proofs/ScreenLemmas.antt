@@ -81,9 +81,6 @@ screen_stop n bytes line is long =
     ∙ ap (λ c. if c then option_map (λ b. row (map blank_for_tab line) ++ b) (rows n (texts_of (after_text 10 bytes))) else None) short
 
 -- after the last row
-pub screen_whole : (block bytes : List ℕ) → bytes ≡ [] → option_map (λ b. block ++ b) (rows 0 (texts_of bytes)) ≡ Some block
-screen_whole block bytes is = rw is (ap (λ l. Some l) (append-nil block))
-
 pub screen_left : (block bytes : List ℕ) → 0 < length bytes → option_map (λ b. block ++ b) (rows 0 (texts_of bytes)) ≡ None
 screen_left block [] some = absurd (omega arith)
 screen_left block (b ∷ bytes) some = ap (λ l. option_map (λ b. block ++ b) (rows 0 (map line_text l))) (lines_cut b bytes)

@@ -7,3 +7,4 @@ pub mod Screen
 pub mod Commands
 pub mod CommandRows
 pub mod InMemory
+pub mod Failures

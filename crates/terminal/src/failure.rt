@@ -1,5 +1,6 @@
 //! Why the program didn't do what it was asked.
 ghost use Rattle.std.specs.Prelude.{◌≡◌, ◌≤◌};
+ghost use Rattle.terminal.specs.Failures.{status_of, of_image, of_upgrade, of_file, of_store, of_run};
 
 use super::run_fault::RunFault;
 use journal::StoreFault;
@@ -41,8 +42,8 @@ pub enum Failure {
 impl Failure {
     /// The exit status: 3 where it lies with the image, 4 with input or output, 5 with memory.
     pub fn status(self) -> u8
+        ensures status { result ≡ status_of self }
         ensures fails { 3 ≤ result }
-        ensures memory { self ≡ Failure.NoMemory → result ≡ 5 }
     {
         match self {
             Failure::BadSize
@@ -61,6 +62,8 @@ impl Failure {
 }
 
 impl From<OpenFault> for Failure {
+    ghost from_gives = { λ fault e. e ≡ of_image fault };
+
     fn from(fault: OpenFault) -> Self {
         match fault {
             OpenFault::BadSize => Failure::BadSize,
@@ -75,6 +78,8 @@ impl From<OpenFault> for Failure {
 
 // The text doesn't say which of both images it is.
 impl From<UpgradeFault> for Failure {
+    ghost from_gives = { λ fault e. e ≡ of_upgrade fault };
+
     fn from(fault: UpgradeFault) -> Self {
         match fault {
             UpgradeFault::Old(fault) => Failure::from(fault),
@@ -84,6 +89,8 @@ impl From<UpgradeFault> for Failure {
 }
 
 impl From<FileFault> for Failure {
+    ghost from_gives = { λ fault e. e ≡ of_file fault };
+
     fn from(fault: FileFault) -> Self {
         match fault {
             FileFault::Exists => Failure::Exists,
@@ -94,12 +101,16 @@ impl From<FileFault> for Failure {
 
 // Outside a line a store that was closed is a device that failed.
 impl From<StoreFault> for Failure {
+    ghost from_gives = { λ fault e. e ≡ of_store fault };
+
     fn from(_: StoreFault) -> Self {
         Failure::Device
     }
 }
 
 impl From<RunFault> for Failure {
+    ghost from_gives = { λ fault e. e ≡ of_run fault };
+
     fn from(fault: RunFault) -> Self {
         match fault {
             RunFault::Read => Failure::CannotRead,

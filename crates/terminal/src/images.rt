@@ -39,10 +39,7 @@ pub fn make_image(rt: &impl Files<File = File>, path: &str, blocks: u16) -> Resu
 /// Opens an image.
 pub fn open_image(rt: &impl Files<File = File>, path: &str) -> Result<Store<FileDisk>, Failure> {
     let disk = FileDisk::open(rt, path)?;
-    match open(disk) {
-        Ok(store) => Ok(store),
-        Err((fault, _)) => Err(Failure::from(fault)),
-    }
+    open(disk).map_err(|(fault, _)| Failure::from(fault))
 }
 
 /// Makes an image of layout 2, in a new file, of the blocks of one of layout 1. Nothing is made where the old one has the size of
@@ -54,10 +51,8 @@ pub fn upgrade_image(rt: &impl Files<File = File>, old: &str, new: &str) -> Resu
         return Err(Failure::BadSize);
     }
     let mut target = FileDisk::create(rt, new, sectors)?;
-    match upgrade(&mut source, &mut target) {
-        Ok(()) => Ok(()),
-        Err(fault) => Err(Failure::from(fault)),
-    }
+    upgrade(&mut source, &mut target)?;
+    Ok(())
 }
 
 /// Prints a block as the lines of a screen.
@@ -89,13 +84,8 @@ fn print<W: Write>(bytes: &[u8], output: &mut W) -> Result<(), Failure>
     ensures ok { OnOk result (Appends (W.contents output.old) (W.contents output.new) bytes.now) }
     ensures err { IfErr result (λ e. e ≡ Failure.CannotWrite) }
 {
-    match write_bytes(output, bytes) {
-        Ok(()) => match flush(output) {
-            Ok(()) => Ok(()),
-            Err(_) => Err(Failure::CannotWrite),
-        },
-        Err(_) => Err(Failure::CannotWrite),
-    }
+    write_bytes(output, bytes).map_err(|_| Failure::CannotWrite)?;
+    flush(output).map_err(|_| Failure::CannotWrite)
 }
 
 /// Makes the lines of a file a block, in one save. The file isn't opened where there is no such block.
@@ -110,13 +100,9 @@ pub fn put_file<D: SectorDevice>(
     if block >= store.blocks() {
         return Err(Failure::NoBlock);
     }
-    match File::open(rt, path) {
-        Ok(file) => match BufReader::new(rt.alloc(), file) {
-            Ok(mut reader) => put_text(store, block, &mut reader),
-            Err(_) => Err(Failure::NoMemory),
-        },
-        Err(_) => Err(Failure::CannotRead),
-    }
+    let file = File::open(rt, path).map_err(|_| Failure::CannotRead)?;
+    let mut reader = BufReader::new(rt.alloc(), file).map_err(|_| Failure::NoMemory)?;
+    put_text(store, block, &mut reader)
 }
 
 /// Makes the lines of a text a block, in one save.

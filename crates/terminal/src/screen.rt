@@ -45,10 +45,8 @@ fn take_row<'a>(block: &mut ArrayVec<u8, BLOCK>, bytes: &'a [u8]) -> Option<&'a 
 {
     let (line, length) = take_text(bytes, b'\n');
     let (_, rest) = bytes.split_at(length);
-    match add_row(block, text(line)) {
-        Some(()) => Some(rest),
-        None => None,
-    }
+    add_row(block, text(line))?;
+    Some(rest)
 }
 
 /// Adds a line as a row. `None` where it is too long.

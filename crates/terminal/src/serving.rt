@@ -16,8 +16,8 @@ use sector_disk::SectorDevice;
 use std::alloc::{AllocError, Global};
 use std::io::{Read, Write};
 
-/// Begins a new system over a store, runs the lines of the input, and gives the store back beside how the run ended. What was
-/// changed and not saved is given up.
+/// Begins a new system over a store, with at most `steps` steps a line, 1 or more; runs the lines of the input, and gives
+/// the store back beside how the run ended. What was changed and not saved is given up.
 pub fn run_over<D: SectorDevice + Drop, F: Lines<D>, R: Read, W: Write>(
     alloc: Global,
     store: Store<D>,

@@ -28,7 +28,10 @@ pub fn start<F: Lines<FileDisk>, M: Lines<MemoryDisk>, R: Read + Drop, W: Write 
             let _ = writeln!(errors, "error: a word of the command line is not UTF-8");
             2
         }
-        Err(_) => 4,
+        Err(_) => {
+            let _ = writeln!(errors, "forth83: folder: cannot open");
+            4
+        }
     }
 }
 
@@ -52,9 +55,17 @@ fn serve<F: Lines<FileDisk>, M: Lines<MemoryDisk>, R: Read + Drop, W: Write + Dr
 /// the lowest free number: without this an image would be what is read as the input, or what the replies are written over.
 /// What is taken can be neither read nor written.
 fn taken_stream(rt: &impl Files<File = File>) -> io::Result<Option<File>> {
-    let folder = File::open(rt, "/")?;
+    let folder = open_folder(rt)?;
     if folder.as_raw_fd() > LAST_STREAM {
         return Ok(None);
     }
     Ok(Some(folder))
+}
+
+/// Opens a folder, for its number alone: the root, or where that can't be read the current one.
+fn open_folder(rt: &impl Files<File = File>) -> io::Result<File> {
+    match File::open(rt, "/") {
+        Ok(folder) => Ok(folder),
+        Err(_) => File::open(rt, "."),
+    }
 }

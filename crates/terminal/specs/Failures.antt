@@ -1,0 +1,55 @@
+-- The exit status of a failure, and the failure that a fault is told as.
+use Rattle.std.specs.Prelude.{ℕ}
+use Rattle.sector_disk.specs.declared.file.FileFault.{FileFault}
+use Rattle.sector_disk.specs.declared.file.FileFault.TheVariants as file
+use Rattle.journal.specs.declared.store.StoreFault.{StoreFault}
+use Rattle.recovery.specs.declared.fault.OpenFault.{OpenFault}
+use Rattle.recovery.specs.declared.fault.OpenFault.TheVariants as image
+use Rattle.recovery.specs.declared.fault.UpgradeFault.{UpgradeFault}
+use Rattle.recovery.specs.declared.fault.UpgradeFault.TheVariants.{Old, New}
+use Rattle.terminal.specs.declared.failure.Failure.{Failure}
+use Rattle.terminal.specs.declared.failure.Failure.TheVariants.{BadSize, NoLabel, OtherVersion, WrongCount, Damaged, Device, Exists, CannotOpen, NoBlock, CannotRead, NotAScreen, CannotWrite, NoMemory}
+use Rattle.terminal.specs.declared.run_fault.RunFault.{RunFault}
+use Rattle.terminal.specs.declared.run_fault.RunFault.TheVariants.{Read, Write}
+
+-- 3 where it lies with the image, 4 with input or output, 5 with memory
+abbrev pub status_of : Failure → ℕ
+status_of BadSize = 3
+status_of NoLabel = 3
+status_of OtherVersion = 3
+status_of WrongCount = 3
+status_of Damaged = 3
+status_of Device = 3
+status_of Exists = 3
+status_of CannotOpen = 3
+status_of NoBlock = 3
+status_of CannotRead = 4
+status_of NotAScreen = 4
+status_of CannotWrite = 4
+status_of NoMemory = 5
+
+-- a fault of an image is told under its own name
+abbrev pub of_image : OpenFault → Failure
+of_image image.BadSize = BadSize
+of_image image.NoLabel = NoLabel
+of_image image.OtherVersion = OtherVersion
+of_image image.WrongCount = WrongCount
+of_image image.Damaged = Damaged
+of_image image.Device = Device
+
+-- of an upgrade, whichever of both images it is
+abbrev pub of_upgrade : UpgradeFault → Failure
+of_upgrade (Old fault) = of_image fault
+of_upgrade (New fault) = of_image fault
+
+abbrev pub of_file : FileFault → Failure
+of_file file.Exists = Exists
+of_file file.Cannot = CannotOpen
+
+-- outside a line a store that was closed is a device that failed
+abbrev pub of_store : StoreFault → Failure
+of_store fault = Device
+
+abbrev pub of_run : RunFault → Failure
+of_run Read = CannotRead
+of_run Write = CannotWrite
