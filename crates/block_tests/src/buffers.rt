@@ -13,25 +13,31 @@ fn used(rt: &impl Abort, buffers: &mut Buffers, block: u16) -> Result<Slot, NoMe
     if let Ok(slot) = buffers.place(block) {
         return Ok(slot);
     }
-    assert!(rt; buffers.peek(block).is_none());
-    assert!(rt; buffers.oldest() == oldest);
+    assert!(rt; buffers.peek(block).is_none() && buffers.oldest() == oldest);
     buffers.place(block)
 }
 
-// What a screen shows is 61,440 + 1,024 for each slot, so 62,464 is slot 1.
+// Blocks that are used in turn, each with its slot. What a screen shows is 61,440 + 1,024 for each slot, so 62,464 is slot 1.
+const IN_USE: &str = "\
+0:0 1:1 2:2 3:3 0:0 4:1
+1:0 2:1 3:2 4:3 5:0 1:1
+7:0 7:0 8:1 7:0 9:2
+3:0 2:1 1:2 0:3 3:0 2:1 1:2 9:3 8:0";
+
 #[test]
 fn the_least_recently_used_buffer_is_reused(rt: HostRuntime) -> Result<(), Fail> {
-    let rows: [(&[u16], &[Slot]); 4] = [
-        (&[0, 1, 2, 3, 0, 4], &[0, 1, 2, 3, 0, 1]),
-        (&[1, 2, 3, 4, 5, 1], &[0, 1, 2, 3, 0, 1]),
-        (&[7, 7, 8, 7, 9], &[0, 0, 1, 0, 2]),
-        (&[3, 2, 1, 0, 3, 2, 1, 9, 8], &[0, 1, 2, 3, 0, 1, 2, 3, 0]),
-    ];
-    for (blocks, slots) in rows {
+    for row in IN_USE.lines() {
         let mut buffers = Buffers::new(rt.alloc())?;
-        for (block, slot) in blocks.iter().zip(slots) {
-            assert_eq!(rt; used(&rt, &mut buffers, *block)?, *slot, "block {block}");
-            assert_eq!(rt; buffers.peek(*block), Some(*slot), "block {block}");
+        for pair in row.split(" ") {
+            let (block, slot) = pair.split_once(":").ok_or("a block and its slot")?;
+            let (block, slot) = (block.parse::<u16>()?, slot.parse::<Slot>()?);
+            let found = used(&rt, &mut buffers, block)?;
+            let known = buffers.peek(block);
+            assert_eq!(rt;
+                (found, known),
+                (slot, Some(slot)),
+                "block {block} in {row}"
+            );
         }
     }
     Ok(())
@@ -70,8 +76,7 @@ fn a_save_begins_with_the_most_recently_used(rt: HostRuntime) -> Result<(), Fail
         assert_eq!(rt; (row.block, row.slot, row.updated), (block, slot, true));
     }
     buffers.unmark_all();
-    assert_eq!(rt; buffers.updated().len(), 0);
-    assert_eq!(rt; buffers.peek(3), Some(2));
+    assert_eq!(rt; (buffers.updated().len(), buffers.peek(3)), (0, Some(2)));
     Ok(())
 }
 
@@ -84,13 +89,12 @@ fn a_mark_ends_with_its_block(rt: HostRuntime) -> Result<(), Fail> {
     for block in [2, 3, 4, 5] {
         used(&rt, &mut buffers, block)?;
     }
-    assert_eq!(rt; buffers.peek(5), Some(0));
-    assert_eq!(rt; buffers.updated().len(), 0);
-    assert!(rt; buffers.mark());
+    let taken = (buffers.peek(5), buffers.updated().len(), buffers.mark());
+    assert_eq!(rt; taken, (Some(0), 0, true));
     buffers.unassign_all();
-    assert!(rt; !buffers.mark());
-    assert_eq!(rt; buffers.updated().len(), 0);
-    assert_eq!(rt; used(&rt, &mut buffers, 1)?, 0);
-    assert_eq!(rt; buffers.updated().len(), 0);
+    let empty = (buffers.mark(), buffers.updated().len());
+    assert_eq!(rt; empty, (false, 0));
+    let again = (used(&rt, &mut buffers, 1)?, buffers.updated().len());
+    assert_eq!(rt; again, (0, 0));
     Ok(())
 }

@@ -1,5 +1,5 @@
 // Each device call fails, alone or with all after it.
-use crate::support::{Session, failing, opened};
+use crate::support::{Session, failing, opened, play};
 use block_words::BlockFault;
 use disk_tests::support::check;
 use sector_disk::{Fused, MemoryDisk};
@@ -7,52 +7,54 @@ use std::test::Fail;
 
 #[test]
 fn a_failed_read_changes_nothing(rt: HostRuntime) -> Result<(), Fail> {
-    let mut session = failing(&rt, 1, false)?;
-    assert_eq!(rt; session.block(1), Err(BlockFault::Device));
-    assert_eq!(rt; session.blocks.update(), Err(BlockFault::NoBuffer));
-    assert_eq!(rt; session.first_byte(1), Ok(b' '));
-    let mut session = failing(&rt, 2, false)?;
-    assert_eq!(rt; session.text(1), Err(BlockFault::Device));
-    assert_eq!(rt; session.text(1), Ok(b' '));
-    Ok(())
+    let rows = "1 BLOCK = Device\nUPDATE = NoBuffer\n1 FIRST = 32";
+    play(&rt, &mut failing(&rt, 1, false)?, rows)?;
+    play(
+        &rt,
+        &mut failing(&rt, 2, false)?,
+        "1 TEXT = Device\n1 TEXT = 32",
+    )
 }
+
+// That there is no such block comes first, and a block with a buffer can still be used.
+const CLOSED: &str = "\
+1 EDIT = ok
+SAVE = Device
+3 BLOCK = Closed
+3 BUFFER = Closed
+3 TEXT = Closed
+SAVE = Closed
+FLUSH = Closed
+32 BLOCK = NoBlock
+32 BUFFER = NoBlock
+32 TEXT = NoBlock
+1 FIRST = 65
+1 BUFFER = 61440
+1 TEXT = 65
+UPDATE = ok";
 
 #[test]
 fn a_failed_save_closes_the_store(rt: HostRuntime) -> Result<(), Fail> {
     let mut session = failing(&rt, 6, true)?;
-    assert_eq!(rt; session.edit(1, 65), Ok(()));
-    assert_eq!(rt; session.save(), Err(BlockFault::Device));
-    assert_eq!(rt; session.block(3), Err(BlockFault::Closed));
-    assert_eq!(rt; session.buffer(3), Err(BlockFault::Closed));
-    assert_eq!(rt; session.text(3), Err(BlockFault::Closed));
-    assert_eq!(rt; session.save(), Err(BlockFault::Closed));
-    assert_eq!(rt; session.flush(), Err(BlockFault::Closed));
-    // No such block comes first, and a block with a buffer can still be used.
-    assert_eq!(rt; session.block(32), Err(BlockFault::NoBlock));
-    assert_eq!(rt; session.buffer(32), Err(BlockFault::NoBlock));
-    assert_eq!(rt; session.text(32), Err(BlockFault::NoBlock));
-    assert_eq!(rt; session.first_byte(1), Ok(65));
-    assert_eq!(rt; session.buffer(1), Ok(61440));
-    assert_eq!(rt; session.text(1), Ok(65));
-    assert_eq!(rt; session.blocks.update(), Ok(()));
+    play(&rt, &mut session, CLOSED)?;
     let disk = session.into_device().into_device();
-    assert_eq!(rt; opened(&rt, disk)?.first_byte(1), Ok(b' '));
-    Ok(())
+    play(&rt, &mut opened(&rt, disk)?, "1 FIRST = 32")
 }
+
+// Five blocks are read by ten calls, and then block 1 is spilled.
+const SPILLED: &str = "\
+1 EDIT = ok
+2 BLOCK DROP = ok
+3 BLOCK DROP = ok
+4 BLOCK DROP = ok
+5 BLOCK = Device
+5 BLOCK = Closed
+2 BLOCK = 62464
+1 FIRST = 65";
 
 #[test]
 fn a_failed_spill_leaves_the_buffers(rt: HostRuntime) -> Result<(), Fail> {
-    // Five blocks are read by ten calls, and then block 1 is spilled.
-    let mut session = failing(&rt, 11, false)?;
-    assert_eq!(rt; session.edit(1, 65), Ok(()));
-    for u in 2..5 {
-        assert!(rt; session.block(u).is_ok());
-    }
-    assert_eq!(rt; session.block(5), Err(BlockFault::Device));
-    assert_eq!(rt; session.block(5), Err(BlockFault::Closed));
-    assert_eq!(rt; session.block(2), Ok(62464));
-    assert_eq!(rt; session.first_byte(1), Ok(65));
-    Ok(())
+    play(&rt, &mut failing(&rt, 11, false)?, SPILLED)
 }
 
 // What a session did: how many calls answered `Device`, the first bytes of blocks 1 to 6 as they were saved last, and

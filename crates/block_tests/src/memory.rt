@@ -1,6 +1,6 @@
 // Memory that is refused. With memory enough no call is; each allocation is made to fail in turn when these run under
 // a tool that refuses it.
-use crate::support::{Session, begun};
+use crate::support::{Session, begun, play};
 use block_words::BlockFault;
 use sector_disk::MemoryDisk;
 use std::test::Fail;
@@ -22,6 +22,16 @@ fn asked(session: &mut Session<MemoryDisk>, u: u16, is_read: bool) -> Result<u16
     }
 }
 
+const SAVED: &str = "\
+SAVE = ok
+0 TEXT = 65
+1 TEXT = 65
+2 TEXT = 65
+3 TEXT = 65
+4 TEXT = 65
+5 TEXT = 65
+6 TEXT = 65";
+
 #[test]
 fn refused_memory_changes_nothing(rt: HostRuntime) -> Result<(), Fail> {
     let mut session = begun(&rt)?;
@@ -34,13 +44,10 @@ fn refused_memory_changes_nothing(rt: HostRuntime) -> Result<(), Fail> {
         (5, 62464),
         (6, 63488),
     ] {
-        assert_eq!(rt; block(&mut session, u, u % 2 == 0), Ok(at), "block {u}");
+        let found = block(&mut session, u, u % 2 == 0);
         session.space.set_byte(at, 65);
-        assert_eq!(rt; session.blocks.update(), Ok(()));
+        let marked = session.blocks.update();
+        assert_eq!(rt; (found, marked), (Ok(at), Ok(())), "block {u}");
     }
-    assert_eq!(rt; session.save(), Ok(()));
-    for u in 0..7 {
-        assert_eq!(rt; session.text(u), Ok(65), "block {u}");
-    }
-    Ok(())
+    play(&rt, &mut session, SAVED)
 }

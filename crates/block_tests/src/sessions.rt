@@ -1,58 +1,61 @@
 // Buffers in their order, the bytes that they show, and how often the device is called.
-use crate::support::{Session, begun, begun_with, opened};
+use crate::support::{Session, begun, begun_with, opened, play};
 use block_words::BlockFault;
 use disk_tests::support::check;
 use sector_disk::{Counts, MemoryDisk};
 use std::test::Fail;
 
+// At last block 1 is used again, so block 2's buffer is the next one.
+const IN_TURN: &str = "\
+0 BLOCK = 61440
+1 BLOCK = 62464
+FLUSH = ok
+1 BLOCK = 61440
+2 BLOCK = 62464
+3 BLOCK = 63488
+4 BLOCK = 64512
+1 BLOCK = 61440
+5 BLOCK = 62464";
+
 #[test]
 fn buffers_are_given_in_turn(rt: HostRuntime) -> Result<(), Fail> {
-    let mut session = begun(&rt)?;
-    assert_eq!(rt; session.block(0), Ok(61440));
-    assert_eq!(rt; session.block(1), Ok(62464));
-    assert_eq!(rt; session.flush(), Ok(()));
-    assert_eq!(rt; session.block(1), Ok(61440));
-    assert_eq!(rt; session.block(2), Ok(62464));
-    assert_eq!(rt; session.block(3), Ok(63488));
-    assert_eq!(rt; session.block(4), Ok(64512));
-    // Block 1 is used again, so block 2's buffer is the next one.
-    assert_eq!(rt; session.block(1), Ok(61440));
-    assert_eq!(rt; session.block(5), Ok(62464));
-    Ok(())
+    play(&rt, &mut begun(&rt)?, IN_TURN)
 }
+
+const MARKED: &str = "\
+UPDATE = NoBuffer
+1 EDIT = ok
+FLUSH = ok
+UPDATE = NoBuffer
+1 FIRST = 65";
 
 #[test]
 fn update_marks_the_current_buffer(rt: HostRuntime) -> Result<(), Fail> {
     let mut session = begun(&rt)?;
-    assert_eq!(rt; session.blocks.update(), Err(BlockFault::NoBuffer));
-    assert_eq!(rt; session.edit(1, 65), Ok(()));
-    assert_eq!(rt; session.flush(), Ok(()));
-    assert_eq!(rt; session.blocks.update(), Err(BlockFault::NoBuffer));
-    assert_eq!(rt; session.first_byte(1), Ok(65));
+    play(&rt, &mut session, MARKED)?;
     // A byte that is stored without a mark is gone with its buffer.
     session.space.set_byte(61440, 66);
-    assert_eq!(rt; session.flush(), Ok(()));
-    assert_eq!(rt; session.first_byte(1), Ok(65));
-    Ok(())
+    play(&rt, &mut session, "FLUSH = ok\n1 FIRST = 65")
 }
+
+// A buffer that is there isn't changed, and a new one is blank.
+const EDITED: &str = "\
+1 EDIT = ok
+1 BUFFER = 61440
+61440 C@ = 65
+FLUSH = ok
+1 BUFFER = 61440";
 
 #[test]
 fn a_new_buffer_is_blank(rt: HostRuntime) -> Result<(), Fail> {
     let mut session = begun(&rt)?;
-    assert_eq!(rt; session.edit(1, 65), Ok(()));
-    // A buffer that is there isn't changed.
-    assert_eq!(rt; session.buffer(1), Ok(61440));
-    assert_eq!(rt; session.space.byte(61440), 65);
-    assert_eq!(rt; session.flush(), Ok(()));
-    assert_eq!(rt; session.buffer(1), Ok(61440));
+    play(&rt, &mut session, EDITED)?;
     check(
         session.space.slice(61440, 1024) == Some([b' '; 1024].as_slice()),
         "blanks",
     )?;
     // It wasn't updated, so block 1 still holds what was saved.
-    assert_eq!(rt; session.flush(), Ok(()));
-    assert_eq!(rt; session.first_byte(1), Ok(65));
-    Ok(())
+    play(&rt, &mut session, "FLUSH = ok\n1 FIRST = 65")
 }
 
 #[test]
@@ -60,16 +63,19 @@ fn blocks_past_the_last_one_are_no_blocks(rt: HostRuntime) -> Result<(), Fail> {
     for blocks in [32, 33, 300] {
         let mut session = begun_with(&rt, blocks)?;
         for u in [blocks, blocks + 8, 65535] {
-            assert_eq!(rt; session.block(u), Err(BlockFault::NoBlock), "block {u}");
-            assert_eq!(rt; session.buffer(u), Err(BlockFault::NoBlock), "block {u}");
-            assert_eq!(rt; session.text(u), Err(BlockFault::NoBlock), "block {u}");
+            let faults = [
+                session.block(u).err(),
+                session.buffer(u).err(),
+                session.text(u).err(),
+            ];
+            assert_eq!(rt; faults, [Some(BlockFault::NoBlock); 3], "block {u}");
         }
         // The last one is edited and saved, and read again.
         let last = blocks - 1;
-        assert_eq!(rt; session.edit(last, 65), Ok(()));
-        assert_eq!(rt; session.flush(), Ok(()));
-        assert_eq!(rt; session.first_byte(last), Ok(65));
-        assert_eq!(rt; session.first_byte(last - 1), Ok(b' '));
+        let answers = [session.edit(last, 65), session.flush()];
+        assert_eq!(rt; answers, [Ok(()); 2], "block {last}");
+        let bytes = [session.first_byte(last), session.first_byte(last - 1)];
+        assert_eq!(rt; bytes, [Ok(65), Ok(b' ')], "block {last}");
     }
     Ok(())
 }
@@ -96,39 +102,45 @@ fn since(before: Counts, now: Counts) -> (u64, u64) {
 fn an_edit_outlives_its_buffer(rt: HostRuntime) -> Result<(), Fail> {
     let before = evict(&rt)?.into_device().counts();
     let mut session = evict(&rt)?;
-    assert_eq!(rt; session.save(), Ok(()));
+    play(&rt, &mut session, "SAVE = ok")?;
     let disk = session.into_device();
     assert_eq!(rt; since(before, disk.counts()), (5, 4));
-    assert_eq!(rt; opened(&rt, disk)?.first_byte(1), Ok(65));
-    Ok(())
+    play(&rt, &mut opened(&rt, disk)?, "1 FIRST = 65")
 }
+
+const OTHERS: &str = "\
+2 BLOCK DROP = ok
+3 BLOCK DROP = ok
+4 BLOCK DROP = ok
+5 BLOCK DROP = ok
+1 FILLING = 65";
 
 #[test]
 fn an_unmarked_change_goes_with_its_buffer(rt: HostRuntime) -> Result<(), Fail> {
     let mut session = begun(&rt)?;
-    assert_eq!(rt; session.fill(1, 65), Ok(()));
-    assert_eq!(rt; session.save(), Ok(()));
+    play(&rt, &mut session, "1 FILL = ok\nSAVE = ok")?;
     session.space.set_byte(61440, 66);
-    assert_eq!(rt; session.first_byte(1), Ok(66));
-    for u in 2..6 {
-        assert!(rt; session.block(u).is_ok());
-    }
-    assert_eq!(rt; session.filling(1), 65);
-    Ok(())
+    play(&rt, &mut session, "1 FIRST = 66")?;
+    play(&rt, &mut session, OTHERS)
 }
+
+// The second time it loses its buffer without a mark.
+const ASIDE: &str = "\
+1 FILL = ok
+2 BLOCK DROP = ok
+3 BLOCK DROP = ok
+4 BLOCK DROP = ok
+5 BLOCK DROP = ok
+1 FILLING = 65
+2 BLOCK DROP = ok
+3 BLOCK DROP = ok
+4 BLOCK DROP = ok
+5 BLOCK DROP = ok
+1 FILLING = 65";
 
 #[test]
 fn a_block_put_aside_is_read_back(rt: HostRuntime) -> Result<(), Fail> {
-    let mut session = begun(&rt)?;
-    assert_eq!(rt; session.fill(1, 65), Ok(()));
-    // The second time it loses its buffer without a mark.
-    for _ in 0..2 {
-        for u in 2..6 {
-            assert!(rt; session.block(u).is_ok());
-        }
-        assert_eq!(rt; session.filling(1), 65);
-    }
-    Ok(())
+    play(&rt, &mut begun(&rt)?, ASIDE)
 }
 
 #[test]
@@ -138,17 +150,14 @@ fn giving_the_store_back_saves_nothing(rt: HostRuntime) -> Result<(), Fail> {
     let disk = opened(&rt, disk.stop(&[]))?.into_device();
     // Opening syncs once.
     assert_eq!(rt; since(counts, disk.counts()), (0, 1));
-    let mut session = opened(&rt, disk)?;
-    assert_eq!(rt; session.first_byte(1), Ok(b' '));
-    Ok(())
+    play(&rt, &mut opened(&rt, disk)?, "1 FIRST = 32")
 }
 
 #[test]
 fn a_save_of_nothing_calls_no_device(rt: HostRuntime) -> Result<(), Fail> {
     let before = begun(&rt)?.into_device().counts();
     let mut session = begun(&rt)?;
-    assert_eq!(rt; session.save(), Ok(()));
-    assert_eq!(rt; session.flush(), Ok(()));
+    play(&rt, &mut session, "SAVE = ok\nFLUSH = ok")?;
     assert_eq!(rt; session.into_device().counts(), before);
     Ok(())
 }
@@ -188,22 +197,23 @@ fn two_blocks_are_saved_by_eleven_writes(rt: HostRuntime) -> Result<(), Fail> {
     Ok(())
 }
 
+// Reading block 1 doesn't bring it to the front: it loses its buffer to block 5. It is spilled then, and its text needs no
+// buffer.
+const TEXTS: &str = "\
+1 TEXT = 32
+1 EDIT = ok
+1 TEXT = 65
+2 BLOCK DROP = ok
+3 BLOCK DROP = ok
+4 BLOCK DROP = ok
+1 TEXT = 65
+5 BLOCK = 61440
+1 TEXT = 65
+2 BLOCK = 62464
+SAVE = ok
+1 TEXT = 65";
+
 #[test]
 fn a_text_is_read_as_it_stands(rt: HostRuntime) -> Result<(), Fail> {
-    let mut session = begun(&rt)?;
-    assert_eq!(rt; session.text(1), Ok(b' '));
-    assert_eq!(rt; session.edit(1, 65), Ok(()));
-    assert_eq!(rt; session.text(1), Ok(65));
-    for u in 2..5 {
-        assert!(rt; session.block(u).is_ok());
-    }
-    // Reading block 1 doesn't bring it to the front: it loses its buffer to block 5.
-    assert_eq!(rt; session.text(1), Ok(65));
-    assert_eq!(rt; session.block(5), Ok(61440));
-    // It is spilled now, and its text needs no buffer.
-    assert_eq!(rt; session.text(1), Ok(65));
-    assert_eq!(rt; session.block(2), Ok(62464));
-    assert_eq!(rt; session.save(), Ok(()));
-    assert_eq!(rt; session.text(1), Ok(65));
-    Ok(())
+    play(&rt, &mut begun(&rt)?, TEXTS)
 }

@@ -2,6 +2,7 @@
 use crate::support::{failing, opened};
 use disk_tests::support::{combinations, stopped, unsynced_sectors};
 use sector_disk::MemoryDisk;
+use std::process::Abort;
 use std::test::Fail;
 
 // Block 1 filled with 65, which then loses its buffer, and then a save or none: whether it all went well, and the disk.
@@ -43,13 +44,35 @@ fn an_edit_without_a_save_is_lost(rt: HostRuntime) -> Result<(), Fail> {
         let (done, disk) = run_until(&rt, k, false)?;
         let found = stops_of(&rt, &disk)?;
         most = most.max(found.len());
-        assert_eq!(rt; count(&found, [b' '; 2]), found.len(), "before call {k}");
+        let blank = count(&found, [b' '; 2]);
         // Five blocks are read and one is spilled, with two calls each.
-        assert_eq!(rt; done, k == 13);
+        let wanted = (found.len(), k == 13);
+        assert_eq!(rt; (blank, done), wanted, "before call {k}");
     }
     // Both sectors of a slot are unsynced together.
     assert_eq!(rt; most, 9);
     Ok(())
+}
+
+// Each stop before call `k` leaves all new blocks or all old ones, and both are left only while the gate is written and
+// not synced. Once the save has returned, a stop leaves the new blocks alone.
+fn compare(
+    rt: &impl Abort,
+    k: u64,
+    at_gate: bool,
+    found: &[[u8; 2]],
+    counted: (usize, usize),
+    done: bool,
+) {
+    let (new, old) = counted;
+    let is_all = new.saturating_add(old) == found.len();
+    let is_one = new == 0 || old == 0 || at_gate;
+    let is_new = !done || old == 0;
+    assert_eq!(rt;
+        (is_all, is_one, is_new),
+        (true, true, true),
+        "before call {k}"
+    );
 }
 
 #[test]
@@ -60,11 +83,7 @@ fn a_save_is_whole_or_absent(rt: HostRuntime) -> Result<(), Fail> {
         let found = stops_of(&rt, &disk)?;
         let new = count(&found, [65, b' ']);
         let old = count(&found, [b' '; 2]);
-        assert_eq!(rt; new.saturating_add(old), found.len(), "before call {k}");
-        // A stop leaves both only while the gate is written and not synced.
-        assert!(rt; new == 0 || old == 0 || k == 18, "before call {k}");
-        // Once the save has returned, a stop leaves the new block alone.
-        assert!(rt; !done || old == 0, "before call {k}");
+        compare(&rt, k, k == 18, &found, (new, old), done);
         saved = saved || done;
     }
     assert!(rt; saved);
@@ -99,11 +118,8 @@ fn two_blocks_are_saved_together(rt: HostRuntime) -> Result<(), Fail> {
         most = most.max(found.len());
         let new = count(&found, [97, 98]);
         let old = count(&found, [65, b' ']);
-        assert_eq!(rt; new.saturating_add(old), found.len(), "before call {k}");
-        // A stop leaves both only while the gate is written and not synced.
-        assert!(rt; new == 0 || old == 0 || k == 31, "before call {k}");
-        assert_eq!(rt; done, k == 43);
-        assert!(rt; !done || old == 0, "before call {k}");
+        compare(&rt, k, k == 31, &found, (new, old), done);
+        assert_eq!(rt; done, k == 43, "before call {k}");
     }
     // Two slots and the record are unsynced together.
     assert_eq!(rt; most, 243);

@@ -1,5 +1,6 @@
 // Each call of the device fails, alone or with all after it.
-use crate::support::{block, check, failing, first_two, formatted, opened};
+use crate::contents::block_is_full;
+use crate::support::{check, failing, first_two, formatted, opened, spill};
 use journal::{Store, StoreFault};
 use sector_disk::SectorDevice;
 use std::test::Fail;
@@ -33,7 +34,7 @@ fn take<D: SectorDevice>(store: &mut Store<D>, step: Step) -> Result<(), StoreFa
 }
 
 // Goes through the session: how many steps answered `Device`, and whether the first commit returned.
-pub fn session<D: SectorDevice>(store: &mut Store<D>) -> Result<(usize, bool), Fail> {
+pub(crate) fn session<D: SectorDevice>(store: &mut Store<D>) -> Result<(usize, bool), Fail> {
     let mut faults: usize = 0;
     let mut saved = false;
     for step in SESSION {
@@ -59,22 +60,26 @@ pub fn session<D: SectorDevice>(store: &mut Store<D>) -> Result<(usize, bool), F
     Ok((faults, saved))
 }
 
+// Goes through the session over a new image with a device that fails at call `k`: how many steps answered `Device`, and
+// whether the image holds what it has to.
+fn fail_at(rt: &HostRuntime, k: u64, for_good: bool) -> Result<(usize, bool), Fail> {
+    let mut store = failing(formatted(rt)?, k, for_good)?;
+    let (faults, saved) = session(&mut store)?;
+    let is_closed = store.is_closed();
+    let found = first_two(store.into_device().into_device())?;
+    let is_blank = is_closed && !saved && found == (b' ', b' ');
+    Ok((
+        faults,
+        is_blank || (found == (65, 66) && (is_closed || saved)),
+    ))
+}
+
 #[test]
 fn a_call_that_fails_closes_the_store_or_changes_nothing(rt: HostRuntime) -> Result<(), Fail> {
     for k in 1..34 {
-        let mut store = failing(formatted(&rt)?, k, false)?;
-        let (faults, saved) = session(&mut store)?;
-        assert_eq!(rt; faults, if k <= 29 { 1 } else { 0 }, "call {k}");
-        let is_closed = store.is_closed();
-        let found = first_two(store.into_device().into_device())?;
-        if saved {
-            assert_eq!(rt; found, (65, 66), "call {k}");
-        } else {
-            assert!(rt;
-                is_closed && (found == (b' ', b' ') || found == (65, 66)),
-                "call {k}"
-            );
-        }
+        let found = fail_at(&rt, k, false)?;
+        let faults = if k <= 29 { 1 } else { 0 };
+        assert_eq!(rt; found, (faults, true), "call {k}");
     }
     Ok(())
 }
@@ -82,15 +87,8 @@ fn a_call_that_fails_closes_the_store_or_changes_nothing(rt: HostRuntime) -> Res
 #[test]
 fn a_device_that_fails_for_good_keeps_the_store_closed(rt: HostRuntime) -> Result<(), Fail> {
     for k in 1..34 {
-        let mut store = failing(formatted(&rt)?, k, true)?;
-        let (faults, saved) = session(&mut store)?;
-        assert_eq!(rt; faults > 0, k <= 29, "call {k}");
-        let found = first_two(store.into_device().into_device())?;
-        if saved {
-            assert_eq!(rt; found, (65, 66), "call {k}");
-        } else {
-            assert!(rt; found == (b' ', b' ') || found == (65, 66), "call {k}");
-        }
+        let (faults, is_so) = fail_at(&rt, k, true)?;
+        assert_eq!(rt; (faults > 0, is_so), (k <= 29, true), "call {k}");
     }
     Ok(())
 }
@@ -103,19 +101,16 @@ fn a_failed_read_changes_nothing(rt: HostRuntime) -> Result<(), Fail> {
     assert!(rt; matches!(store.read_block(1, &mut bytes), Err(StoreFault::Device)));
     assert_eq!(rt; bytes, [7; 1024]);
     assert!(rt; !store.is_closed());
-    assert_eq!(rt; block(&mut store, 1)?, [b' '; 1024]);
-    Ok(())
+    block_is_full(&rt, &mut store, 1, b' ')
 }
 
 #[test]
 fn a_store_that_was_closed_is_opened_again(rt: HostRuntime) -> Result<(), Fail> {
     let mut store = failing(formatted(&rt)?, 3, true)?;
-    assert!(rt; 1 < store.blocks());
-    assert!(rt; store.spill(1, &[65; 1024]).is_ok());
+    spill(&mut store, 1, 65)?;
     assert!(rt; matches!(store.commit(), Err(StoreFault::Device)));
     assert!(rt; matches!(store.commit(), Err(StoreFault::Closed)));
     let mut store = opened(store.into_device().into_device())?;
     assert!(rt; !store.is_closed());
-    assert_eq!(rt; block(&mut store, 1)?, [b' '; 1024]);
-    Ok(())
+    block_is_full(&rt, &mut store, 1, b' ')
 }

@@ -1,3 +1,4 @@
+use crate::contents::are_full;
 use crate::support::{put, sector};
 use sector_disk::{FileDisk, FileFault, SectorDevice};
 use std::fs;
@@ -11,9 +12,7 @@ fn a_file_keeps_what_is_written(rt: HostRuntime) -> Result<(), Fail> {
     fs::create_dir(&rt, folder)?;
     let mut disk = FileDisk::create(&rt, path, 131)?;
     assert_eq!(rt; disk.sectors(), 131);
-    for k in 0..131 {
-        assert_eq!(rt; sector(&mut disk, k)?, [0; 512]);
-    }
+    are_full(&rt, &mut disk, &[(0, 130, 0)])?;
     put(&mut disk, 0, &[1; 512])?;
     put(&mut disk, 130, &[2; 512])?;
     disk.sync()?;
@@ -21,10 +20,8 @@ fn a_file_keeps_what_is_written(rt: HostRuntime) -> Result<(), Fail> {
     assert_eq!(rt; fs::metadata(&rt, path)?.len(), 67_072);
     let mut disk = FileDisk::open(&rt, path)?;
     assert_eq!(rt; disk.sectors(), 131);
-    assert_eq!(rt; sector(&mut disk, 0)?, [1; 512]);
-    assert_eq!(rt; sector(&mut disk, 1)?, [0; 512]);
-    assert_eq!(rt; sector(&mut disk, 129)?, [0; 512]);
-    assert_eq!(rt; sector(&mut disk, 130)?, [2; 512]);
+    let rows = [(0, 0, 1), (1, 1, 0), (129, 129, 0), (130, 130, 2)];
+    are_full(&rt, &mut disk, &rows)?;
     fs::remove_dir_all(&rt, folder)?;
     Ok(())
 }
@@ -115,7 +112,7 @@ fn calls_of_a_file_that_was_cut_fail(rt: HostRuntime) -> Result<(), Fail> {
         .write(true)
         .open(&rt, path)?
         .set_len(700)?;
-    assert_eq!(rt; sector(&mut disk, 0)?, [0; 512]);
+    are_full(&rt, &mut disk, &[(0, 0, 0)])?;
     assert!(rt; sector(&mut disk, 1).is_err());
     fs::remove_dir_all(&rt, folder)?;
     Ok(())

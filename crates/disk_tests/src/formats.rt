@@ -13,7 +13,7 @@ fn used(rt: &HostRuntime) -> Result<MemoryDisk, Fail> {
 }
 
 // What stood there before: zeros, or an image.
-pub fn before(rt: &HostRuntime, is_image: bool) -> Result<MemoryDisk, Fail> {
+pub(crate) fn before(rt: &HostRuntime, is_image: bool) -> Result<MemoryDisk, Fail> {
     if is_image {
         used(rt)
     } else {
@@ -33,7 +33,7 @@ fn format_until(rt: &HostRuntime, is_image: bool, k: u64) -> Result<(bool, Memor
 }
 
 // The byte that block 1 is full of, or none where there is no label. All other blocks are blank.
-pub fn block_1(disk: MemoryDisk) -> Result<Option<u8>, Fail> {
+pub(crate) fn block_1(disk: MemoryDisk) -> Result<Option<u8>, Fail> {
     match opened(disk) {
         Ok(mut store) => {
             let bytes = block(&mut store, 1)?;

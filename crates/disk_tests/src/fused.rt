@@ -1,5 +1,7 @@
+use crate::contents::are_full;
 use crate::support::{put, sector};
 use sector_disk::{Counts, Fused, MemoryDisk, SectorDevice};
+use std::process::Abort;
 use std::test::Fail;
 
 // Six calls, and whether each of them failed.
@@ -30,17 +32,30 @@ fn passed_counts(failed: [bool; 6]) -> Counts {
     }
 }
 
+/// Makes six calls, of which these have to fail, and compares what the device was asked for and what its two sectors
+/// are full of.
+fn compare(
+    rt: &impl Abort,
+    device: Fused<MemoryDisk>,
+    want: [bool; 6],
+    bytes: [u8; 2],
+) -> Result<(), Fail> {
+    let mut fused = device;
+    assert_eq!(rt; fused.sectors(), 2);
+    assert_eq!(rt; outcomes(&mut fused), want);
+    let mut disk = fused.into_device();
+    assert_eq!(rt; disk.counts(), passed_counts(want), "{want:?}");
+    are_full(rt, &mut disk, &[(0, 0, bytes[0]), (1, 1, bytes[1])])
+}
+
 #[test]
 fn one_call_fails(rt: HostRuntime) -> Result<(), Fail> {
     for k in 1..8 {
-        let mut fused = Fused::once(MemoryDisk::new(rt.alloc(), 2)?, k);
-        let failed = outcomes(&mut fused);
+        let fused = Fused::once(MemoryDisk::new(rt.alloc(), 2)?, k);
         let want = [1, 2, 3, 4, 5, 6].map(|call: u64| call == k);
-        assert_eq!(rt; failed, want, "the call {k}");
-        let mut disk = fused.into_device();
-        assert_eq!(rt; disk.counts(), passed_counts(want));
-        assert_eq!(rt; sector(&mut disk, 0)?, [if k == 1 { 0 } else { 1 }; 512]);
-        assert_eq!(rt; sector(&mut disk, 1)?, [if k == 4 { 0 } else { 2 }; 512]);
+        let first = if k == 1 { 0 } else { 1 };
+        let second = if k == 4 { 0 } else { 2 };
+        compare(&rt, fused, want, [first, second])?;
     }
     Ok(())
 }
@@ -48,15 +63,11 @@ fn one_call_fails(rt: HostRuntime) -> Result<(), Fail> {
 #[test]
 fn all_calls_fail_from_one_on(rt: HostRuntime) -> Result<(), Fail> {
     for k in 1..8 {
-        let mut fused = Fused::from(MemoryDisk::new(rt.alloc(), 2)?, k);
-        assert_eq!(rt; fused.sectors(), 2);
-        let failed = outcomes(&mut fused);
+        let fused = Fused::from(MemoryDisk::new(rt.alloc(), 2)?, k);
         let want = [1, 2, 3, 4, 5, 6].map(|call: u64| call >= k);
-        assert_eq!(rt; failed, want, "from the call {k}");
-        let mut disk = fused.into_device();
-        assert_eq!(rt; disk.counts(), passed_counts(want));
-        assert_eq!(rt; sector(&mut disk, 0)?, [if k == 1 { 0 } else { 1 }; 512]);
-        assert_eq!(rt; sector(&mut disk, 1)?, [if k <= 4 { 0 } else { 2 }; 512]);
+        let first = if k == 1 { 0 } else { 1 };
+        let second = if k <= 4 { 0 } else { 2 };
+        compare(&rt, fused, want, [first, second])?;
     }
     Ok(())
 }

@@ -1,24 +1,19 @@
 // The bytes of an image, and which images are refused.
-use crate::support::{
-    BLOCKS, SECTORS, block, failing, formatted, opened, put, record, sector, spill,
-};
+use crate::contents::{are_full, block_is_full, holds};
+use crate::support::{BLOCKS, SECTORS, failing, formatted, opened, put, record, sector, spill};
 use journal::layout;
 use recovery::{OpenFault, format, open};
 use sector_disk::{MemoryDisk, SectorDevice};
+use std::process::Abort;
 use std::test::Fail;
 
 #[test]
 fn a_formatted_image_is_blank(rt: HostRuntime) -> Result<(), Fail> {
+    let mut label = [0; 512];
+    label[..12].copy_from_slice(b"F83BLOCK\x02\x00\x20\x00");
     let mut disk = formatted(&rt)?;
-    let label = sector(&mut disk, 0)?;
-    assert_eq!(rt; &label[..12], b"F83BLOCK\x02\x00\x20\x00".as_slice());
-    assert_eq!(rt; &label[12..], [0; 500].as_slice());
-    assert_eq!(rt; sector(&mut disk, 1)?, [0; 512]);
-    assert_eq!(rt; sector(&mut disk, 2)?, [0; 512]);
-    for k in 67..131 {
-        assert_eq!(rt; sector(&mut disk, k)?, [b' '; 512]);
-    }
-    Ok(())
+    holds(&rt, &mut disk, 0, &label)?;
+    are_full(&rt, &mut disk, &[(1, 2, 0), (67, 130, b' ')])
 }
 
 #[test]
@@ -31,30 +26,18 @@ fn a_format_leaves_the_slots(rt: HostRuntime) -> Result<(), Fail> {
         return Err("not formatted")?;
     };
     let mut disk = store.into_device();
-    for k in 3..67 {
-        assert_eq!(rt; sector(&mut disk, k)?, [7; 512]);
-    }
-    for k in 67..131 {
-        assert_eq!(rt; sector(&mut disk, k)?, [b' '; 512]);
-    }
-    Ok(())
+    are_full(&rt, &mut disk, &[(3, 66, 7), (67, 130, b' ')])
 }
 
 #[test]
 fn a_spill_writes_its_slot_alone(rt: HostRuntime) -> Result<(), Fail> {
     let mut store = opened(formatted(&rt)?)?;
     spill(&mut store, 1, 65)?;
-    assert_eq!(rt; block(&mut store, 1)?, [65; 1024]);
+    block_is_full(&rt, &mut store, 1, 65)?;
     let mut disk = store.into_device();
-    assert_eq!(rt; sector(&mut disk, 0)?, layout::label(BLOCKS));
-    for k in 1..67 {
-        let byte = if k == 5 || k == 6 { 65 } else { 0 };
-        assert_eq!(rt; sector(&mut disk, k)?, [byte; 512]);
-    }
-    for k in 67..131 {
-        assert_eq!(rt; sector(&mut disk, k)?, [b' '; 512]);
-    }
-    Ok(())
+    holds(&rt, &mut disk, 0, &layout::label(BLOCKS))?;
+    let rows = [(1, 4, 0), (5, 6, 65), (7, 66, 0), (67, 130, b' ')];
+    are_full(&rt, &mut disk, &rows)
 }
 
 #[test]
@@ -64,17 +47,15 @@ fn a_commit_writes_record_and_homes(rt: HostRuntime) -> Result<(), Fail> {
     spill(&mut store, 2, 66)?;
     store.commit()?;
     let mut disk = store.into_device();
-    assert_eq!(rt; sector(&mut disk, 2)?, record(&[6], &[65, 66]));
-    assert_eq!(rt; sector(&mut disk, 1)?, [0; 512]);
-    for k in 67..131 {
-        let byte = match k {
-            69 | 70 => 65,
-            71 | 72 => 66,
-            _ => b' ',
-        };
-        assert_eq!(rt; sector(&mut disk, k)?, [byte; 512]);
-    }
-    Ok(())
+    holds(&rt, &mut disk, 2, &record(&[6], &[65, 66]))?;
+    let rows = [
+        (1, 1, 0),
+        (67, 68, b' '),
+        (69, 70, 65),
+        (71, 72, 66),
+        (73, 130, b' '),
+    ];
+    are_full(&rt, &mut disk, &rows)
 }
 
 // SHA-256 of a byte 2, 479 zeros, and 1,024 bytes 65.
@@ -93,12 +74,11 @@ fn saved(rt: &HostRuntime) -> Result<MemoryDisk, Fail> {
 
 #[test]
 fn a_record_ends_with_its_digest(rt: HostRuntime) -> Result<(), Fail> {
+    let mut listed = [0; 512];
+    listed[0] = 2;
+    listed[480..].copy_from_slice(&DIGEST);
     let mut disk = saved(&rt)?;
-    let listed = sector(&mut disk, 2)?;
-    assert_eq!(rt; listed[0], 2);
-    assert_eq!(rt; &listed[1..480], [0; 479].as_slice());
-    assert_eq!(rt; &listed[480..], DIGEST.as_slice());
-    Ok(())
+    holds(&rt, &mut disk, 2, &listed)
 }
 
 // Two spills make four calls; then come the four reads of the digest, the record, a sync, the gate and a sync.
@@ -109,21 +89,29 @@ fn a_gate_is_opened_with_zeros_after_its_name(rt: HostRuntime) -> Result<(), Fai
     spill(&mut store, 2, 66)?;
     assert!(rt; store.commit().is_err());
     let mut disk = store.into_device().into_device().stop(&[]);
-    let gate = sector(&mut disk, 1)?;
-    assert_eq!(rt; &gate[..8], b"COMMIT83".as_slice());
-    assert_eq!(rt; &gate[8..], [0; 504].as_slice());
+    holds(&rt, &mut disk, 1, &open_gate())?;
     assert_eq!(rt; sector(&mut disk, 2)?[0], 6);
-    assert_eq!(rt; sector(&mut disk, 69)?, [b' '; 512]);
+    are_full(&rt, &mut disk, &[(69, 69, b' ')])
+}
+
+/// Compares why an image isn't opened.
+fn is_refused(rt: &impl Abort, disk: MemoryDisk, fault: OpenFault) -> Result<(), Fail> {
+    let sectors = disk.sectors();
+    assert_eq!(rt; opened(disk).err(), Some(fault), "{sectors} sectors");
     Ok(())
 }
 
 #[test]
 fn other_images_are_refused(rt: HostRuntime) -> Result<(), Fail> {
     let alloc = rt.alloc();
-    let short = format(MemoryDisk::new(alloc, 130)?, 32);
-    assert_eq!(rt; short.map_err(|e| e.0).err(), Some(OpenFault::BadSize));
-    let few = format(MemoryDisk::new(alloc, 127)?, 31);
-    assert_eq!(rt; few.map_err(|e| e.0).err(), Some(OpenFault::BadSize));
+    for (sectors, blocks) in [(130, 32), (127, 31)] {
+        let refused = format(MemoryDisk::new(alloc, sectors)?, blocks).map_err(|e| e.0);
+        assert_eq!(rt;
+            refused.err(),
+            Some(OpenFault::BadSize),
+            "{sectors} sectors"
+        );
+    }
     for (sectors, fault) in [
         (0, OpenFault::BadSize),
         (127, OpenFault::BadSize),
@@ -132,7 +120,7 @@ fn other_images_are_refused(rt: HostRuntime) -> Result<(), Fail> {
         (15_363, OpenFault::NoLabel),
         (15_367, OpenFault::BadSize),
     ] {
-        assert_eq!(rt; opened(MemoryDisk::new(alloc, sectors)?).err(), Some(fault));
+        is_refused(&rt, MemoryDisk::new(alloc, sectors)?, fault)?;
     }
     let good = layout::label(32);
     for (at, byte, fault) in [
@@ -150,7 +138,7 @@ fn other_images_are_refused(rt: HostRuntime) -> Result<(), Fail> {
         }
         let mut disk = MemoryDisk::new(alloc, SECTORS)?;
         put(&mut disk, 0, &label)?;
-        assert_eq!(rt; opened(disk).err(), Some(fault));
+        is_refused(&rt, disk, fault)?;
     }
     Ok(())
 }
@@ -164,11 +152,10 @@ fn the_largest_image_is_formatted_and_opened(rt: HostRuntime) -> Result<(), Fail
     assert_eq!(rt; store.blocks(), 3_840);
     spill(&mut store, 3_839, 65)?;
     store.commit()?;
-    assert_eq!(rt; block(&mut store, 3_839)?, [65; 1024]);
+    block_is_full(&rt, &mut store, 3_839, 65)?;
     let mut disk = store.into_device();
     assert_eq!(rt; sector(&mut disk, 2)?[479], 128);
-    assert_eq!(rt; sector(&mut disk, 15_362)?, [65; 512]);
-    Ok(())
+    are_full(&rt, &mut disk, &[(15_362, 15_362, 65)])
 }
 
 fn open_gate() -> [u8; 512] {
@@ -185,12 +172,9 @@ fn an_open_gate_is_obeyed(rt: HostRuntime) -> Result<(), Fail> {
     put(&mut disk, 5, &[65; 512])?;
     put(&mut disk, 6, &[65; 512])?;
     let mut store = opened(disk)?;
-    assert_eq!(rt; block(&mut store, 1)?, [65; 1024]);
+    block_is_full(&rt, &mut store, 1, 65)?;
     let mut disk = store.into_device();
-    assert_eq!(rt; sector(&mut disk, 69)?, [65; 512]);
-    assert_eq!(rt; sector(&mut disk, 70)?, [65; 512]);
-    assert_eq!(rt; sector(&mut disk, 1)?, [0; 512]);
-    Ok(())
+    are_full(&rt, &mut disk, &[(69, 70, 65), (1, 1, 0)])
 }
 
 // Whether these two disks hold the same.
@@ -252,8 +236,7 @@ fn under_a_closed_gate_other_slots_are_harmless(rt: HostRuntime) -> Result<(), F
     put(&mut disk, 5, &[66; 512])?;
     put(&mut disk, 2, &[255; 512])?;
     let mut store = opened(disk)?;
-    assert_eq!(rt; block(&mut store, 1)?, [65; 1024]);
-    Ok(())
+    block_is_full(&rt, &mut store, 1, 65)
 }
 
 #[test]
@@ -279,11 +262,15 @@ fn a_record_of_all_bits_lists_every_block_and_no_more(rt: HostRuntime) -> Result
     let before = disk.counts();
     let mut store = opened(disk)?;
     for b in 0..BLOCKS {
-        assert_eq!(rt; block(&mut store, b)?, [65; 1024]);
+        block_is_full(&rt, &mut store, b, 65)?;
     }
     let after = store.into_device().counts();
-    assert!(rt; after.writes.saturating_sub(before.writes) <= 65);
-    assert!(rt; after.syncs.saturating_sub(before.syncs) <= 3);
+    let writes = after.writes.saturating_sub(before.writes);
+    let syncs = after.syncs.saturating_sub(before.syncs);
+    assert!(rt;
+        writes <= 65 && syncs <= 3,
+        "{writes} writes and {syncs} syncs"
+    );
     Ok(())
 }
 
@@ -297,11 +284,10 @@ fn a_closed_gate_is_left_as_it_is(rt: HostRuntime) -> Result<(), Fail> {
     put(&mut disk, 2, &[255; 512])?;
     let before = disk.counts();
     let mut store = opened(disk)?;
-    assert_eq!(rt; block(&mut store, 1)?, [b' '; 1024]);
+    block_is_full(&rt, &mut store, 1, b' ')?;
     let mut disk = store.into_device();
     assert_eq!(rt; disk.counts().writes, before.writes);
-    assert_eq!(rt; sector(&mut disk, 1)?, gate);
-    Ok(())
+    holds(&rt, &mut disk, 1, &gate)
 }
 
 // 32 blocks: a record, an open gate, 64 sectors of homes and a closed gate.
@@ -319,7 +305,8 @@ fn a_commit_counts_its_calls(rt: HostRuntime) -> Result<(), Fail> {
     store.commit()?;
     store.commit()?;
     let after = store.into_device().counts();
-    assert_eq!(rt; after.writes.saturating_sub(before.writes), 67);
-    assert_eq!(rt; after.syncs.saturating_sub(before.syncs), 4);
+    let writes = after.writes.saturating_sub(before.writes);
+    let syncs = after.syncs.saturating_sub(before.syncs);
+    assert_eq!(rt; (writes, syncs), (67, 4));
     Ok(())
 }

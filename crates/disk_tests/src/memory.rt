@@ -1,4 +1,5 @@
-use crate::support::{put, sector};
+use crate::contents::{are_full, holds};
+use crate::support::put;
 use sector_disk::{Counts, Fate, MemoryDisk, SectorDevice};
 use std::test::Fail;
 
@@ -46,9 +47,7 @@ fn a_new_disk_is_blank(rt: HostRuntime) -> Result<(), Fail> {
             syncs: 0
         }
     );
-    for k in 0..131 {
-        assert_eq!(rt; sector(&mut disk, k)?, [0; 512]);
-    }
+    are_full(&rt, &mut disk, &[(0, 130, 0)])?;
     assert_eq!(rt; MemoryDisk::new(rt.alloc(), 0)?.sectors(), 0);
     Ok(())
 }
@@ -56,24 +55,14 @@ fn a_new_disk_is_blank(rt: HostRuntime) -> Result<(), Fail> {
 #[test]
 fn calls_are_counted_as_begun(rt: HostRuntime) -> Result<(), Fail> {
     let mut disk = unsynced_disk(&rt)?;
-    assert_eq!(rt; sector(&mut disk, 4)?, [24; 512]);
-    assert_eq!(rt; sector(&mut disk, 5)?, [15; 512]);
-    assert_eq!(rt;
-        disk.counts(),
-        Counts {
-            reads: 2,
-            writes: 10,
-            syncs: 1
-        }
-    );
-    assert_eq!(rt;
-        disk.stop(&[]).counts(),
-        Counts {
-            reads: 2,
-            writes: 10,
-            syncs: 1
-        }
-    );
+    are_full(&rt, &mut disk, &[(4, 4, 24), (5, 5, 15)])?;
+    let wanted = Counts {
+        reads: 2,
+        writes: 10,
+        syncs: 1,
+    };
+    let before = disk.counts();
+    assert_eq!(rt; [before, disk.stop(&[]).counts()], [wanted; 2]);
     Ok(())
 }
 
@@ -85,12 +74,10 @@ fn each_unsynced_sector_meets_its_fate(rt: HostRuntime) -> Result<(), Fail> {
             for third in [Fate::Lost, Fate::Kept, Fate::Torn(half_torn(24, 14))] {
                 let copy = disk.try_clone(rt.alloc())?;
                 let mut stopped = copy.stop(&[first, second, third, Fate::Torn([99; 512])]);
-                assert_eq!(rt; sector(&mut stopped, 0)?, [10; 512]);
-                assert_eq!(rt; sector(&mut stopped, 1)?, left(first, 11, 21));
-                assert_eq!(rt; sector(&mut stopped, 2)?, [12; 512]);
-                assert_eq!(rt; sector(&mut stopped, 3)?, left(second, 13, 23));
-                assert_eq!(rt; sector(&mut stopped, 4)?, left(third, 14, 24));
-                assert_eq!(rt; sector(&mut stopped, 5)?, [15; 512]);
+                are_full(&rt, &mut stopped, &[(0, 0, 10), (2, 2, 12), (5, 5, 15)])?;
+                holds(&rt, &mut stopped, 1, &left(first, 11, 21))?;
+                holds(&rt, &mut stopped, 3, &left(second, 13, 23))?;
+                holds(&rt, &mut stopped, 4, &left(third, 14, 24))?;
             }
         }
     }
@@ -109,7 +96,7 @@ fn sectors_past_the_end_of_the_fates_are_lost(rt: HostRuntime) -> Result<(), Fai
         let mut stopped = disk.try_clone(rt.alloc())?.stop(fates);
         for (place, k, old, new) in [(0, 1, 11, 21), (1, 3, 13, 23), (2, 4, 14, 24)] {
             let byte = if place < kept { new } else { old };
-            assert_eq!(rt; sector(&mut stopped, k)?, [byte; 512]);
+            holds(&rt, &mut stopped, k, &[byte; 512])?;
         }
     }
     Ok(())
@@ -120,10 +107,15 @@ fn nothing_is_unsynced_after_a_stop(rt: HostRuntime) -> Result<(), Fail> {
     let mut disk = unsynced_disk(&rt)?
         .stop(&[Fate::Kept])
         .stop(&[Fate::Torn([99; 512]); 6]);
-    for (k, byte) in [(0, 10), (1, 21), (2, 12), (3, 13), (4, 14), (5, 15)] {
-        assert_eq!(rt; sector(&mut disk, k)?, [byte; 512]);
-    }
-    Ok(())
+    let rows = [
+        (0, 0, 10),
+        (1, 1, 21),
+        (2, 2, 12),
+        (3, 3, 13),
+        (4, 4, 14),
+        (5, 5, 15),
+    ];
+    are_full(&rt, &mut disk, &rows)
 }
 
 #[test]
@@ -131,8 +123,13 @@ fn a_sync_leaves_nothing_to_a_stop(rt: HostRuntime) -> Result<(), Fail> {
     let mut disk = unsynced_disk(&rt)?;
     disk.sync()?;
     let mut disk = disk.stop(&[Fate::Torn([99; 512]); 6]);
-    for (k, byte) in [(0, 10), (1, 21), (2, 12), (3, 23), (4, 24), (5, 15)] {
-        assert_eq!(rt; sector(&mut disk, k)?, [byte; 512]);
-    }
-    Ok(())
+    let rows = [
+        (0, 0, 10),
+        (1, 1, 21),
+        (2, 2, 12),
+        (3, 3, 23),
+        (4, 4, 24),
+        (5, 5, 15),
+    ];
+    are_full(&rt, &mut disk, &rows)
 }

@@ -1,3 +1,4 @@
+use crate::contents::are_full;
 use crate::support::{put, sector};
 use sector_disk::{Fate, MemoryDisk, Recorded, SectorDevice};
 use std::test::Fail;
@@ -7,7 +8,7 @@ fn each_moment_is_told(rt: HostRuntime) -> Result<(), Fail> {
     let mut recorded = Recorded::new(rt.alloc(), MemoryDisk::new(rt.alloc(), 2)?);
     put(&mut recorded, 1, &[7; 512])?;
     put(&mut recorded, 1, &[8; 512])?;
-    assert_eq!(rt; sector(&mut recorded, 1)?, [8; 512]);
+    are_full(&rt, &mut recorded, &[(1, 1, 8)])?;
     recorded.sync()?;
     put(&mut recorded, 1, &[9; 512])?;
     assert_eq!(rt; recorded.past().len(), 5);
@@ -20,6 +21,6 @@ fn each_moment_is_told(rt: HostRuntime) -> Result<(), Fail> {
         let mut disk = disk.try_clone(rt.alloc())?.stop(&[]);
         assert_eq!(rt; sector(&mut disk, 1)?, [lost; 512], "at {moment}");
     }
-    assert_eq!(rt; sector(&mut recorded.into_device(), 1)?, [9; 512]);
-    Ok(())
+    let mut disk = recorded.into_device();
+    are_full(&rt, &mut disk, &[(1, 1, 9)])
 }

@@ -13,7 +13,7 @@ use std::test::Fail;
 const DIFFERENT: [u32; 10] = [1, 2, 5, 6, 7, 8, 69, 70, 71, 72];
 
 #[derive(Clone, Copy, PartialEq, Eq)]
-pub struct Image {
+pub(crate) struct Image {
     sectors: [[u8; 512]; 10],
 }
 
@@ -26,7 +26,7 @@ fn image_of(disk: &mut MemoryDisk) -> Result<Image, Fail> {
 }
 
 // A disk that holds the image, with nothing unsynced.
-pub fn disk_of(rt: &HostRuntime, image: &Image) -> Result<MemoryDisk, Fail> {
+pub(crate) fn disk_of(rt: &HostRuntime, image: &Image) -> Result<MemoryDisk, Fail> {
     let mut disk = formatted(rt)?;
     for (bytes, k) in image.sectors.iter().zip(DIFFERENT.iter()) {
         put(&mut disk, *k, bytes)?;
@@ -43,7 +43,7 @@ fn add(images: &mut Vec<Image>, image: Image) -> Result<(), Fail> {
 }
 
 // The images with an open gate that stops of the save leave.
-pub fn open_gates(rt: &HostRuntime) -> Result<Vec<Image>, Fail> {
+pub(crate) fn open_gates(rt: &HostRuntime) -> Result<Vec<Image>, Fail> {
     let mut images = Vec::new(rt.alloc());
     for k in 1..30 {
         let (_, disk) = save_until(rt, BLOCKS, k)?;

@@ -7,7 +7,11 @@ use std::test::Fail;
 
 // Blocks 1 and 2 are spilled and committed over a device that fails from call `k` on: whether the commit returned, and
 // the disk.
-pub fn save_until(rt: &HostRuntime, blocks: u16, k: u64) -> Result<(bool, MemoryDisk), Fail> {
+pub(crate) fn save_until(
+    rt: &HostRuntime,
+    blocks: u16,
+    k: u64,
+) -> Result<(bool, MemoryDisk), Fail> {
     let mut store = failing(formatted_with(rt, blocks)?, k, true)?;
     let saved = spill(&mut store, 1, 65).is_ok()
         && spill(&mut store, 2, 66).is_ok()

@@ -1,4 +1,5 @@
 // Images of layout 1, written sector by sector, are upgraded.
+use crate::contents::holds;
 use crate::support::{
     BLOCKS, SECTORS, WAYS, block, check, first_two, formatted, opened, put, sector, spill,
     stopped_by, unsynced_sectors,
@@ -53,14 +54,17 @@ fn an_old_image_is_upgraded(rt: HostRuntime) -> Result<(), Fail> {
     let (old_before, new_before) = (old.counts(), new.counts());
     upgrade(&mut old, &mut new)?;
     let (old_after, new_after) = (old.counts(), new.counts());
-    assert_eq!(rt; old_after.writes.saturating_sub(old_before.writes), 5);
-    assert_eq!(rt; old_after.syncs.saturating_sub(old_before.syncs), 3);
-    assert_eq!(rt; new_after.writes.saturating_sub(new_before.writes), 67);
-    assert_eq!(rt; new_after.syncs.saturating_sub(new_before.syncs), 3);
-    assert_eq!(rt; sector(&mut new, 0)?, layout::label(BLOCKS));
-    assert_eq!(rt; sector(&mut old, 0)?, layout::label_1(BLOCKS));
-    assert_eq!(rt; first_two(new)?, (65, 66));
-    assert_eq!(rt; old_two(&rt, old)?, (65, 66));
+    // The writes and syncs of the old image, and those of the new one.
+    let calls = [
+        old_after.writes.saturating_sub(old_before.writes),
+        old_after.syncs.saturating_sub(old_before.syncs),
+        new_after.writes.saturating_sub(new_before.writes),
+        new_after.syncs.saturating_sub(new_before.syncs),
+    ];
+    assert_eq!(rt; calls, [5, 3, 67, 3]);
+    holds(&rt, &mut new, 0, &layout::label(BLOCKS))?;
+    holds(&rt, &mut old, 0, &layout::label_1(BLOCKS))?;
+    assert_eq!(rt; [first_two(new)?, old_two(&rt, old)?], [(65, 66); 2]);
     Ok(())
 }
 

@@ -161,7 +161,7 @@ fn play_over_one(rt: &(impl Abort + AllocGlobal), sessions: &str) -> Result<(), 
 }
 
 /// Plays the sessions of a text.
-pub fn play_all(rt: &(impl Abort + AllocGlobal), sessions: &str) -> Result<(), Fail> {
+pub(crate) fn play_all(rt: &(impl Abort + AllocGlobal), sessions: &str) -> Result<(), Fail> {
     for sessions in sessions.split("----\n") {
         play_over_one(rt, sessions)?;
     }

@@ -11,6 +11,7 @@ use cell_machine::machine::Machine;
 use data_space::DataSpace;
 use stacks::{DataStack, ReturnStack};
 use std::alloc::Global;
+use std::process::Abort;
 use std::test::Fail;
 
 const STEPS: Event = Event::Fault(MachineFault::Steps);
@@ -169,14 +170,16 @@ const ENDS: [(u16, usize, u32, Event); 13] = [
     (133, 254, 4, Event::Done),
 ];
 
+/// Compares how a word ended, where so many steps were left.
+fn ended(rt: &impl Abort, word: u16, steps: u32, found: Event, wanted: Event) {
+    assert_eq!(rt; found, wanted, "{word} with {steps} steps");
+}
+
 #[test]
 fn calls_want_steps_units_and_cells(rt: HostRuntime) -> Result<(), Fail> {
     for (word, depth, steps, event) in ENDS {
-        assert_eq!(rt;
-            event_on(rt.alloc(), word, depth, steps)?,
-            event,
-            "{word} on {depth} cells with {steps} steps"
-        );
+        let found = event_on(rt.alloc(), word, depth, steps)?;
+        ended(&rt, word, steps, found, event);
     }
     Ok(())
 }

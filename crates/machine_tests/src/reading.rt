@@ -4,10 +4,10 @@ use arrayvec::ArrayVec;
 use std::test::Fail;
 
 /// The numbers of a part of a row.
-pub type Numbers = ArrayVec<u16, 256>;
+pub(crate) type Numbers = ArrayVec<u16, 256>;
 
 /// The numbers of a text. `'AB` is the bytes of `AB`, and `3*7` is three times 7.
-pub fn numbers(text: &str) -> Result<Numbers, Fail> {
+pub(crate) fn numbers(text: &str) -> Result<Numbers, Fail> {
     let mut numbers = ArrayVec::new();
     for word in text.split_whitespace() {
         match word.strip_prefix("'") {

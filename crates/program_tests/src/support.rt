@@ -14,14 +14,14 @@ use terminal::{RunFault, run_over};
 
 /// What a call of the program left.
 #[derive(Debug, Drop)]
-pub struct Left {
-    pub status: u8,
-    pub output: Vec<u8>,
-    pub errors: Vec<u8>,
+pub(crate) struct Left {
+    pub(crate) status: u8,
+    pub(crate) output: Vec<u8>,
+    pub(crate) errors: Vec<u8>,
 }
 
 /// The program, over systems of the whole language.
-pub fn command<R: Read, W: Write, E: Write>(
+pub(crate) fn command<R: Read, W: Write, E: Write>(
     rt: &(impl Files<File = File> + AllocGlobal),
     words: &[&str],
     input: &mut R,
@@ -34,7 +34,11 @@ pub fn command<R: Read, W: Write, E: Write>(
 }
 
 /// Calls the program.
-pub fn call(rt: &(impl Files<File = File> + AllocGlobal), words: &[&str], input: &[u8]) -> Left {
+pub(crate) fn call(
+    rt: &(impl Files<File = File> + AllocGlobal),
+    words: &[&str],
+    input: &[u8],
+) -> Left {
     let mut input = input;
     let mut output: Vec<u8> = Vec::new(rt.alloc());
     let mut errors: Vec<u8> = Vec::new(rt.alloc());
@@ -47,7 +51,7 @@ pub fn call(rt: &(impl Files<File = File> + AllocGlobal), words: &[&str], input:
 }
 
 /// Calls the program, and compares what it left.
-pub fn check(
+pub(crate) fn check(
     rt: &(impl Files<File = File> + AllocGlobal + Abort),
     words: &[&str],
     input: &[u8],
@@ -62,13 +66,13 @@ pub fn check(
 }
 
 /// Makes an empty folder.
-pub fn fresh_folder(rt: &(impl Files + AllocGlobal), folder: &str) -> io::Result<()> {
+pub(crate) fn fresh_folder(rt: &(impl Files + AllocGlobal), folder: &str) -> io::Result<()> {
     let _ = fs::remove_dir_all(rt, folder);
     fs::create_dir(rt, folder)
 }
 
 /// Runs lines over 32 blank blocks in memory.
-pub fn run<R: Read, W: Write>(
+pub(crate) fn run<R: Read, W: Write>(
     rt: &impl AllocGlobal,
     steps: u32,
     reader: &mut R,
@@ -92,7 +96,7 @@ pub fn run<R: Read, W: Write>(
 }
 
 /// What the program was given, in the lines that begin with `> `, and what it has to write, in the others.
-pub fn transcript(rt: &impl AllocGlobal, text: &str) -> Result<(Vec<u8>, Vec<u8>), Fail> {
+pub(crate) fn transcript(rt: &impl AllocGlobal, text: &str) -> Result<(Vec<u8>, Vec<u8>), Fail> {
     let mut input: Vec<u8> = Vec::new(rt.alloc());
     let mut output: Vec<u8> = Vec::new(rt.alloc());
     for line in text.lines() {
@@ -112,7 +116,7 @@ pub fn transcript(rt: &impl AllocGlobal, text: &str) -> Result<(Vec<u8>, Vec<u8>
 
 /// Calls the program in a folder, once for each line of a script: the status, the text of the failure if there is one, and after
 /// a colon the words, in which `@` stands for the folder. Nothing is given to it, and it has to print nothing.
-pub fn follow(
+pub(crate) fn follow(
     rt: &(impl Files<File = File> + AllocGlobal + Abort),
     folder: &str,
     script: &str,

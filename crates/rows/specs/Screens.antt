@@ -23,7 +23,7 @@ updated : Replies evicted
 unfolding digits_of divided
 updated = refl
 
--- the end of the input saves nothing
+-- what wasn't saved before the input ended is gone
 opened_again : Plays (over (saved_after (over (image [])) [] evicted)) [] (codes "1 BLOCK C@ ." ⇒ codes "32  ok" ∷ [])
 unfolding digits_of divided
 opened_again = refl

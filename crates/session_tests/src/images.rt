@@ -19,7 +19,7 @@ pub struct Image {
 }
 
 /// What a disk holds of an image.
-pub fn sectors_of(disk: &mut MemoryDisk) -> Result<Sectors, Fail> {
+pub(crate) fn sectors_of(disk: &mut MemoryDisk) -> Result<Sectors, Fail> {
     let mut sectors = [[0; 512]; 14];
     for (bytes, k) in sectors.iter_mut().zip(DIFFERENT.iter()) {
         *bytes = sector(disk, *k)?;
@@ -29,12 +29,12 @@ pub fn sectors_of(disk: &mut MemoryDisk) -> Result<Sectors, Fail> {
 
 impl Image {
     /// Is its gate open?
-    pub fn is_open(&self) -> bool {
+    pub(crate) fn is_open(&self) -> bool {
         gate_is_open(&self.sectors[0])
     }
 
     /// A disk that holds it, with nothing unsynced.
-    pub fn disk(&self, rt: &HostRuntime) -> Result<MemoryDisk, Fail> {
+    pub(crate) fn disk(&self, rt: &HostRuntime) -> Result<MemoryDisk, Fail> {
         let mut disk = image(rt)?;
         for (bytes, k) in self.sectors.iter().zip(DIFFERENT.iter()) {
             put(&mut disk, *k, bytes)?;
@@ -44,7 +44,7 @@ impl Image {
 }
 
 /// Adds an image that isn't there yet. One that is there has to mean the same.
-pub fn add(images: &mut Vec<Image>, image: Image) -> Result<(), Fail> {
+pub(crate) fn add(images: &mut Vec<Image>, image: Image) -> Result<(), Fail> {
     match images.iter().find(|known| known.sectors == image.sectors) {
         Some(known) => check(known.means == image.means, "an image has one meaning"),
         None => Ok(images.push(image)?),

@@ -85,7 +85,7 @@ fn hear(told: &mut Told, edited: &mut Fillings, reply: &str) {
 }
 
 /// What the replies say.
-pub fn heard(replies: &str) -> Told {
+pub(crate) fn heard(replies: &str) -> Told {
     let mut told = Told {
         saved: [b' '; 8],
         begun: None,
@@ -98,7 +98,7 @@ pub fn heard(replies: &str) -> Told {
 }
 
 /// A new image whose block 9 holds the text.
-pub fn image(rt: &HostRuntime) -> Result<MemoryDisk, Fail> {
+pub(crate) fn image(rt: &HostRuntime) -> Result<MemoryDisk, Fail> {
     let mut store = opened(formatted(rt)?)?;
     let mut text = [b' '; 1024];
     for (place, byte) in text.iter_mut().zip(LOADED) {
@@ -112,7 +112,7 @@ pub fn image(rt: &HostRuntime) -> Result<MemoryDisk, Fail> {
 }
 
 /// Runs the session over a store, between these streams.
-pub fn play<D: SectorDevice + Drop, R: Read, W: Write>(
+pub(crate) fn play<D: SectorDevice + Drop, R: Read, W: Write>(
     rt: &HostRuntime,
     store: Store<D>,
     reader: &mut R,
@@ -123,7 +123,7 @@ pub fn play<D: SectorDevice + Drop, R: Read, W: Write>(
 }
 
 /// What fills the blocks, once the image is opened.
-pub fn found(disk: MemoryDisk) -> Result<Fillings, Fail> {
+pub(crate) fn found(disk: MemoryDisk) -> Result<Fillings, Fail> {
     let mut store = opened(disk)?;
     let mut fillings = [0; 8];
     for (b, filling) in fillings.iter_mut().enumerate() {

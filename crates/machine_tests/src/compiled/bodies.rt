@@ -1,6 +1,6 @@
 //! Bodies that run to their end.
 
-use super::running::first_wrong;
+use super::running::all_run;
 use std::test::Fail;
 
 // in the last one J is the loop around this one, and no further one
@@ -116,19 +116,13 @@ const PARTS: &str = "\
 #[test]
 fn loops_are_counted(rt: HostRuntime) -> Result<(), Fail> {
     let tables = [("DO LOOP", LOOPS), ("+LOOP", BORDERS), ("LEAVE", LEAVES)];
-    for (name, rows) in tables {
-        assert_eq!(rt; first_wrong(rt.alloc(), rows)?, None, "{name}");
-    }
-    Ok(())
+    all_run(&rt, &tables)
 }
 
 #[test]
 fn tests_choose(rt: HostRuntime) -> Result<(), Fail> {
     let tables = [("IF", CHOICES), ("BEGIN", REPEATS)];
-    for (name, rows) in tables {
-        assert_eq!(rt; first_wrong(rt.alloc(), rows)?, None, "{name}");
-    }
-    Ok(())
+    all_run(&rt, &tables)
 }
 
 #[test]
@@ -139,17 +133,11 @@ fn bodies_call_and_exit(rt: HostRuntime) -> Result<(), Fail> {
         ("LOAD", LOADS),
         (">R", ASIDE),
     ];
-    for (name, rows) in tables {
-        assert_eq!(rt; first_wrong(rt.alloc(), rows)?, None, "{name}");
-    }
-    Ok(())
+    all_run(&rt, &tables)
 }
 
 #[test]
 fn bodies_ask(rt: HostRuntime) -> Result<(), Fail> {
     let tables = [("texts", TEXTS), ("COMPILE", ADDED), ("DOES>", PARTS)];
-    for (name, rows) in tables {
-        assert_eq!(rt; first_wrong(rt.alloc(), rows)?, None, "{name}");
-    }
-    Ok(())
+    all_run(&rt, &tables)
 }

@@ -1,6 +1,6 @@
 //! Bodies that end before their end.
 
-use super::running::first_unbroken;
+use super::running::all_break;
 use cell_machine::event::{Event, MachineFault, Op};
 use std::test::Fail;
 
@@ -87,29 +87,17 @@ const OTHERS: [(&str, Event); 12] = [
 
 #[test]
 fn what_is_put_aside_is_the_calls_own(rt: HostRuntime) -> Result<(), Fail> {
-    let tables = [
-        ("lists", ASIDE, RETURN_STACK),
-        ("units", UNITS, RETURN_STACK),
-    ];
-    for (name, rows, event) in tables {
-        assert_eq!(rt; first_unbroken(rt.alloc(), rows, event)?, None, "{name}");
-    }
-    Ok(())
+    let tables = [(ASIDE, RETURN_STACK), (UNITS, RETURN_STACK)];
+    all_break(&rt, &tables)
 }
 
 #[test]
 fn cells_are_missing_or_too_many(rt: HostRuntime) -> Result<(), Fail> {
-    let tables = [("empty", SHORT, STACK_EMPTY), ("full", FULL, STACK_FULL)];
-    for (name, rows, event) in tables {
-        assert_eq!(rt; first_unbroken(rt.alloc(), rows, event)?, None, "{name}");
-    }
-    Ok(())
+    let tables = [(SHORT, STACK_EMPTY), (FULL, STACK_FULL)];
+    all_break(&rt, &tables)
 }
 
 #[test]
 fn other_ends(rt: HostRuntime) -> Result<(), Fail> {
-    for (row, event) in OTHERS {
-        assert_eq!(rt; first_unbroken(rt.alloc(), row, event)?, None);
-    }
-    Ok(())
+    all_break(&rt, &OTHERS)
 }

@@ -97,17 +97,17 @@ fn what_does_not_fit_is_unbalanced(rt: HostRuntime) -> Result<(), Fail> {
 fn without_a_definition_nothing_is_added(rt: HostRuntime) -> Result<(), Fail> {
     let mut code = Code::new(rt.alloc())?;
     let mut compiler = Compiler::new();
-    assert_eq!(rt; compiler.is_open(), false);
+    let before = compiler.is_open();
     let steps = steps_of("7 DUP EXIT COMPILE IF THEN DO LEAVE DOES>")?;
-    assert!(rt; all_refused(&mut compiler, &mut code, &steps, Refusal::NoDefinition));
-    assert_eq!(rt;
-        finish(&mut compiler, &mut code),
-        Err(Refusal::NoDefinition)
-    );
+    let refused = all_refused(&mut compiler, &mut code, &steps, Refusal::NoDefinition);
+    let end = finish(&mut compiler, &mut code);
     begin(&mut compiler, &code)?;
-    assert_eq!(rt; compiler.is_open(), true);
+    let found = (before, refused, compiler.is_open());
+    assert_eq!(rt; found, (false, true, true));
     assert_eq!(rt; compiler.name(), b"A".as_slice());
-    assert_eq!(rt; begin(&mut compiler, &code), Err(Refusal::DefinitionOpen));
+    let again = begin(&mut compiler, &code);
+    let wanted = [Some(Refusal::NoDefinition), Some(Refusal::DefinitionOpen)];
+    assert_eq!(rt; [end.err(), again.err()], wanted);
     Ok(())
 }
 
@@ -143,15 +143,13 @@ fn literals(compiler: &mut Compiler, code: &mut Code, count: usize) -> Result<u1
 fn bodies_fill_the_store(rt: HostRuntime) -> Result<(), Fail> {
     let mut code = Code::new(rt.alloc())?;
     let mut compiler = Compiler::new();
-    assert_eq!(rt; literals(&mut compiler, &mut code, 16383)?, 0);
+    let first = literals(&mut compiler, &mut code, 16383)?;
     let last = empty_body(&mut compiler, &mut code)?;
-    assert_eq!(rt; last, 32767);
-    assert_eq!(rt;
-        empty_body(&mut compiler, &mut code),
-        Err(Refusal::CodeFull)
-    );
+    let refused = empty_body(&mut compiler, &mut code);
     compiler.cut(last);
-    assert_eq!(rt; empty_body(&mut compiler, &mut code), Ok(32767));
+    let again = empty_body(&mut compiler, &mut code);
+    let wanted = [Ok(0), Ok(32767), Err(Refusal::CodeFull), Ok(32767)];
+    assert_eq!(rt; [Ok(first), Ok(last), refused, again], wanted);
     Ok(())
 }
 
@@ -196,21 +194,14 @@ fn no_cell_is_left(rt: HostRuntime) -> Result<(), Fail> {
         Step::Do,
         Step::Does,
     ];
-    assert!(rt; all_refused(&mut compiler, &mut code, &steps, Refusal::CodeFull));
-    assert_eq!(rt;
-        apply(&mut compiler, &mut code, Step::Leave),
-        Err(Refusal::Unbalanced)
-    );
+    let any = all_refused(&mut compiler, &mut code, &steps, Refusal::CodeFull);
+    let leave = apply(&mut compiler, &mut code, Step::Leave);
     apply(&mut compiler, &mut code, Step::Begin)?;
-    assert!(rt;
-        all_refused(
-            &mut compiler,
-            &mut code,
-            &[Step::Until, Step::While],
-            Refusal::CodeFull
-        )
-    );
-    assert_eq!(rt; finish(&mut compiler, &mut code), Err(Refusal::Unbalanced));
+    let steps = [Step::Until, Step::While];
+    let after_begin = all_refused(&mut compiler, &mut code, &steps, Refusal::CodeFull);
+    let end = finish(&mut compiler, &mut code);
+    assert_eq!(rt; (any, after_begin), (true, true));
+    assert_eq!(rt; [leave.err(), end.err()], [Some(Refusal::Unbalanced); 2]);
     Ok(())
 }
 
@@ -236,14 +227,13 @@ fn at_most_256_structures_are_open(rt: HostRuntime) -> Result<(), Fail> {
     Ok(())
 }
 
-/// The cells of a text of so many bytes and of `;`.
-fn cells_of_text(alloc: Global, kind: TextKind, bytes: &[u8]) -> Result<u16, Fail>
-    requires { length bytes.now ≤ 1024 }
-{
+/// The cells of a text of so many bytes, at most 1,024, and of `;`.
+fn cells_of_text(alloc: Global, kind: TextKind, count: usize) -> Result<u16, Fail> {
+    let bytes = [65; 1024];
     let mut code = Code::new(alloc)?;
     let mut compiler = Compiler::new();
     begin(&mut compiler, &code)?;
-    text(&mut compiler, &mut code, kind, bytes)?;
+    text(&mut compiler, &mut code, kind, &bytes[..count.min(1024)])?;
     finish(&mut compiler, &mut code)?;
     let next = define(&mut compiler, &mut code, &[])?;
     Ok(next)
@@ -251,13 +241,16 @@ fn cells_of_text(alloc: Global, kind: TextKind, bytes: &[u8]) -> Result<u16, Fai
 
 #[test]
 fn a_text_takes_two_cells_and_half_its_bytes(rt: HostRuntime) -> Result<(), Fail> {
-    let alloc = rt.alloc();
-    let bytes = [65; 1024];
-    assert_eq!(rt; cells_of_text(alloc, TextKind::Prints, &bytes[..0])?, 3);
-    assert_eq!(rt; cells_of_text(alloc, TextKind::Prints, &bytes[..1])?, 4);
-    assert_eq!(rt; cells_of_text(alloc, TextKind::AbortsWith, &bytes[..2])?, 4);
-    assert_eq!(rt; cells_of_text(alloc, TextKind::AbortsWith, &bytes[..3])?, 5);
-    assert_eq!(rt; cells_of_text(alloc, TextKind::Prints, &bytes)?, 515);
+    for (kind, count, cells) in [
+        (TextKind::Prints, 0, 3),
+        (TextKind::Prints, 1, 4),
+        (TextKind::AbortsWith, 2, 4),
+        (TextKind::AbortsWith, 3, 5),
+        (TextKind::Prints, 1024, 515),
+    ] {
+        let found = cells_of_text(rt.alloc(), kind, count)?;
+        assert_eq!(rt; found, cells, "{count} bytes");
+    }
     Ok(())
 }
 
@@ -271,8 +264,7 @@ fn a_leave_within_an_if_goes_past_the_loop(rt: HostRuntime) -> Result<(), Fail> 
         &mut code,
         &[Step::Do, Step::If, Step::Leave, Step::Then, Step::Loop],
     )?;
-    assert_eq!(rt; code.cell(2), 5, "the test goes to THEN");
-    assert_eq!(rt; code.cell(4), 7, "LEAVE goes past LOOP");
-    assert_eq!(rt; code.cell(6), 1, "LOOP goes to the first cell after DO");
+    // The test goes to THEN, LEAVE goes past LOOP, and LOOP goes to the first cell after DO.
+    assert_eq!(rt; [code.cell(2), code.cell(4), code.cell(6)], [5, 7, 1]);
     Ok(())
 }

@@ -113,11 +113,12 @@ fn nothing_is_added_where_nothing_is_open(rt: HostRuntime) -> Result<(), Fail> {
     let mut compiler = Compiler::new();
     let steps = steps_of(NO_WORDS)?;
     let words = steps_of("DUP EXIT COMPILE")?;
-    assert!(rt; all_refused(&mut compiler, &mut code, &steps, Refusal::NoDefinition));
-    assert!(rt; all_refused(&mut compiler, &mut code, &words, Refusal::NoDefinition));
+    let structures = all_refused(&mut compiler, &mut code, &steps, Refusal::NoDefinition);
+    let called = all_refused(&mut compiler, &mut code, &words, Refusal::NoDefinition);
     begin(&mut compiler, &code)?;
     finish(&mut compiler, &mut code)?;
-    assert!(rt; all_refused(&mut compiler, &mut code, &steps, Refusal::NoDefinition));
+    let after = all_refused(&mut compiler, &mut code, &steps, Refusal::NoDefinition);
+    assert_eq!(rt; [structures, called, after], [true; 3]);
     Ok(())
 }
 

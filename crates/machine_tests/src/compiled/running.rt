@@ -16,6 +16,7 @@ use compiler::{Compiler, Refusal};
 use data_space::DataSpace;
 use stacks::{DataStack, Entry, ReturnStack};
 use std::alloc::Global;
+use std::process::Abort;
 use std::test::Fail;
 
 const COMMA: u16 = 104;
@@ -361,7 +362,7 @@ fn breaks(alloc: Global, row: &Row, event: Event) -> Result<bool, Fail> {
 
 /// The first of the bodies that doesn't run so, if there is one. A row is a body, the cells before it and after it, the
 /// top last, what it prints, and its steps: `BODY ; BEFORE -- AFTER ; PRINTED ; STEPS`.
-pub fn first_wrong(alloc: Global, rows: &'static str) -> Result<Option<&'static str>, Fail> {
+fn first_wrong(alloc: Global, rows: &'static str) -> Result<Option<&'static str>, Fail> {
     for text in rows.split("|") {
         if !does(alloc, &row_of(text)?)? {
             return Ok(Some(text));
@@ -370,9 +371,20 @@ pub fn first_wrong(alloc: Global, rows: &'static str) -> Result<Option<&'static 
     Ok(None)
 }
 
+/// Compares the bodies of named tables with what their rows say.
+pub(crate) fn all_run(
+    rt: &(impl Abort + AllocGlobal),
+    tables: &[(&str, &'static str)],
+) -> Result<(), Fail> {
+    for (name, rows) in tables {
+        assert_eq!(rt; first_wrong(rt.alloc(), rows)?, None, "{name}");
+    }
+    Ok(())
+}
+
 /// The first of the bodies that doesn't end so, if there is one. A row is a body, the cells before it, what it prints, and
 /// its steps: `BODY ; BEFORE ; PRINTED ; STEPS`.
-pub fn first_unbroken(
+fn first_unbroken(
     alloc: Global,
     rows: &'static str,
     event: Event,
@@ -383,4 +395,15 @@ pub fn first_unbroken(
         }
     }
     Ok(None)
+}
+
+/// Compares the ends of the bodies of each table with the event that they have in common.
+pub(crate) fn all_break(
+    rt: &(impl Abort + AllocGlobal),
+    tables: &[(&'static str, Event)],
+) -> Result<(), Fail> {
+    for (rows, event) in tables {
+        assert_eq!(rt; first_unbroken(rt.alloc(), rows, *event)?, None);
+    }
+    Ok(())
 }

@@ -8,7 +8,7 @@ use compiler::{Compiler, Refusal, TextKind};
 
 /// A call that adds something.
 #[derive(Clone, Copy, Default)]
-pub enum Step {
+pub(crate) enum Step {
     Literal(u16),
     /// a word, by its token
     Word(u16),
@@ -37,7 +37,7 @@ fn at_most(bytes: &[u8]) -> &[u8]
 }
 
 #[tactic(auto, using(crate::proofs::Sound::sound_added))]
-pub fn apply(compiler: &mut Compiler, code: &mut Code, step: Step) -> Result<(), Refusal>
+pub(crate) fn apply(compiler: &mut Compiler, code: &mut Code, step: Step) -> Result<(), Refusal>
     requires { IsSound compiler.old code.old }
     ensures { IsSound compiler.new code.new }
 {
@@ -62,7 +62,11 @@ pub fn apply(compiler: &mut Compiler, code: &mut Code, step: Step) -> Result<(),
 }
 
 /// Adds them all, or as far as the first refusal.
-pub fn apply_all(compiler: &mut Compiler, code: &mut Code, steps: &[Step]) -> Result<(), Refusal>
+pub(crate) fn apply_all(
+    compiler: &mut Compiler,
+    code: &mut Code,
+    steps: &[Step],
+) -> Result<(), Refusal>
     requires { IsSound compiler.old code.old }
     ensures { IsSound compiler.new code.new }
 {
@@ -75,7 +79,7 @@ pub fn apply_all(compiler: &mut Compiler, code: &mut Code, steps: &[Step]) -> Re
 }
 
 /// Adds one so many times, or as often as it is let in.
-pub fn apply_often(
+pub(crate) fn apply_often(
     compiler: &mut Compiler,
     code: &mut Code,
     step: Step,
@@ -93,7 +97,7 @@ pub fn apply_often(
 }
 
 /// Whether each of them is refused in this way.
-pub fn all_refused(
+pub(crate) fn all_refused(
     compiler: &mut Compiler,
     code: &mut Code,
     steps: &[Step],
@@ -110,14 +114,14 @@ pub fn all_refused(
     true
 }
 
-pub fn begin(compiler: &mut Compiler, code: &Code) -> Result<(), Refusal>
+pub(crate) fn begin(compiler: &mut Compiler, code: &Code) -> Result<(), Refusal>
     requires { IsSound compiler.old code.now }
     ensures { IsSound compiler.new code.now }
 {
     compiler.begin(b"A")
 }
 
-pub fn finish(compiler: &mut Compiler, code: &mut Code) -> Result<u16, Refusal>
+pub(crate) fn finish(compiler: &mut Compiler, code: &mut Code) -> Result<u16, Refusal>
     requires { IsSound compiler.old code.old }
     ensures sound { IsSound compiler.new code.new }
     ensures closed { IfOk result (λ place. IsClosed compiler.new) }
@@ -126,7 +130,11 @@ pub fn finish(compiler: &mut Compiler, code: &mut Code) -> Result<u16, Refusal>
 }
 
 /// A definition of these, to its end.
-pub fn define(compiler: &mut Compiler, code: &mut Code, steps: &[Step]) -> Result<u16, Refusal>
+pub(crate) fn define(
+    compiler: &mut Compiler,
+    code: &mut Code,
+    steps: &[Step],
+) -> Result<u16, Refusal>
     requires { IsSound compiler.old code.old }
     ensures { IsSound compiler.new code.new }
 {
@@ -136,7 +144,7 @@ pub fn define(compiler: &mut Compiler, code: &mut Code, steps: &[Step]) -> Resul
 }
 
 #[tactic(auto, using(crate::proofs::Sound::sound_added))]
-pub fn text(
+pub(crate) fn text(
     compiler: &mut Compiler,
     code: &mut Code,
     kind: TextKind,

@@ -16,10 +16,10 @@ const TOKENS: [u16; 26] = [
 const STRUCTURES: &str = "IF ELSE THEN BEGIN UNTIL WHILE REPEAT DO LOOP +LOOP LEAVE DOES>";
 
 /// The calls of a definition.
-pub type Steps = ArrayVec<Step, 32>;
+pub(crate) type Steps = ArrayVec<Step, 32>;
 
 /// The calls that the words of a text make.
-pub fn steps_of(source: &'static str) -> Result<Steps, Fail> {
+pub(crate) fn steps_of(source: &'static str) -> Result<Steps, Fail> {
     let mut steps = ArrayVec::new();
     for word in source.split_whitespace() {
         steps.try_push(step_of(word)?)?;
@@ -28,7 +28,7 @@ pub fn steps_of(source: &'static str) -> Result<Steps, Fail> {
 }
 
 /// The call that a word makes.
-pub fn step_of(word: &'static str) -> Result<Step, Fail> {
+pub(crate) fn step_of(word: &'static str) -> Result<Step, Fail> {
     if let Some(text) = word.strip_prefix(".'") {
         return Ok(Step::Prints(text.as_bytes()));
     }

@@ -1,6 +1,6 @@
 //! Sums, products, halves and bits of single cells.
 
-use super::support::first_wrong;
+use super::support::all_do;
 use super::tokens;
 use std::test::Fail;
 
@@ -56,10 +56,7 @@ fn sums_and_products_wrap(rt: HostRuntime) -> Result<(), Fail> {
         ("-", tokens::MINUS, DIFFERENCES),
         ("*", tokens::TIMES, PRODUCTS),
     ];
-    for (name, word, rows) in words {
-        assert_eq!(rt; first_wrong(rt.alloc(), word, rows)?, None, "{name}");
-    }
-    Ok(())
+    all_do(&rt, &words)
 }
 
 #[test]
@@ -73,10 +70,7 @@ fn one_cell_makes_another(rt: HostRuntime) -> Result<(), Fail> {
         ("NEGATE", tokens::NEGATE, NEGATIONS),
         ("ABS", tokens::ABS, ABSOLUTES),
     ];
-    for (name, word, rows) in words {
-        assert_eq!(rt; first_wrong(rt.alloc(), word, rows)?, None, "{name}");
-    }
-    Ok(())
+    all_do(&rt, &words)
 }
 
 #[test]
@@ -87,8 +81,5 @@ fn bit_by_bit(rt: HostRuntime) -> Result<(), Fail> {
         ("XOR", tokens::XOR, EXCLUSIONS),
         ("NOT", tokens::NOT, COMPLEMENTS),
     ];
-    for (name, word, rows) in words {
-        assert_eq!(rt; first_wrong(rt.alloc(), word, rows)?, None, "{name}");
-    }
-    Ok(())
+    all_do(&rt, &words)
 }

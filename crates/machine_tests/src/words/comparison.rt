@@ -1,6 +1,6 @@
 //! Comparisons of single cells. True is 65,535.
 
-use super::support::first_wrong;
+use super::support::all_do;
 use super::tokens;
 use std::test::Fail;
 
@@ -42,10 +42,7 @@ fn two_cells_are_compared(rt: HostRuntime) -> Result<(), Fail> {
         ("U<", tokens::U_LESS, UNSIGNED_LESS),
         ("=", tokens::EQUALS, EQUALS),
     ];
-    for (name, word, rows) in words {
-        assert_eq!(rt; first_wrong(rt.alloc(), word, rows)?, None, "{name}");
-    }
-    Ok(())
+    all_do(&rt, &words)
 }
 
 #[test]
@@ -55,17 +52,11 @@ fn a_cell_is_compared_with_zero(rt: HostRuntime) -> Result<(), Fail> {
         ("0=", tokens::ZERO_EQUALS, IS_ZERO),
         ("0>", tokens::ZERO_GREATER, ABOVE_ZERO),
     ];
-    for (name, word, rows) in words {
-        assert_eq!(rt; first_wrong(rt.alloc(), word, rows)?, None, "{name}");
-    }
-    Ok(())
+    all_do(&rt, &words)
 }
 
 #[test]
 fn one_of_two_cells_is_left(rt: HostRuntime) -> Result<(), Fail> {
     let words = [("MAX", tokens::MAX, GREATEST), ("MIN", tokens::MIN, LEAST)];
-    for (name, word, rows) in words {
-        assert_eq!(rt; first_wrong(rt.alloc(), word, rows)?, None, "{name}");
-    }
-    Ok(())
+    all_do(&rt, &words)
 }

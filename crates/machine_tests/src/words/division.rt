@@ -1,6 +1,6 @@
 //! Signed division, floored: the remainder has the divisor's sign. In the rows 65,529 is -7, and 65,532 is -4.
 
-use super::support::{all_end, first_wrong};
+use super::support::{all_do, all_end};
 use super::tokens;
 use cell_machine::event::{Event, MachineFault};
 use std::test::Fail;
@@ -50,10 +50,7 @@ fn quotients_are_floored(rt: HostRuntime) -> Result<(), Fail> {
         ("MOD", tokens::MOD, REMAINDERS),
         ("/MOD", tokens::DIVIDE_MOD, BOTH),
     ];
-    for (name, word, rows) in words {
-        assert_eq!(rt; first_wrong(rt.alloc(), word, rows)?, None, "{name}");
-    }
-    Ok(())
+    all_do(&rt, &words)
 }
 
 #[test]
@@ -62,26 +59,20 @@ fn products_are_divided_whole(rt: HostRuntime) -> Result<(), Fail> {
         ("*/", tokens::TIMES_DIVIDE, SCALED),
         ("*/MOD", tokens::TIMES_DIVIDE_MOD, SCALED_BOTH),
     ];
-    for (name, word, rows) in words {
-        assert_eq!(rt; first_wrong(rt.alloc(), word, rows)?, None, "{name}");
-    }
-    Ok(())
+    all_do(&rt, &words)
 }
 
 #[test]
 fn a_quotient_has_to_fit(rt: HostRuntime) -> Result<(), Fail> {
     let words = [
-        ("/", tokens::DIVIDE, UNDIVIDED),
-        ("MOD", tokens::MOD, UNDIVIDED),
-        ("/MOD", tokens::DIVIDE_MOD, UNDIVIDED),
-        ("*/", tokens::TIMES_DIVIDE, UNSCALED),
-        ("*/MOD", tokens::TIMES_DIVIDE_MOD, UNSCALED),
+        (tokens::DIVIDE, UNDIVIDED),
+        (tokens::MOD, UNDIVIDED),
+        (tokens::DIVIDE_MOD, UNDIVIDED),
+        (tokens::TIMES_DIVIDE, UNSCALED),
+        (tokens::TIMES_DIVIDE_MOD, UNSCALED),
     ];
-    for (name, word, rows) in words {
-        assert!(rt;
-            all_end(rt.alloc(), word, rows, Event::Fault(MachineFault::Division))?,
-            "{name}"
-        );
+    for (word, rows) in words {
+        all_end(&rt, word, rows, Event::Fault(MachineFault::Division))?;
     }
     Ok(())
 }

@@ -1,6 +1,6 @@
 //! Double numbers: two cells, the most significant on top.
 
-use super::support::{all_end, first_wrong};
+use super::support::{all_do, all_end};
 use super::tokens;
 use cell_machine::event::{Event, MachineFault};
 use std::test::Fail;
@@ -38,12 +38,9 @@ fn products_and_quotients_are_unsigned(rt: HostRuntime) -> Result<(), Fail> {
         ("UM*", tokens::UM_TIMES, PRODUCTS),
         ("UM/MOD", tokens::UM_DIVIDE_MOD, QUOTIENTS),
     ];
-    for (name, word, rows) in words {
-        assert_eq!(rt; first_wrong(rt.alloc(), word, rows)?, None, "{name}");
-    }
+    all_do(&rt, &words)?;
     let undivided = Event::Fault(MachineFault::Division);
-    assert!(rt; all_end(rt.alloc(), tokens::UM_DIVIDE_MOD, UNDIVIDED, undivided)?);
-    Ok(())
+    all_end(&rt, tokens::UM_DIVIDE_MOD, UNDIVIDED, undivided)
 }
 
 #[test]
@@ -53,8 +50,5 @@ fn doubles_wrap_and_compare(rt: HostRuntime) -> Result<(), Fail> {
         ("DNEGATE", tokens::DNEGATE, NEGATIONS),
         ("D<", tokens::D_LESS, LESS),
     ];
-    for (name, word, rows) in words {
-        assert_eq!(rt; first_wrong(rt.alloc(), word, rows)?, None, "{name}");
-    }
-    Ok(())
+    all_do(&rt, &words)
 }

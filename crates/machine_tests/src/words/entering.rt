@@ -14,21 +14,16 @@ fn a_body_wants_a_unit(rt: HostRuntime) -> Result<(), Fail> {
         .enter(&mut stack, &mut returns, Work::Part(9, 1280))
         .ok()
         .ok_or("room")?;
-    assert_eq!(rt; stack.pop()?, 1280);
+    let address = stack.pop()?;
     for _ in 0..255 {
         returns.push(Entry::Value(0))?;
     }
     let mut other = Machine::new();
-    assert_eq!(rt;
-        other.enter(&mut stack, &mut returns, Work::Body(9)),
-        Err(MachineFault::ReturnStack)
-    );
+    let body = other.enter(&mut stack, &mut returns, Work::Body(9));
     let mut third = Machine::new();
-    assert_eq!(rt;
-        third.enter(&mut stack, &mut returns, Work::Part(9, 1280)),
-        Err(MachineFault::ReturnStack)
-    );
-    assert_eq!(rt; stack.depth(), 0);
+    let part = third.enter(&mut stack, &mut returns, Work::Part(9, 1280));
+    assert_eq!(rt; [body, part], [Err(MachineFault::ReturnStack); 2]);
+    assert_eq!(rt; (address, stack.depth()), (1280, 0));
     Ok(())
 }
 
@@ -45,13 +40,9 @@ fn a_part_wants_a_cell(rt: HostRuntime) -> Result<(), Fail> {
         machine.enter(&mut stack, &mut returns, Work::Part(9, 1280)),
         Err(MachineFault::StackFull)
     );
-    assert_eq!(rt; stack.depth(), 256);
-    assert_eq!(rt; returns.units(), 0);
-    assert_eq!(rt;
-        machine.enter(&mut stack, &mut returns, Work::Body(9)),
-        Ok(())
-    );
-    assert_eq!(rt; returns.units(), 1);
+    let (cells, before) = (stack.depth(), returns.units());
+    let body = machine.enter(&mut stack, &mut returns, Work::Body(9));
+    let after = returns.units();
     for _ in 0..255 {
         returns.push(Entry::Value(0))?;
     }
@@ -61,9 +52,8 @@ fn a_part_wants_a_cell(rt: HostRuntime) -> Result<(), Fail> {
         Err(MachineFault::ReturnStack),
         "a unit comes before a cell"
     );
-    assert_eq!(rt;
-        other.enter(&mut stack, &mut returns, Work::Primitive(36)),
-        Ok(())
-    );
+    let word = other.enter(&mut stack, &mut returns, Work::Primitive(36));
+    assert_eq!(rt; (cells, before, after), (256, 0, 1));
+    assert_eq!(rt; [body, word], [Ok(()); 2]);
     Ok(())
 }

@@ -1,9 +1,10 @@
 //! Words on data space. A cell there has its low byte first, at any address.
 
-use super::support::{event_of, first_wrong};
+use super::support::{all_do, event_of};
 use super::tokens;
 use cell_machine::event::{Event, MachineFault};
 use std::alloc::Global;
+use std::process::Abort;
 use std::test::Fail;
 
 const FETCHES: &str = "\
@@ -116,10 +117,7 @@ fn cells_in_data_space(rt: HostRuntime) -> Result<(), Fail> {
         ("!", tokens::STORE, STORES),
         ("+!", tokens::PLUS_STORE, ADDITIONS),
     ];
-    for (name, word, rows) in words {
-        assert_eq!(rt; first_wrong(rt.alloc(), word, rows)?, None, "{name}");
-    }
-    Ok(())
+    all_do(&rt, &words)
 }
 
 #[test]
@@ -129,10 +127,7 @@ fn bytes_in_data_space(rt: HostRuntime) -> Result<(), Fail> {
         ("C!", tokens::C_STORE, BYTE_STORES),
         ("COUNT", tokens::COUNT, COUNTS),
     ];
-    for (name, word, rows) in words {
-        assert_eq!(rt; first_wrong(rt.alloc(), word, rows)?, None, "{name}");
-    }
-    Ok(())
+    all_do(&rt, &words)
 }
 
 #[test]
@@ -143,10 +138,7 @@ fn ranges_of_bytes(rt: HostRuntime) -> Result<(), Fail> {
         ("FILL", tokens::FILL, FILLS),
         ("-TRAILING", tokens::TRAILING, TRAILS),
     ];
-    for (name, word, rows) in words {
-        assert_eq!(rt; first_wrong(rt.alloc(), word, rows)?, None, "{name}");
-    }
-    Ok(())
+    all_do(&rt, &words)
 }
 
 #[test]
@@ -156,10 +148,7 @@ fn system_cells_are_set(rt: HostRuntime) -> Result<(), Fail> {
         ("[", tokens::LEFT_BRACKET, INTERPRETS),
         ("]", tokens::RIGHT_BRACKET, COMPILES),
     ];
-    for (name, word, rows) in words {
-        assert_eq!(rt; first_wrong(rt.alloc(), word, rows)?, None, "{name}");
-    }
-    Ok(())
+    all_do(&rt, &words)
 }
 
 // what a range takes that ends just past the last byte, or far past it, and the steps of it
@@ -209,27 +198,22 @@ fn ends(alloc: Global, word: u16, row: &str, event: Event) -> Result<bool, Fail>
     Ok(short == Event::Fault(MachineFault::Steps) && event_of(alloc, word, cells, steps)? == event)
 }
 
-/// Whether a word ends so at each of the rows.
-fn all_end(alloc: Global, word: u16, rows: &str, event: Event) -> Result<bool, Fail> {
-    for row in rows.split("|") {
-        if !ends(alloc, word, row, event)? {
-            return Ok(false);
+/// Tests that each word ends so at each of its rows.
+fn all_end(
+    rt: &(impl Abort + AllocGlobal),
+    words: &[(&str, u16, &str)],
+    event: Event,
+) -> Result<(), Fail> {
+    for (name, word, rows) in words {
+        for row in rows.split("|") {
+            assert!(rt; ends(rt.alloc(), *word, row, event)?, "{name} on {row}");
         }
     }
-    Ok(true)
+    Ok(())
 }
 
 #[test]
 fn ranges_end_within_data_space(rt: HostRuntime) -> Result<(), Fail> {
-    let alloc = rt.alloc();
-    for (name, word, rows) in PAST_THE_END {
-        assert!(rt;
-            all_end(alloc, word, rows, Event::Fault(MachineFault::Address))?,
-            "{name}"
-        );
-    }
-    for (name, word, rows) in TO_THE_END {
-        assert!(rt; all_end(alloc, word, rows, Event::Done)?, "{name}");
-    }
-    Ok(())
+    all_end(&rt, &PAST_THE_END, Event::Fault(MachineFault::Address))?;
+    all_end(&rt, &TO_THE_END, Event::Done)
 }

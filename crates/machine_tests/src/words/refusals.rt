@@ -1,9 +1,9 @@
 //! What a word is refused for before it does anything, and what the machine leaves to others.
 
-use super::support::{changes_nothing, event_of, event_on};
+use super::support::{changes_nothing, ended, event_of, event_on};
 use super::tokens;
 use cell_machine::event::{Event, MachineFault, Op};
-use std::alloc::Global;
+use std::process::Abort;
 use std::test::Fail;
 
 // words by how many cells they take
@@ -68,16 +68,23 @@ const OF_THREE: [u16; 7] = [
 
 const OF_FOUR: [u16; 2] = [tokens::D_PLUS, tokens::D_LESS];
 
-/// Whether each of these words wants more cells than these, once its step is paid.
-fn all_want_more(alloc: Global, words: &[u16], cells: &str) -> Result<bool, Fail> {
+const STEPS: Event = Event::Fault(MachineFault::Steps);
+
+const STACK_EMPTY: Event = Event::Fault(MachineFault::StackEmpty);
+
+const STACK_FULL: Event = Event::Fault(MachineFault::StackFull);
+
+const RETURN_STACK: Event = Event::Fault(MachineFault::ReturnStack);
+
+/// Tests that each of these words wants more cells than these, once its step is paid.
+fn all_want_more(rt: &(impl Abort + AllocGlobal), words: &[u16], cells: &str) -> Result<(), Fail> {
     for word in words {
-        if event_of(alloc, *word, cells, 0)? != Event::Fault(MachineFault::Steps)
-            || event_of(alloc, *word, cells, 1)? != Event::Fault(MachineFault::StackEmpty)
-        {
-            return Ok(false);
-        }
+        let unpaid = event_of(rt.alloc(), *word, cells, 0)?;
+        ended(rt, *word, cells, unpaid, STEPS);
+        let paid = event_of(rt.alloc(), *word, cells, 1)?;
+        ended(rt, *word, cells, paid, STACK_EMPTY);
     }
-    Ok(true)
+    Ok(())
 }
 
 const AT_MOST_ONE: [&str; 3] = ["", "0", "65535"];
@@ -89,19 +96,18 @@ const THREE: [&str; 2] = ["0 0 0", "65535 65535 65535"];
 // before a divisor of 0, an address past the end and steps for bytes
 #[test]
 fn each_cell_has_to_be_there(rt: HostRuntime) -> Result<(), Fail> {
-    let alloc = rt.alloc();
-    assert!(rt; all_want_more(alloc, &OF_ONE, "")?, "one");
+    all_want_more(&rt, &OF_ONE, "")?;
     for cells in AT_MOST_ONE {
-        assert!(rt; all_want_more(alloc, &OF_TWO, cells)?, "two");
-        assert!(rt; all_want_more(alloc, &OF_THREE, cells)?, "three");
-        assert!(rt; all_want_more(alloc, &OF_FOUR, cells)?, "four");
+        all_want_more(&rt, &OF_TWO, cells)?;
+        all_want_more(&rt, &OF_THREE, cells)?;
+        all_want_more(&rt, &OF_FOUR, cells)?;
     }
     for cells in TWO {
-        assert!(rt; all_want_more(alloc, &OF_THREE, cells)?, "three");
-        assert!(rt; all_want_more(alloc, &OF_FOUR, cells)?, "four");
+        all_want_more(&rt, &OF_THREE, cells)?;
+        all_want_more(&rt, &OF_FOUR, cells)?;
     }
     for cells in THREE {
-        assert!(rt; all_want_more(alloc, &OF_FOUR, cells)?, "four");
+        all_want_more(&rt, &OF_FOUR, cells)?;
     }
     Ok(())
 }
@@ -140,36 +146,29 @@ const STAYS: [(u16, &str); 14] = [
     (tokens::DECIMAL, ""),
 ];
 
-#[test]
-fn the_stack_has_256_cells(rt: HostRuntime) -> Result<(), Fail> {
-    let alloc = rt.alloc();
-    for (word, top) in PUSHES {
-        assert_eq!(rt;
-            event_on(alloc, word, 255, top)?,
-            Event::Done,
-            "word {word}"
-        );
-        assert_eq!(rt;
-            event_on(alloc, word, 256, top)?,
-            Event::Fault(MachineFault::StackFull),
-            "word {word}"
-        );
-    }
-    for (word, top) in STAYS {
-        assert_eq!(rt;
-            event_on(alloc, word, 256, top)?,
-            Event::Done,
-            "word {word}"
-        );
-    }
-    for word in [tokens::PICK, tokens::ROLL] {
-        assert_eq!(rt;
-            event_on(alloc, word, 256, "255")?,
-            Event::Fault(MachineFault::StackEmpty),
-            "word {word}"
-        );
+// words that look deeper than the stack
+const TOO_DEEP: [(u16, &str); 2] = [(tokens::PICK, "255"), (tokens::ROLL, "255")];
+
+/// Compares how each of these words ends, its cells on top of so many in all.
+fn all_end_on(
+    rt: &(impl Abort + AllocGlobal),
+    words: &[(u16, &str)],
+    depth: usize,
+    event: Event,
+) -> Result<(), Fail> {
+    for (word, top) in words {
+        let found = event_on(rt.alloc(), *word, depth, top)?;
+        ended(rt, *word, top, found, event);
     }
     Ok(())
+}
+
+#[test]
+fn the_stack_has_256_cells(rt: HostRuntime) -> Result<(), Fail> {
+    all_end_on(&rt, &PUSHES, 255, Event::Done)?;
+    all_end_on(&rt, &PUSHES, 256, STACK_FULL)?;
+    all_end_on(&rt, &STAYS, 256, Event::Done)?;
+    all_end_on(&rt, &TOO_DEEP, 256, STACK_EMPTY)
 }
 
 // that nothing was put aside comes before room for a result
@@ -177,21 +176,12 @@ fn the_stack_has_256_cells(rt: HostRuntime) -> Result<(), Fail> {
 fn nothing_was_put_aside(rt: HostRuntime) -> Result<(), Fail> {
     let alloc = rt.alloc();
     for word in [tokens::R_FROM, tokens::R_FETCH, tokens::I, tokens::J] {
-        assert_eq!(rt;
-            event_of(alloc, word, "", 0)?,
-            Event::Fault(MachineFault::Steps),
-            "word {word}"
-        );
-        assert_eq!(rt;
-            event_of(alloc, word, "", 1)?,
-            Event::Fault(MachineFault::ReturnStack),
-            "word {word}"
-        );
-        assert_eq!(rt;
-            event_on(alloc, word, 256, "")?,
-            Event::Fault(MachineFault::ReturnStack),
-            "word {word}"
-        );
+        let unpaid = event_of(alloc, word, "", 0)?;
+        ended(&rt, word, "no cells", unpaid, STEPS);
+        let empty = event_of(alloc, word, "", 1)?;
+        ended(&rt, word, "no cells", empty, RETURN_STACK);
+        let full = event_on(alloc, word, 256, "")?;
+        ended(&rt, word, "256 cells", full, RETURN_STACK);
     }
     Ok(())
 }
@@ -217,19 +207,11 @@ const SERVICES: [(u16, u16); 15] = [
 
 #[test]
 fn other_words_are_asked_for(rt: HostRuntime) -> Result<(), Fail> {
-    let alloc = rt.alloc();
     for (first, last) in SERVICES {
         for word in first..=last {
-            assert!(rt;
-                changes_nothing(alloc, word, Event::Service(Op::Word(word)))?,
-                "word {word}"
-            );
+            changes_nothing(&rt, word, Event::Service(Op::Word(word)))?;
         }
     }
-    assert!(rt; changes_nothing(alloc, tokens::QUIT, Event::Quit)?, "QUIT");
-    assert!(rt;
-        changes_nothing(alloc, tokens::ABORT, Event::Abort)?,
-        "ABORT"
-    );
-    Ok(())
+    changes_nothing(&rt, tokens::QUIT, Event::Quit)?;
+    changes_nothing(&rt, tokens::ABORT, Event::Abort)
 }

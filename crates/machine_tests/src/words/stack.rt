@@ -1,6 +1,6 @@
 //! Words that move, copy and count cells, and words that leave an address.
 
-use super::support::{all_end, first_wrong};
+use super::support::{all_do, all_end};
 use super::tokens;
 use cell_machine::event::{Event, MachineFault};
 use std::test::Fail;
@@ -46,24 +46,13 @@ fn cells_are_moved_and_copied(rt: HostRuntime) -> Result<(), Fail> {
         // the cell that was put aside is given back by nothing
         (">R", tokens::TO_R, DROPS),
     ];
-    for (name, word, rows) in words {
-        assert_eq!(rt; first_wrong(rt.alloc(), word, rows)?, None, "{name}");
-    }
-    Ok(())
+    all_do(&rt, &words)
 }
 
 #[test]
 fn no_cell_is_that_deep(rt: HostRuntime) -> Result<(), Fail> {
     for word in [tokens::PICK, tokens::ROLL] {
-        assert!(rt;
-            all_end(
-                rt.alloc(),
-                word,
-                TOO_DEEP,
-                Event::Fault(MachineFault::StackEmpty)
-            )?,
-            "word {word}"
-        );
+        all_end(&rt, word, TOO_DEEP, Event::Fault(MachineFault::StackEmpty))?;
     }
     Ok(())
 }
@@ -79,8 +68,5 @@ fn system_cells_have_their_addresses(rt: HostRuntime) -> Result<(), Fail> {
         ("SPAN", tokens::SPAN, "-- 26 | 5 -- 5 26"),
         ("TIB", tokens::TIB, "-- 256 | 5 -- 5 256"),
     ];
-    for (name, word, rows) in words {
-        assert_eq!(rt; first_wrong(rt.alloc(), word, rows)?, None, "{name}");
-    }
-    Ok(())
+    all_do(&rt, &words)
 }

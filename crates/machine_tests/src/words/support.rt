@@ -14,6 +14,7 @@ use cell_machine::machine::Machine;
 use data_space::DataSpace;
 use stacks::{DataStack, ReturnStack};
 use std::alloc::Global;
+use std::process::Abort;
 use std::test::Fail;
 
 /// Runs a word by itself.
@@ -111,18 +112,32 @@ fn run(alloc: Global, word: u16, given: &[u16], before: &[u16], steps: u32) -> R
 }
 
 /// What a word ends with on these cells, where so many steps are left.
-pub fn event_of(alloc: Global, word: u16, before: &str, steps: u32) -> Result<Event, Fail> {
+pub(crate) fn event_of(alloc: Global, word: u16, before: &str, steps: u32) -> Result<Event, Fail> {
     Ok(run(alloc, word, &[], &numbers(before)?, steps)?.event)
 }
 
-/// Whether a word of one step ends so on the cells of each row.
-pub fn all_end(alloc: Global, word: u16, rows: &str, event: Event) -> Result<bool, Fail> {
+/// Compares how a word ended on these cells.
+pub(crate) fn ended(rt: &impl Abort, word: u16, cells: &str, found: Event, wanted: Event) {
+    assert_eq!(rt; found, wanted, "word {word} on {cells}");
+}
+
+/// Compares how a word of one step ends on the cells of each row.
+pub(crate) fn all_end(
+    rt: &(impl Abort + AllocGlobal),
+    word: u16,
+    rows: &str,
+    event: Event,
+) -> Result<(), Fail> {
     for cells in rows.split("|") {
-        if event_of(alloc, word, cells, 1)? != event {
-            return Ok(false);
-        }
+        ended(
+            rt,
+            word,
+            cells,
+            event_of(rt.alloc(), word, cells, 1)?,
+            event,
+        );
     }
-    Ok(true)
+    Ok(())
 }
 
 /// Whether these cells, the top last, are all that is on the stack.
@@ -170,20 +185,23 @@ fn does(alloc: Global, word: u16, row: &Row, event: Event) -> Result<bool, Fail>
     )
 }
 
-/// Whether a word ends so and changes nothing, for one step.
-pub fn changes_nothing(alloc: Global, word: u16, event: Event) -> Result<bool, Fail> {
-    Ok(
-        does(alloc, word, &row_of("--")?, event)?
-            && does(alloc, word, &row_of("7 8 -- 7 8")?, event)?,
-    )
+/// Tests that a word ends so and changes nothing, for one step.
+pub(crate) fn changes_nothing(
+    rt: &(impl Abort + AllocGlobal),
+    word: u16,
+    event: Event,
+) -> Result<(), Fail> {
+    for row in ["--", "7 8 -- 7 8"] {
+        assert!(rt;
+            does(rt.alloc(), word, &row_of(row)?, event)?,
+            "word {word} on {row}"
+        );
+    }
+    Ok(())
 }
 
 /// The first of the rows that a word doesn't do, if there is one.
-pub fn first_wrong(
-    alloc: Global,
-    word: u16,
-    rows: &'static str,
-) -> Result<Option<&'static str>, Fail> {
+fn first_wrong(alloc: Global, word: u16, rows: &'static str) -> Result<Option<&'static str>, Fail> {
     for text in rows.split("|") {
         if !does(alloc, word, &row_of(text)?, Event::Done)? {
             return Ok(Some(text));
@@ -192,8 +210,19 @@ pub fn first_wrong(
     Ok(None)
 }
 
+/// Compares each word, which stands between its name and its rows, with what these rows say.
+pub(crate) fn all_do(
+    rt: &(impl Abort + AllocGlobal),
+    words: &[(&str, u16, &'static str)],
+) -> Result<(), Fail> {
+    for (name, word, rows) in words {
+        assert_eq!(rt; first_wrong(rt.alloc(), *word, rows)?, None, "{name}");
+    }
+    Ok(())
+}
+
 /// What a word of one step ends with where the stack holds so many cells, these on top.
-pub fn event_on(alloc: Global, word: u16, depth: usize, top: &str) -> Result<Event, Fail> {
+pub(crate) fn event_on(alloc: Global, word: u16, depth: usize, top: &str) -> Result<Event, Fail> {
     let code = Code::new(alloc)?;
     let mut space = DataSpace::new(alloc)?;
     let mut stack = DataStack::new();

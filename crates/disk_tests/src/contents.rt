@@ -1,0 +1,42 @@
+//! Compares what disks and blocks hold with what is wanted.
+use crate::support::{block, sector};
+use journal::Store;
+use sector_disk::SectorDevice;
+use std::process::Abort;
+use std::test::Fail;
+
+/// Compares a sector.
+pub(crate) fn holds<D: SectorDevice>(
+    rt: &impl Abort,
+    disk: &mut D,
+    k: u32,
+    bytes: &[u8; 512],
+) -> Result<(), Fail> {
+    assert_eq!(rt; &sector(disk, k)?, bytes, "sector {k}");
+    Ok(())
+}
+
+/// Compares sectors that are full of one byte. A row is the first of them, the last one, and the byte.
+pub(crate) fn are_full<D: SectorDevice>(
+    rt: &impl Abort,
+    disk: &mut D,
+    rows: &[(u32, u32, u8)],
+) -> Result<(), Fail> {
+    for (first, last, byte) in rows {
+        for k in *first..=*last {
+            holds(rt, disk, k, &[*byte; 512])?;
+        }
+    }
+    Ok(())
+}
+
+/// Compares a block that is full of one byte.
+pub(crate) fn block_is_full<D: SectorDevice>(
+    rt: &impl Abort,
+    store: &mut Store<D>,
+    b: u16,
+    byte: u8,
+) -> Result<(), Fail> {
+    assert_eq!(rt; block(store, b)?, [byte; 1024], "block {b}");
+    Ok(())
+}
