@@ -45,7 +45,8 @@ fn make_room<D: SectorDevice>(
     ensures stops { KeepsSaved store.old store.new }
     ensures continues { Continues store.old store.new }
     ensures begins { DeviceBegins store.old store.new 2 0 }
-    ensures wears { WearsAtMost D.SectorDevice (device_of store.old) (device_of store.new) (room_wear (is_updated (oldest buffers.now))) }
+    ensures wears { WearsAtMost D.SectorDevice (device_of store.old) (device_of store.new)
+        (room_wear (is_updated (oldest buffers.now))) }
 {
     let Some(last) = buffers.oldest() else {
         return Ok(());

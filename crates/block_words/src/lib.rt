@@ -131,12 +131,14 @@ impl<D: SectorDevice> Blocks<D> {
 
         ensures asks { AsksFor u result self.old self.new }
         ensures address { IfOk result (λ at. at ≡ buffer_at (slot_used (buffers_of self.old) u)) }
-        ensures list { MatchResult result (λ _. buffers_of self.new ≡ used (buffers_of self.old) u) (λ _. buffers_of self.new ≡ buffers_of self.old) }
+        ensures list { MatchResult result (λ _. buffers_of self.new ≡ used (buffers_of self.old) u)
+            (λ _. buffers_of self.new ≡ buffers_of self.old) }
         ensures space { OnErr result (space.new ≡ space.old) }
         // A block that has a buffer keeps its bytes.
         ensures found_bytes { IsSome (slot_of (buffers_of self.old) u) → space.new ≡ space.old }
 
-        ensures pending { OnOk result (PendingOnceReplaced (store_of self.old) (store_of self.new) (replaced (buffers_of self.old) u)) }
+        ensures pending { OnOk result
+            (PendingOnceReplaced (store_of self.old) (store_of self.new) (replaced (buffers_of self.old) u)) }
         ensures begins { DeviceBegins (store_of self.old) (store_of self.new) 2 0 }
     {
         // That there is no such block is said also of a closed store.
@@ -158,10 +160,13 @@ impl<D: SectorDevice> Blocks<D> {
 
         ensures asks { AsksFor u result self.old self.new }
         ensures address { IfOk result (λ at. at ≡ buffer_at (slot_used (buffers_of self.old) u)) }
-        ensures list { MatchResult result (λ _. buffers_of self.new ≡ used (buffers_of self.old) u) (λ _. buffers_of self.new ≡ buffers_of self.old) }
-        ensures space { MatchResult result (λ _. space.new ≡ blanked (buffers_of self.old) u space.old) (λ _. space.new ≡ space.old) }
+        ensures list { MatchResult result (λ _. buffers_of self.new ≡ used (buffers_of self.old) u)
+            (λ _. buffers_of self.new ≡ buffers_of self.old) }
+        ensures space { MatchResult result (λ _. space.new ≡ blanked (buffers_of self.old) u space.old)
+            (λ _. space.new ≡ space.old) }
 
-        ensures pending { OnOk result (PendingOnceReplaced (store_of self.old) (store_of self.new) (replaced (buffers_of self.old) u)) }
+        ensures pending { OnOk result
+            (PendingOnceReplaced (store_of self.old) (store_of self.new) (replaced (buffers_of self.old) u)) }
         ensures begins { DeviceBegins (store_of self.old) (store_of self.new) 2 0 }
     {
         if u >= self.store.blocks() {
@@ -229,7 +234,8 @@ impl<D: SectorDevice> Blocks<D> {
             (save_begun m.closed (next_map (buffers_of self.old) space.now m) (is_ok result)) m
             (store_of self.old) (store_of self.new) (buffers_of self.old) (buffers_of self.new) space.now space.now }
 
-        ensures list { MatchResult result (λ _. buffers_of self.new ≡ unmarked (buffers_of self.old)) (λ _. buffers_of self.new ≡ buffers_of self.old) }
+        ensures list { MatchResult result (λ _. buffers_of self.new ≡ unmarked (buffers_of self.old))
+            (λ _. buffers_of self.new ≡ buffers_of self.old) }
         ensures saves { Saves result (store_of self.old) (store_of self.new) (buffers_of self.old) space.now }
     {
         // The marks go only once all is saved.
@@ -250,7 +256,8 @@ impl<D: SectorDevice> Blocks<D> {
             (save_begun m.closed (next_map (buffers_of self.old) space.now m) (is_ok result)) m
             (store_of self.old) (store_of self.new) (buffers_of self.old) (buffers_of self.new) space.now space.now }
 
-        ensures list { MatchResult result (λ _. buffers_of self.new ≡ none_assigned) (λ _. buffers_of self.new ≡ buffers_of self.old) }
+        ensures list { MatchResult result (λ _. buffers_of self.new ≡ none_assigned)
+            (λ _. buffers_of self.new ≡ buffers_of self.old) }
         ensures saves { Saves result (store_of self.old) (store_of self.new) (buffers_of self.old) space.now }
     {
         // The buffers go only once all is saved.

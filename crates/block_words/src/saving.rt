@@ -26,7 +26,8 @@ fn spill_updated<D: SectorDevice>(
     ensures ok { (m : Maps) → StandsFor store.old m
         → OnOk result (StandsFor store.new (all_spilled (updated_ones buffers.now) space.now m)) }
     ensures fault { (m : Maps) → StandsFor store.old m
-        → OnErr result (SpillFails (updated_ones buffers.now) (λ before. StandsFor store.new (shut (all_spilled before space.now m)))
+        → OnErr result (SpillFails (updated_ones buffers.now)
+        (λ before. StandsFor store.new (shut (all_spilled before space.now m)))
         (λ writes. DeviceBegins store.old store.new writes 0)) }
     ensures only { OnErr result (IsErrOf result BlockFault.Device) }
     ensures opened { OnOk result (closed_of store.new ≡ false) }
@@ -35,7 +36,8 @@ fn spill_updated<D: SectorDevice>(
     ensures stops { KeepsSaved store.old store.new }
     ensures continues { Continues store.old store.new }
     ensures shuts { OnErr result (closed_of store.new ≡ true) }
-    ensures pending { OnOk result ((u : ℕ) → is_pending store.new u ≡ (is_among (updated_ones buffers.now) u || is_pending store.old u)) }
+    ensures pending { OnOk result
+        ((u : ℕ) → is_pending store.new u ≡ (is_among (updated_ones buffers.now) u || is_pending store.old u)) }
     ensures begins { DeviceBegins store.old store.new (2 * length (updated_ones buffers.now)) 0 }
     ensures nothing { updated_ones buffers.now ≡ [] → IsOk result × (device_of store.new ≡ device_of store.old) }
 {
@@ -56,7 +58,8 @@ pub(crate) fn save<D: SectorDevice>(
 ) -> Result<(), BlockFault>
     requires within { within (blocks_of store.old) buffers.now.list ≡ true }
     ensures runs { (m : Maps) (change : Held → Held) → StandsFor store.old m
-        → CallRuns D.SectorDevice (save_and change) result (save_begun m.closed (next_map buffers.now space.now m) (is_ok result)) m
+        → CallRuns D.SectorDevice (save_and change) result
+        (save_begun m.closed (next_map buffers.now space.now m) (is_ok result)) m
         store.old store.new buffers.now (if is_ok result then change buffers.now else buffers.now) space.now space.now }
     ensures saves { Saves result store.old store.new buffers.now space.now }
 {

@@ -214,7 +214,8 @@ impl Compiler {
         requires sound { IsSound self.old code.old }
         requires most { length bytes.now ≤ 1024 }
         ensures added { OnOk result (Added self.old code.old self.new code.new (λ used. add_text used (kind_of kind) bytes.now)) }
-        ensures refused { IfErr result (Refused self.old code.old self.new code.new (λ used. add_text used (kind_of kind) bytes.now)) }
+        ensures refused { IfErr result
+            (Refused self.old code.old self.new code.new (λ used. add_text used (kind_of kind) bytes.now)) }
         ensures bodies { BodiesStay self.old code.old self.new code.new }
     {
         self.opened()?;
@@ -542,7 +543,8 @@ impl Compiler {
     #[inline]
     fn exits(&self, token: u16) -> Result<(), Refusal>
         ensures ok { OnOk result (self.now.marked ≡ false → token ≡ 38 → self.now.leaves ≡ None) }
-        ensures err { IfErr result (λ e. (e ≡ Refusal.Unbalanced) × (self.now.marked ≡ false) × (token ≡ 38) × (self.now.leaves ≢ None)) }
+        ensures err { IfErr result
+            (λ e. (e ≡ Refusal.Unbalanced) × (self.now.marked ≡ false) × (token ≡ 38) × (self.now.leaves ≢ None)) }
     {
         if self.marked {
             return Ok(());

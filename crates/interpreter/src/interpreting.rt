@@ -48,9 +48,11 @@ impl<D: SectorDevice> Forth<D> {
     pub(crate) fn round<T: Terminal>(&mut self, terminal: &mut T) -> Result<Round, Stop>
         requires sound { IsSound self.old }
         ensures round { (n : ℕ) (levels : List Level) (x : World) → self.old.steps < n → Stands self.old levels x
-            → RanRound T.Terminal n (λ r. left n levels (core self.old) (with_run r x)) result self.old self.new terminal.old terminal.new x }
+            → RanRound T.Terminal n (λ r. left n levels (core self.old) (with_run r x))
+            result self.old self.new terminal.old terminal.new x }
         ensures down { GoesDown result (weight self.old) (weight self.new) }
-        ensures lasts { LastsRound D.SectorDevice T.Terminal result (device self.old) (device self.new) terminal.old terminal.new }
+        ensures lasts { LastsRound D.SectorDevice T.Terminal result (device self.old) (device self.new)
+            terminal.old terminal.new }
         ensures tells { Tells stop_count result self.old self.new }
         ensures budget { self.new.budget ≡ self.old.budget }
     {
@@ -76,10 +78,13 @@ impl<D: SectorDevice> Forth<D> {
     pub(crate) fn read<T: Terminal>(&mut self, terminal: &mut T) -> Result<Round, Stop>
         requires sound { IsSound self.old }
         requires idle { self.old.machine.pending ≡ None }
-        ensures round { (n : ℕ) (levels : List Level) (x : World) → self.old.steps < n → Stands self.old levels x → IsAtText levels
-            → RanRound T.Terminal n (λ r. left n levels (core self.old) (with_run r x)) result self.old self.new terminal.old terminal.new x }
+        ensures round { (n : ℕ) (levels : List Level) (x : World) → self.old.steps < n → Stands self.old levels x
+            → IsAtText levels
+            → RanRound T.Terminal n (λ r. left n levels (core self.old) (with_run r x))
+            result self.old self.new terminal.old terminal.new x }
         ensures down { GoesDown result (weight self.old) (weight self.new) }
-        ensures lasts { LastsRound D.SectorDevice T.Terminal result (device self.old) (device self.new) terminal.old terminal.new }
+        ensures lasts { LastsRound D.SectorDevice T.Terminal result (device self.old) (device self.new)
+            terminal.old terminal.new }
         ensures tells { Tells stop_count result self.old self.new }
         ensures budget { self.new.budget ≡ self.old.budget }
     {
@@ -94,7 +99,8 @@ impl<D: SectorDevice> Forth<D> {
     pub(crate) fn interpret<T: Terminal>(&mut self, terminal: &mut T) -> Result<(), Stop>
         requires sound { IsSound self.old }
         ensures ran { (n : ℕ) (levels : List Level) (x : World) → self.old.steps < n → Stands self.old levels x
-            → Ran T.Terminal (λ r. left n levels (core self.old) (with_run r x)) result self.old self.new terminal.old terminal.new [] x }
+            → Ran T.Terminal (λ r. left n levels (core self.old) (with_run r x))
+            result self.old self.new terminal.old terminal.new [] x }
         ensures lasts { Lasts D.SectorDevice T.Terminal result (device self.old) (device self.new) terminal.old terminal.new }
         ensures tells { Tells stop_count result self.old self.new }
         ensures budget { self.new.budget ≡ self.old.budget }

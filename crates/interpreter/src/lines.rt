@@ -91,7 +91,8 @@ impl<D: SectorDevice> Forth<D> {
     fn say<T: Terminal>(&mut self, bytes: &[u8], end: LineEnd, terminal: &mut T) -> LineEnd
         requires { is_broken end ≡ false }
         ensures lined { (c : Core) (x : World) → SameStackAndSpace c self.old → Rests self.old x
-            → Lined T.Terminal (λ r. replied (line_end end) (print bytes.now c (with_run r x))) result self.old.at_end self.old self.new terminal.old terminal.new x }
+            → Lined T.Terminal (λ r. replied (line_end end) (print bytes.now c (with_run r x)))
+            result self.old.at_end self.old self.new terminal.old terminal.new x }
         ensures lasts { LastsLine D.SectorDevice T.Terminal result (device self.old) (device self.new) terminal.old terminal.new }
         ensures tells { D.failures (device self.new) ≡ D.failures (device self.old) }
         ensures counts { (before after : ℕ) → Counts end before after → Counts result before after }
@@ -109,7 +110,8 @@ impl<D: SectorDevice> Forth<D> {
     /// The end of a line that a fault stopped.
     fn fail<T: Terminal>(&mut self, fault: Fault, terminal: &mut T) -> LineEnd
         ensures lined { (c : Core) (x : World) → SameSpace c self.old → Rests self.old x
-            → Lined T.Terminal (λ r. after_fault (fault_of fault) c (with_run r x)) result self.old.at_end self.old self.new terminal.old terminal.new x }
+            → Lined T.Terminal (λ r. after_fault (fault_of fault) c (with_run r x))
+            result self.old.at_end self.old self.new terminal.old terminal.new x }
         ensures lasts { LastsLine D.SectorDevice T.Terminal result (device self.old) (device self.new) terminal.old terminal.new }
         ensures tells { D.failures (device self.new) ≡ D.failures (device self.old) }
         ensures counts { (count : ℕ) → Counts result count (fault_count fault count) }
@@ -123,7 +125,8 @@ impl<D: SectorDevice> Forth<D> {
     /// The end of a line that `QUIT` left: the data stack stays.
     fn quit<T: Terminal>(&mut self, terminal: &mut T) -> LineEnd
         ensures lined { (c : Core) (x : World) → SameStackAndSpace c self.old → Rests self.old x
-            → Lined T.Terminal (λ r. ended (Ends Quits c (with_run r x))) result self.old.at_end self.old self.new terminal.old terminal.new x }
+            → Lined T.Terminal (λ r. ended (Ends Quits c (with_run r x)))
+            result self.old.at_end self.old self.new terminal.old terminal.new x }
         ensures lasts { LastsLine D.SectorDevice T.Terminal result (device self.old) (device self.new) terminal.old terminal.new }
         ensures tells { D.failures (device self.new) ≡ D.failures (device self.old) }
         ensures counts { (count : ℕ) → Counts result count count }
@@ -136,7 +139,8 @@ impl<D: SectorDevice> Forth<D> {
     /// The end of a line that `ABORT` left.
     fn abort<T: Terminal>(&mut self, terminal: &mut T) -> LineEnd
         ensures lined { (c : Core) (x : World) → SameSpace c self.old → Rests self.old x
-            → Lined T.Terminal (λ r. ended (Ends Aborts c (with_run r x))) result self.old.at_end self.old self.new terminal.old terminal.new x }
+            → Lined T.Terminal (λ r. ended (Ends Aborts c (with_run r x)))
+            result self.old.at_end self.old self.new terminal.old terminal.new x }
         ensures lasts { LastsLine D.SectorDevice T.Terminal result (device self.old) (device self.new) terminal.old terminal.new }
         ensures tells { D.failures (device self.new) ≡ D.failures (device self.old) }
         ensures counts { (count : ℕ) → Counts result count count }
@@ -156,7 +160,8 @@ impl<D: SectorDevice> Forth<D> {
     /// The end of a line whose text came to its end.
     fn finish<T: Terminal>(&mut self, terminal: &mut T) -> LineEnd
         ensures lined { (c : Core) (x : World) → SameStackAndSpace c self.old → Rests self.old x
-            → Lined T.Terminal (λ r. end_of_line (compiling c) c (with_run r x)) result self.old.at_end self.old self.new terminal.old terminal.new x }
+            → Lined T.Terminal (λ r. end_of_line (compiling c) c (with_run r x))
+            result self.old.at_end self.old self.new terminal.old terminal.new x }
         ensures lasts { LastsLine D.SectorDevice T.Terminal result (device self.old) (device self.new) terminal.old terminal.new }
         ensures tells { D.failures (device self.new) ≡ D.failures (device self.old) }
         ensures counts { (count : ℕ) → Counts result count count }
@@ -208,7 +213,8 @@ impl<D: SectorDevice> Forth<D> {
     fn line<T: Terminal>(&mut self, text: &[u8], terminal: &mut T) -> LineEnd
         requires sound { IsAtRest self.old }
         ensures lined { (opening : Abstract) → Waits opening self.old
-            → Lined T.Terminal (λ r. line opening text.now r) result false self.old self.new terminal.old terminal.new opening.world }
+            → Lined T.Terminal (λ r. line opening text.now r)
+            result false self.old self.new terminal.old terminal.new opening.world }
         ensures lasts { LastsLine D.SectorDevice T.Terminal result (device self.old) (device self.new) terminal.old terminal.new }
         ensures tells { Counts result (D.failures (device self.old)) (D.failures (device self.new)) }
         ensures budget { self.new.budget ≡ self.old.budget }

@@ -34,9 +34,11 @@ pub fn write_through<D: SectorDevice>(
 fn log<D: SectorDevice>(device: &mut D, bytes: &[u8; 512]) -> Result<(), DeviceFault>
     requires { 3 ≤ D.sector_count device.old }
     ensures ok { IsTrue (D.keeps_model device.old)
-        → OnOk result (D.disk device.new ≡ settled (written (settled (written (D.disk device.old) 2 bytes.now)) 1 open_gate_bytes)) }
+        → OnOk result
+        (D.disk device.new ≡ settled (written (settled (written (D.disk device.old) 2 bytes.now)) 1 open_gate_bytes)) }
     ensures stops { IsTrue (D.keeps_model device.old) → StopsLeave D.SectorDevice device.old device.new
-        (λ c. IsAsSynced (λ j. j ≡ 2) (D.disk device.old) c ⊎ IsAsSynced (λ j. j ≡ 1) (settled (written (D.disk device.old) 2 bytes.now)) c) }
+        (λ c. IsAsSynced (λ j. j ≡ 2) (D.disk device.old) c
+        ⊎ IsAsSynced (λ j. j ≡ 1) (settled (written (D.disk device.old) 2 bytes.now)) c) }
     ensures passes { Passes D.SectorDevice device.old device.new result }
     ensures begins { BeginsAtMost D.SectorDevice device.old device.new 2 2 }
 {
@@ -103,10 +105,12 @@ fn save_listed<D: SectorDevice>(
     ensures ok { IsTrue (D.keeps_model device.old)
         → OnOk result (HasSaved blocks bytes.now (D.disk device.old) (D.disk device.new)) }
     ensures stops { IsTrue (D.keeps_model device.old) → StopsLeave D.SectorDevice device.old device.new
-        (λ c. HasBlocks blocks (home_of blocks (D.disk device.old).content) c ⊎ HasBlocks blocks (merged blocks bytes.now (D.disk device.old).content) c) }
+        (λ c. HasBlocks blocks (home_of blocks (D.disk device.old).content) c
+        ⊎ HasBlocks blocks (merged blocks bytes.now (D.disk device.old).content) c) }
     // Homes are half done only under a gate that is open and whole.
     ensures gate { IsTrue (D.keeps_model device.old) → StopsLeave D.SectorDevice device.old device.new
-        (λ c. (c 1 ≡ open_gate_bytes) ⊎ HasHomes blocks (home_of blocks (D.disk device.old).content) c ⊎ HasHomes blocks (merged blocks bytes.now (D.disk device.old).content) c) }
+        (λ c. (c 1 ≡ open_gate_bytes) ⊎ HasHomes blocks (home_of blocks (D.disk device.old).content) c
+        ⊎ HasHomes blocks (merged blocks bytes.now (D.disk device.old).content) c) }
     ensures passes { Passes D.SectorDevice device.old device.new result }
     ensures begins { BeginsAtMost D.SectorDevice device.old device.new (2 * count_listed bytes.now blocks + 3) 4 }
 {
@@ -127,9 +131,11 @@ pub(crate) fn save<D: SectorDevice>(
     ensures ok { IsTrue (D.keeps_model device.old)
         → OnOk result (HasSaved blocks bits.now (D.disk device.old) (D.disk device.new)) }
     ensures stops { IsTrue (D.keeps_model device.old) → StopsLeave D.SectorDevice device.old device.new
-        (λ c. HasBlocks blocks (home_of blocks (D.disk device.old).content) c ⊎ HasBlocks blocks (merged blocks bits.now (D.disk device.old).content) c) }
+        (λ c. HasBlocks blocks (home_of blocks (D.disk device.old).content) c
+        ⊎ HasBlocks blocks (merged blocks bits.now (D.disk device.old).content) c) }
     ensures gate { IsTrue (D.keeps_model device.old) → StopsLeave D.SectorDevice device.old device.new
-        (λ c. (c 1 ≡ open_gate_bytes) ⊎ HasHomes blocks (home_of blocks (D.disk device.old).content) c ⊎ HasHomes blocks (merged blocks bits.now (D.disk device.old).content) c) }
+        (λ c. (c 1 ≡ open_gate_bytes) ⊎ HasHomes blocks (home_of blocks (D.disk device.old).content) c
+        ⊎ HasHomes blocks (merged blocks bits.now (D.disk device.old).content) c) }
     ensures passes { Passes D.SectorDevice device.old device.new result }
     ensures begins { BeginsAtMost D.SectorDevice device.old device.new (2 * count_listed bits.now blocks + 3) 4 }
 {

@@ -81,7 +81,8 @@ pub(crate) fn copy_homes<D: SectorDevice>(
     requires few { blocks ≤ most_blocks }
     requires size { D.sector_count device.old ≡ sectors_for blocks }
     ensures ok { IsTrue (D.keeps_model device.old)
-        → OnOk result ((b : ℕ) → b < blocks → listed bytes.now b ≡ true → HasCopied blocks b (D.disk device.old).content (D.disk device.new).content) }
+        → OnOk result ((b : ℕ) → b < blocks → listed bytes.now b ≡ true
+        → HasCopied blocks b (D.disk device.old).content (D.disk device.new).content) }
     ensures only { IsTrue (D.keeps_model device.old)
         → WritesOnly (InListedHomes blocks bytes.now) (D.disk device.old) (D.disk device.new) }
     ensures stops { IsTrue (D.keeps_model device.old)

@@ -44,7 +44,8 @@ pub(crate) fn write_pair<D: SectorDevice>(
     requires within { k + 1 < D.sector_count device.old }
     requires whole { length bytes.now ≡ 1024 }
     ensures ok { IsTrue (D.keeps_model device.old)
-        → OnOk result (D.disk device.new ≡ written (written (D.disk device.old) k (take 512 bytes.now)) (k + 1) (drop 512 bytes.now)) }
+        → OnOk result
+        (D.disk device.new ≡ written (written (D.disk device.old) k (take 512 bytes.now)) (k + 1) (drop 512 bytes.now)) }
     ensures only { IsTrue (D.keeps_model device.old)
         → WritesOnly (InPair k) (D.disk device.old) (D.disk device.new) }
     ensures stops { IsTrue (D.keeps_model device.old)

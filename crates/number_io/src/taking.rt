@@ -8,7 +8,8 @@ pub fn take_word(text: &[u8], delimiter: u8) -> (&[u8], usize)
     ensures word { result.0.now ≡ word_of delimiter text.now }
     ensures rest { drop result.1 text.now ≡ after_word delimiter text.now }
     ensures within { result.1 ≤ length text.now }
-    ensures taking { IsTaking delimiter text.now (skipped delimiter text.now) result.0.now (from delimiter (skip delimiter text.now)) }
+    ensures taking { IsTaking delimiter text.now (skipped delimiter text.now) result.0.now
+        (from delimiter (skip delimiter text.now)) }
 {
     let mut start = 0;
     while start < text.len() && text[start] == delimiter {

@@ -35,7 +35,8 @@ fn read_record<D: SectorDevice>(
     ensures bytes { IsTrue (D.keeps_model device.old) → OnOk result (bytes.new ≡ (D.disk device.old).content 2) }
     ensures exact { IsTrue (D.keeps_model device.old) → MatchResult result
         (λ _. is_true_record blocks ((D.disk device.old).content 2) (D.disk device.old).content ≡ true)
-        (λ e. (e ≡ Device) ⊎ ((e ≡ Damaged) × (is_true_record blocks ((D.disk device.old).content 2) (D.disk device.old).content ≡ false))) }
+        (λ e. (e ≡ Device)
+        ⊎ ((e ≡ Damaged) × (is_true_record blocks ((D.disk device.old).content 2) (D.disk device.old).content ≡ false))) }
     ensures sized { IfErr result (λ e. e ≢ BadSize) }
     ensures device { IfErr result (λ e. e ≡ Device → D.failures device.new ≡ count_up (D.failures device.old)) }
     ensures refused { IfErr result (λ e. e ≢ Device → D.failures device.new ≡ D.failures device.old) }
@@ -67,7 +68,8 @@ fn redo<D: SectorDevice>(device: &mut D, blocks: u16) -> Result<(), OpenFault>
     ensures gate { IsTrue (D.keeps_model device.old)
         → OnOk result ((D.disk device.new).content 1 ≡ gate_after ((D.disk device.old).content 1)) }
     ensures exact { IsTrue (D.keeps_model device.old) → MatchResult result
-        (λ _. damage_refusal blocks (D.disk device.old).content ≡ None) (λ e. (e ≡ Device) ⊎ (damage_refusal blocks (D.disk device.old).content ≡ Some e)) }
+        (λ _. damage_refusal blocks (D.disk device.old).content ≡ None)
+        (λ e. (e ≡ Device) ⊎ (damage_refusal blocks (D.disk device.old).content ≡ Some e)) }
     ensures sized { IfErr result (λ e. e ≢ BadSize) }
     ensures device { IfErr result (λ e. e ≡ Device → D.failures device.new ≡ count_up (D.failures device.old)) }
     ensures refused { IfErr result (λ e. e ≢ Device → D.failures device.new ≡ D.failures device.old) }
@@ -101,7 +103,8 @@ fn finish<D: SectorDevice>(device: &mut D, blocks: u16) -> Result<(), OpenFault>
     ensures gate { IsTrue (D.keeps_model device.old)
         → OnOk result ((D.disk device.new).content 1 ≡ gate_after ((D.disk device.old).content 1)) }
     ensures exact { IsTrue (D.keeps_model device.old) → MatchResult result
-        (λ _. damage_refusal blocks (D.disk device.old).content ≡ None) (λ e. (e ≡ Device) ⊎ (damage_refusal blocks (D.disk device.old).content ≡ Some e)) }
+        (λ _. damage_refusal blocks (D.disk device.old).content ≡ None)
+        (λ e. (e ≡ Device) ⊎ (damage_refusal blocks (D.disk device.old).content ≡ Some e)) }
     ensures sized { IfErr result (λ e. e ≢ BadSize) }
     ensures device { IfErr result (λ e. e ≡ Device → D.failures device.new ≡ count_up (D.failures device.old)) }
     ensures refused { IfErr result (λ e. e ≢ Device → D.failures device.new ≡ D.failures device.old) }
@@ -113,7 +116,8 @@ fn finish<D: SectorDevice>(device: &mut D, blocks: u16) -> Result<(), OpenFault>
         → StopsLeave D.SectorDevice device.old device.new (Follows blocks (D.disk device.old).content) }
     ensures passes { Proceeds D.SectorDevice device.old device.new }
     ensures begins { IsTrue (D.keeps_model device.old)
-        → BeginsAtMost D.SectorDevice device.old device.new (writes_for blocks (D.disk device.old).content) (syncs_for (D.disk device.old).content - 1) }
+        → BeginsAtMost D.SectorDevice device.old device.new (writes_for blocks (D.disk device.old).content)
+        (syncs_for (D.disk device.old).content - 1) }
 {
     let mut gate = [0; 512];
     device.read(GATE, &mut gate)?;
@@ -137,7 +141,8 @@ fn recover<D: SectorDevice>(device: &mut D) -> Result<u16, OpenFault>
     ensures gate { IsTrue (D.keeps_model device.old)
         → IfOk result (λ _. (D.disk device.new).content 1 ≡ gate_after ((D.disk device.old).content 1)) }
     ensures exact { IsTrue (D.keeps_model device.old) → MatchResult result
-        (λ _. image_refusal (D.sector_count device.old) (D.disk device.old).content ≡ None) (λ e. (e ≡ Device) ⊎ (image_refusal (D.sector_count device.old) (D.disk device.old).content ≡ Some e)) }
+        (λ _. image_refusal (D.sector_count device.old) (D.disk device.old).content ≡ None)
+        (λ e. (e ≡ Device) ⊎ (image_refusal (D.sector_count device.old) (D.disk device.old).content ≡ Some e)) }
     ensures device { IfErr result (λ e. e ≡ Device → D.failures device.new ≡ count_up (D.failures device.old)) }
     ensures refused { IfErr result (λ e. e ≢ Device → D.failures device.new ≡ D.failures device.old) }
     ensures well { OnOk result (D.failures device.new ≡ D.failures device.old) }
@@ -148,7 +153,8 @@ fn recover<D: SectorDevice>(device: &mut D) -> Result<u16, OpenFault>
         → StopsLeave D.SectorDevice device.old device.new (RecoveryLeaves n (D.disk device.old)) }
     ensures passes { Proceeds D.SectorDevice device.old device.new }
     ensures begins { IsTrue (D.keeps_model device.old) → (n : ℕ) → D.sector_count device.old ≡ sectors_for n
-        → BeginsAtMost D.SectorDevice device.old device.new (writes_for n (D.disk device.old).content) (syncs_for (D.disk device.old).content) }
+        → BeginsAtMost D.SectorDevice device.old device.new (writes_for n (D.disk device.old).content)
+        (syncs_for (D.disk device.old).content) }
 {
     let Some(blocks) = blocks_of_size(device.sectors(), MOST_BLOCKS) else {
         return Err(OpenFault::BadSize);
@@ -210,7 +216,8 @@ pub fn open<D: SectorDevice>(mut device: D) -> Result<Store<D>, (OpenFault, D)>
     ensures sectors { D.sector_count (end_of result) ≡ D.sector_count device }
     ensures model { D.keeps_model (end_of result) ≡ D.keeps_model device }
     ensures begins { IsTrue (D.keeps_model device) → (n : ℕ) → D.sector_count device ≡ sectors_for n
-        → BeginsAtMost D.SectorDevice device (end_of result) (writes_for n (D.disk device).content) (syncs_for (D.disk device).content) }
+        → BeginsAtMost D.SectorDevice device (end_of result) (writes_for n (D.disk device).content)
+        (syncs_for (D.disk device).content) }
 {
     match recover(&mut device) {
         Ok(blocks) => Ok(Store::adopt(device, blocks)),

@@ -78,7 +78,8 @@ fn finish<D: SectorDevice>(device: &mut D, blocks: u16) -> Result<(), DeviceFaul
         → StopsLeave D.SectorDevice device.old device.new (MayRedo blocks (D.disk device.old).content) }
     ensures passes { Passes D.SectorDevice device.old device.new result }
     ensures begins { IsTrue (D.keeps_model device.old)
-        → BeginsAtMost D.SectorDevice device.old device.new (writes_for blocks (D.disk device.old).content) (syncs_for (D.disk device.old).content - 1) }
+        → BeginsAtMost D.SectorDevice device.old device.new (writes_for blocks (D.disk device.old).content)
+        (syncs_for (D.disk device.old).content - 1) }
 {
     let mut gate = [0; 512];
     device.read(GATE, &mut gate)?;
@@ -101,7 +102,8 @@ fn recover<D: SectorDevice>(device: &mut D, blocks: u16) -> Result<(), OpenFault
     ensures label { IsTrue (D.keeps_model device.old)
         → OnOk result ((D.disk device.old).content 0 ≡ label_1_of blocks) }
     ensures exact { IsTrue (D.keeps_model device.old) → MatchResult result
-        (λ _. label_refusal_by 1 blocks ((D.disk device.old).content 0) ≡ None) (λ e. (e ≡ Device) ⊎ (label_refusal_by 1 blocks ((D.disk device.old).content 0) ≡ Some e)) }
+        (λ _. label_refusal_by 1 blocks ((D.disk device.old).content 0) ≡ None)
+        (λ e. (e ≡ Device) ⊎ (label_refusal_by 1 blocks ((D.disk device.old).content 0) ≡ Some e)) }
     ensures sized { IfErr result (λ e. e ≢ BadSize) }
     ensures device { IfErr result (λ e. e ≡ Device → D.failures device.new ≡ count_up (D.failures device.old)) }
     ensures refused { IfErr result (λ e. e ≢ Device → D.failures device.new ≡ D.failures device.old) }
@@ -113,7 +115,8 @@ fn recover<D: SectorDevice>(device: &mut D, blocks: u16) -> Result<(), OpenFault
         → StopsLeave D.SectorDevice device.old device.new (OldLeaves blocks (D.disk device.old)) }
     ensures passes { Proceeds D.SectorDevice device.old device.new }
     ensures begins { IsTrue (D.keeps_model device.old)
-        → BeginsAtMost D.SectorDevice device.old device.new (writes_for blocks (D.disk device.old).content) (syncs_for (D.disk device.old).content) }
+        → BeginsAtMost D.SectorDevice device.old device.new (writes_for blocks (D.disk device.old).content)
+        (syncs_for (D.disk device.old).content) }
 {
     start(device, VERSION_1, blocks)?;
     match finish(device, blocks) {
@@ -163,7 +166,8 @@ fn carry_homes<A: SectorDevice, B: SectorDevice>(
     requires from { A.sector_count source.old ≡ sectors_for blocks }
     requires to { B.sector_count target.old ≡ sectors_for blocks }
     ensures ok { IsTrue (A.keeps_model source.old) → IsTrue (B.keeps_model target.old)
-        → OnOk result ((k : ℕ) → 3 + 2 * blocks ≤ k → k < 3 + 4 * blocks → (B.disk target.new).content k ≡ (A.disk source.old).content k) }
+        → OnOk result ((k : ℕ) → 3 + 2 * blocks ≤ k → k < 3 + 4 * blocks
+        → (B.disk target.new).content k ≡ (A.disk source.old).content k) }
     ensures only { IsTrue (B.keeps_model target.old)
         → WritesOnly (λ k. 3 + 2 * blocks ≤ k) (B.disk target.old) (B.disk target.new) }
     ensures stops { IsTrue (B.keeps_model target.old)
@@ -288,7 +292,8 @@ fn carry<A: SectorDevice, B: SectorDevice>(
     ensures slots { IsTrue (B.keeps_model target.old)
         → OnOk result (KeepsSlots blocks (B.disk target.old).content (B.disk target.new).content) }
     ensures stops { IsTrue (A.keeps_model source.old) → IsTrue (B.keeps_model target.old)
-        → StopsLeave B.SectorDevice target.old target.new (λ c. TakenAway blocks (B.disk target.old) c ⊎ CarriedLeaves blocks (A.disk source.old).content c) }
+        → StopsLeave B.SectorDevice target.old target.new
+        (λ c. TakenAway blocks (B.disk target.old) c ⊎ CarriedLeaves blocks (A.disk source.old).content c) }
     ensures faults { IfErr result (TellsFault A.SectorDevice B.SectorDevice source.old source.new target.old target.new) }
     ensures well { OnOk result (WentWell A.SectorDevice B.SectorDevice source.old source.new target.old target.new) }
     ensures source { OnlyRead A.SectorDevice source.old source.new }
@@ -314,7 +319,8 @@ pub fn upgrade<A: SectorDevice, B: SectorDevice>(
     // Each refusal tells the first test that fails.
     ensures exact { IsTrue (A.keeps_model old.old) → MatchResult result
         (λ _. upgrade_refusal (A.sector_count old.old) (B.sector_count new.old) ((A.disk old.old).content 0) ≡ None)
-        (λ e. (e ≡ Old Device) ⊎ (e ≡ New Device) ⊎ (upgrade_refusal (A.sector_count old.old) (B.sector_count new.old) ((A.disk old.old).content 0) ≡ Some e)) }
+        (λ e. (e ≡ Old Device) ⊎ (e ≡ New Device)
+        ⊎ (upgrade_refusal (A.sector_count old.old) (B.sector_count new.old) ((A.disk old.old).content 0) ≡ Some e)) }
     // The device that is told as failed failed once, and no call failed else.
     ensures old_device { IfErr result (λ e. e ≡ Old Device → A.failures old.new ≡ count_up (A.failures old.old)) }
     ensures new_device { IfErr result (λ e. e ≡ New Device → B.failures new.new ≡ count_up (B.failures new.old)) }
@@ -324,8 +330,10 @@ pub fn upgrade<A: SectorDevice, B: SectorDevice>(
     // BadSize comes with no call of either device. Another refusal than Device wrote nothing.
     ensures old_unasked { IfErr result (λ e. (e ≡ Old BadSize) ⊎ (e ≡ New BadSize) → old.new ≡ old.old) }
     ensures new_unasked { IfErr result (λ e. (e ≡ Old BadSize) ⊎ (e ≡ New BadSize) → new.new ≡ new.old) }
-    ensures old_unwritten { IfErr result (λ e. e ≢ Old Device → e ≢ New Device → BeginsAtMost A.SectorDevice old.old old.new 0 1) }
-    ensures new_unwritten { IfErr result (λ e. e ≢ Old Device → e ≢ New Device → BeginsAtMost B.SectorDevice new.old new.new 0 0) }
+    ensures old_unwritten { IfErr result
+        (λ e. e ≢ Old Device → e ≢ New Device → BeginsAtMost A.SectorDevice old.old old.new 0 1) }
+    ensures new_unwritten { IfErr result
+        (λ e. e ≢ Old Device → e ≢ New Device → BeginsAtMost B.SectorDevice new.old new.new 0 0) }
     ensures old_content { IsTrue (A.keeps_model old.old)
         → IfErr result (λ e. e ≢ Old Device → e ≢ New Device → (A.disk old.new).content ≡ (A.disk old.old).content) }
     ensures new_same { IfErr result (λ e. e ≢ Old Device → e ≢ New Device → new.new ≡ new.old) }
@@ -333,12 +341,15 @@ pub fn upgrade<A: SectorDevice, B: SectorDevice>(
     // What a stop at any moment leaves of the old image, and of the new one, and what one leaves of that once it has returned.
     ensures old_stops { IsTrue (A.keeps_model old.old) → (n : ℕ) → A.sector_count old.old ≡ sectors_for n
         → StopsLeave A.SectorDevice old.old old.new (OldLeaves n (A.disk old.old)) }
-    ensures new_stops { IsTrue (A.keeps_model old.old) → IsTrue (B.keeps_model new.old) → (n : ℕ) → B.sector_count new.old ≡ sectors_for n
+    ensures new_stops { IsTrue (A.keeps_model old.old) → IsTrue (B.keeps_model new.old) → (n : ℕ)
+        → B.sector_count new.old ≡ sectors_for n
         → StopsLeave B.SectorDevice new.old new.new (MakingLeaves n (meaning n (A.disk old.old).content) (B.disk new.old)) }
-    ensures after { IsTrue (A.keeps_model old.old) → IsTrue (B.keeps_model new.old) → OnOk result ((n : ℕ) → B.sector_count new.old ≡ sectors_for n
+    ensures after { IsTrue (A.keeps_model old.old) → IsTrue (B.keeps_model new.old)
+        → OnOk result ((n : ℕ) → B.sector_count new.old ≡ sectors_for n
         → (image : Image) → MayLeave (B.disk new.new) image → Means (meaning n (A.disk old.old).content) image) }
     // The new image is made as by a format, with the homes of the old one, whose gate is closed then.
-    ensures filled { IsTrue (A.keeps_model old.old) → IsTrue (B.keeps_model new.old) → OnOk result ((n : ℕ) → B.sector_count new.old ≡ sectors_for n
+    ensures filled { IsTrue (A.keeps_model old.old) → IsTrue (B.keeps_model new.old)
+        → OnOk result ((n : ℕ) → B.sector_count new.old ≡ sectors_for n
         → IsFilled n (A.disk old.new).content (B.disk new.new).content) }
     ensures slots { IsTrue (B.keeps_model new.old) → OnOk result ((n : ℕ) → B.sector_count new.old ≡ sectors_for n
         → KeepsSlots n (B.disk new.old).content (B.disk new.new).content) }
@@ -347,7 +358,8 @@ pub fn upgrade<A: SectorDevice, B: SectorDevice>(
     ensures old_passes { Proceeds A.SectorDevice old.old old.new }
     ensures new_passes { Proceeds B.SectorDevice new.old new.new }
     ensures old_begins { IsTrue (A.keeps_model old.old) → (n : ℕ) → A.sector_count old.old ≡ sectors_for n
-        → BeginsAtMost A.SectorDevice old.old old.new (writes_for n (A.disk old.old).content) (syncs_for (A.disk old.old).content) }
+        → BeginsAtMost A.SectorDevice old.old old.new (writes_for n (A.disk old.old).content)
+        (syncs_for (A.disk old.old).content) }
     ensures new_begins { (n : ℕ) → B.sector_count new.old ≡ sectors_for n
         → BeginsAtMost B.SectorDevice new.old new.new (2 * n + 4) 4 }
 {

@@ -171,10 +171,12 @@ impl<D: SectorDevice> SectorDevice for Fused<D> {
         ensures untouched { IsTrue (fails_at self.old 1) → device_of self.new ≡ device_of self.old }
         ensures further { (j : ℕ) → 1 ≤ j → fails_at self.new j ≡ fails_at self.old (j + 1) }
         ensures passes { fails_at self.old 1 ≡ false → D.counts (device_of self.new) ≡ with_read (D.counts (device_of self.old)) }
-        ensures blames { fails_at self.old 1 ≡ false → CountsFailure (D.failures (device_of self.old)) (D.failures (device_of self.new)) result }
+        ensures blames { fails_at self.old 1 ≡ false
+            → CountsFailure (D.failures (device_of self.old)) (D.failures (device_of self.new)) result }
 
         // As for every device.
-        ensures bytes { IsTrue (D.keeps_model (device_of self.old)) → OnOk result (out.new ≡ (D.disk (device_of self.old)).content k) }
+        ensures bytes { IsTrue (D.keeps_model (device_of self.old))
+            → OnOk result (out.new ≡ (D.disk (device_of self.old)).content k) }
         ensures disk { IsTrue (D.keeps_model (device_of self.old)) → D.disk (device_of self.new) ≡ D.disk (device_of self.old) }
         ensures goes_on { GoesOn ⟦<Fused<D> as SectorDevice>⟧ self.old self.new result }
         ensures counts { let n = ⟦<Fused<D> as SectorDevice>⟧.counts in n self.new ≡ with_read (n self.old) }
@@ -190,12 +192,16 @@ impl<D: SectorDevice> SectorDevice for Fused<D> {
         ensures fails { IsTrue (fails_at self.old 1) → IsErr result }
         ensures untouched { IsTrue (fails_at self.old 1) → device_of self.new ≡ device_of self.old }
         ensures further { (j : ℕ) → 1 ≤ j → fails_at self.new j ≡ fails_at self.old (j + 1) }
-        ensures passes { fails_at self.old 1 ≡ false → D.counts (device_of self.new) ≡ with_write (D.counts (device_of self.old)) }
-        ensures blames { fails_at self.old 1 ≡ false → CountsFailure (D.failures (device_of self.old)) (D.failures (device_of self.new)) result }
+        ensures passes { fails_at self.old 1 ≡ false
+            → D.counts (device_of self.new) ≡ with_write (D.counts (device_of self.old)) }
+        ensures blames { fails_at self.old 1 ≡ false
+            → CountsFailure (D.failures (device_of self.old)) (D.failures (device_of self.new)) result }
 
         // As for every device.
-        ensures ok { IsTrue (D.keeps_model (device_of self.old)) → OnOk result (D.disk (device_of self.new) ≡ written (D.disk (device_of self.old)) k bytes.now) }
-        ensures err { IsTrue (D.keeps_model (device_of self.old)) → OnErr result (MayWrite k (D.disk (device_of self.old)) (D.disk (device_of self.new))) }
+        ensures ok { IsTrue (D.keeps_model (device_of self.old))
+            → OnOk result (D.disk (device_of self.new) ≡ written (D.disk (device_of self.old)) k bytes.now) }
+        ensures err { IsTrue (D.keeps_model (device_of self.old))
+            → OnErr result (MayWrite k (D.disk (device_of self.old)) (D.disk (device_of self.new))) }
         ensures goes_on { GoesOn ⟦<Fused<D> as SectorDevice>⟧ self.old self.new result }
         ensures counts { let n = ⟦<Fused<D> as SectorDevice>⟧.counts in n self.new ≡ with_write (n self.old) }
     {
@@ -210,11 +216,14 @@ impl<D: SectorDevice> SectorDevice for Fused<D> {
         ensures untouched { IsTrue (fails_at self.old 1) → device_of self.new ≡ device_of self.old }
         ensures further { (j : ℕ) → 1 ≤ j → fails_at self.new j ≡ fails_at self.old (j + 1) }
         ensures passes { fails_at self.old 1 ≡ false → D.counts (device_of self.new) ≡ with_sync (D.counts (device_of self.old)) }
-        ensures blames { fails_at self.old 1 ≡ false → CountsFailure (D.failures (device_of self.old)) (D.failures (device_of self.new)) result }
+        ensures blames { fails_at self.old 1 ≡ false
+            → CountsFailure (D.failures (device_of self.old)) (D.failures (device_of self.new)) result }
 
         // As for every device.
-        ensures ok { IsTrue (D.keeps_model (device_of self.old)) → OnOk result (D.disk (device_of self.new) ≡ settled (D.disk (device_of self.old))) }
-        ensures err { IsTrue (D.keeps_model (device_of self.old)) → OnErr result (SettlesNothing (D.disk (device_of self.old)) (D.disk (device_of self.new))) }
+        ensures ok { IsTrue (D.keeps_model (device_of self.old))
+            → OnOk result (D.disk (device_of self.new) ≡ settled (D.disk (device_of self.old))) }
+        ensures err { IsTrue (D.keeps_model (device_of self.old))
+            → OnErr result (SettlesNothing (D.disk (device_of self.old)) (D.disk (device_of self.new))) }
         ensures goes_on { GoesOn ⟦<Fused<D> as SectorDevice>⟧ self.old self.new result }
         ensures counts { let n = ⟦<Fused<D> as SectorDevice>⟧.counts in n self.new ≡ with_sync (n self.old) }
     {

@@ -46,7 +46,8 @@ impl Recorded {
 
         // What a stop since a moment might have left is what it may leave now, and what it might have left at the past moments.
         ensures history { (t : ℕ) (c : Image)
-            → ⟦<Recorded as SectorDevice>⟧.left_since self.now t c ↔ LeftSince result.now (⟦<Recorded as SectorDevice>⟧.disk self.now) t c }
+            → ⟦<Recorded as SectorDevice>⟧.left_since self.now t c
+            ↔ LeftSince result.now (⟦<Recorded as SectorDevice>⟧.disk self.now) t c }
     {
         &self.past
     }

@@ -6,7 +6,8 @@ ghost use Rattle.stacks.specs.Places.{stack_in};
 #[inline]
 pub fn lent_places()
     ensures empty { (places : List ℕ) → stack_in places 0 ≡ [] }
-    ensures top { (places : List ℕ) (depth : ℕ) → stack_in places (depth + 1) ≡ slice_index places (depth + 1) ∷ stack_in places depth }
+    ensures top { (places : List ℕ) (depth : ℕ)
+        → stack_in places (depth + 1) ≡ slice_index places (depth + 1) ∷ stack_in places depth }
     ensures count { (places : List ℕ) (depth : ℕ) → length (stack_in places depth) ≡ depth }
     // a store above the top does not show
     ensures above { (places : List ℕ) (depth place cell : ℕ) → depth < place

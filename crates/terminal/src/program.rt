@@ -66,7 +66,8 @@ fn perform<F: Lines<FileDisk>, M: Lines<MemoryDisk>, R: Read, W: Write>(
     requires { IsInRange asked }
     ensures well { IsForMemory asked.entry → OnOk result (CompletesInMemory ⟦<MemoryDisk as SectorDevice>⟧
         (R.remaining input.old) (R.remaining input.new) (W.contents output.old) (W.contents output.new)) }
-    ensures broken { IsForMemory asked.entry → IfErr result (λ e. e ≢ Failure.NoMemory → BreaksInMemory ⟦<MemoryDisk as SectorDevice>⟧
+    ensures broken { IsForMemory asked.entry
+        → IfErr result (λ e. e ≢ Failure.NoMemory → BreaksInMemory ⟦<MemoryDisk as SectorDevice>⟧
         (R.remaining input.old) (R.remaining input.new) (W.contents output.old) (W.contents output.new)) }
 {
     match asked {

@@ -30,10 +30,12 @@ pub fn run_over<D: SectorDevice + Drop, F: Lines<D>, R: Read, W: Write>(
     ensures ok { (m : Maps) → StandsFor store m → IfOk result (λ end.
         (closing : Abstract) × (made : List Save) × StandsFor end.0 closing.world.maps
         × Keeps D.SectorDevice (new_forth steps m) closing (device_of store) (device_of end.0) made
-        × OnOk end.1 (Completes D.SectorDevice (new_forth steps m) closing (R.remaining reader.old) (R.remaining reader.new)
+        × OnOk end.1 (Completes D.SectorDevice (new_forth steps m) closing
+        (R.remaining reader.old) (R.remaining reader.new)
         (W.contents writer.old) (W.contents writer.new)
         (device_of store) (device_of end.0) made)
-        × IfErr end.1 (λ fault. BreaksOff D.SectorDevice fault (new_forth steps m) closing (R.remaining reader.old) (R.remaining reader.new)
+        × IfErr end.1 (λ fault. BreaksOff D.SectorDevice fault (new_forth steps m) closing
+        (R.remaining reader.old) (R.remaining reader.new)
         (W.contents writer.old) (W.contents writer.new)
         (device_of store) (device_of end.0) made)) }
 {

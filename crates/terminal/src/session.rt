@@ -94,7 +94,8 @@ fn turn<D: SectorDevice + Drop, F: Lines<D>, R: Read, W: Write>(
     requires sound { F.sound forth.old }
     requires none_failed { streams.old.failures ≡ 0 }
     ensures sound { F.sound forth.new }
-    ensures done { IfOk result (λ more. OnTrue more (Runs D.SectorDevice F.stands F.device forth.old forth.new (λ opening closing made.
+    ensures done { IfOk result
+        (λ more. OnTrue more (Runs D.SectorDevice F.stands F.device forth.old forth.new (λ opening closing made.
         TurnDone D.SectorDevice opening closing
         (left_of streams.old.ended (R.remaining streams.old.reader.now))
         (left_of streams.new.ended (R.remaining streams.new.reader.now))

@@ -131,8 +131,10 @@ impl<D: SectorDevice> Forth<D> {
     /// Gives the most recent word the part at a place, as `DOES>` does where its word runs.
     pub(crate) fn give_part(&mut self, place: u16) -> Result<(), Fault>
         requires sound { IsSound self.old.lexicon }
-        ensures alters { (owner : ℕ) (parts : List Trees) (levels : List Level) (x : World) → Stands self.old levels x → IsPart self.old.lexicon (language_of x) place owner parts
-            → Altered (λ r. give_part (record { owner = owner; parts = parts }) (core self.old) (with_run r x)) result self.old self.new levels x }
+        ensures alters { (owner : ℕ) (parts : List Trees) (levels : List Level) (x : World) → Stands self.old levels x
+            → IsPart self.old.lexicon (language_of x) place owner parts
+            → Altered (λ r. give_part (record { owner = owner; parts = parts }) (core self.old) (with_run r x))
+            result self.old self.new levels x }
         ensures spares { Spares self.old self.new }
         ensures steps { self.new.steps ≡ self.old.steps }
         ensures returns { self.new.returns ≡ self.old.returns }
@@ -211,7 +213,8 @@ impl<D: SectorDevice> Forth<D> {
     fn add_text(&mut self, kind: TextKind, count: usize) -> Result<(), Fault>
         requires sound { IsSound self.old.lexicon }
         requires within { count ≤ 1024 }
-        ensures alters { Alters (λ a c x. changing (λ used. add_text used (kind_of kind) (take count self.old.text)) c x) result self.old self.new }
+        ensures alters { Alters (λ a c x. changing (λ used. add_text used (kind_of kind) (take count self.old.text)) c x)
+            result self.old self.new }
         ensures spares { Spares self.old self.new }
         ensures tells { Tells fault_count result self.old self.new }
     {

@@ -43,7 +43,9 @@ impl<D: SectorDevice> Forth<D> {
     pub(crate) fn execute(&mut self) -> Result<(), Fault>
         requires idle { self.old.machine.pending ≡ None }
         ensures entered { (m : ℕ) (levels : List Level) (x : World) → self.old.steps ≤ m → Stands self.old levels x
-            → Entered (suc m) (λ r. and_then (on_service (suc m) (λ a due c x. serve m a due c x) Execute (around_of levels) (core self.old) (with_run r x)) (λ c x. left (suc m) levels c x)) result self.old self.new x }
+            → Entered (suc m) (λ r. and_then
+            (on_service (suc m) (λ a due c x. serve m a due c x) Execute (around_of levels) (core self.old) (with_run r x))
+            (λ c x. left (suc m) levels c x)) result self.old self.new x }
         ensures spares { Spares self.old self.new }
         ensures tells { Tells fault_count result self.old self.new }
     {
@@ -63,7 +65,9 @@ impl<D: SectorDevice> Forth<D> {
     pub(crate) fn load(&mut self) -> Result<(), Fault>
         requires idle { self.old.machine.pending ≡ None }
         ensures entered { (m : ℕ) (levels : List Level) (x : World) → self.old.steps ≤ m → Stands self.old levels x
-            → Entered (suc m) (λ r. and_then (on_service (suc m) (λ a due c x. serve m a due c x) LoadBlock (around_of levels) (core self.old) (with_run r x)) (λ c x. left (suc m) levels c x)) result self.old self.new x }
+            → Entered (suc m) (λ r. and_then
+            (on_service (suc m) (λ a due c x. serve m a due c x) LoadBlock (around_of levels) (core self.old) (with_run r x))
+            (λ c x. left (suc m) levels c x)) result self.old self.new x }
         ensures spares { Spares self.old self.new }
         ensures tells { Tells fault_count result self.old self.new }
     {

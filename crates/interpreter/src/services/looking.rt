@@ -92,7 +92,8 @@ impl<D: SectorDevice> Forth<D> {
 
     /// The same in the line.
     fn look_at_line(&mut self, cut: Cut, delimiter: u8) -> Look
-        ensures seen { seen_in result self.new.text ≡ seen_from cut delimiter (cell_at self.old.space 20) (line_of self.old.space) }
+        ensures seen { seen_in result self.new.text
+            ≡ seen_from cut delimiter (cell_at self.old.space 20) (line_of self.old.space) }
         ensures rest { self.new ≡ record self.old { text = self.new.text } }
         ensures within { result.count ≤ 1024 }
         ensures whole { length (take result.count self.new.text) ≡ result.count }

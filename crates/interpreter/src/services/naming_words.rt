@@ -198,7 +198,8 @@ impl<D: SectorDevice> Forth<D> {
         requires sound { IsSound self.old.lexicon }
         requires within { count ≤ 1024 }
         requires fits { MayBeAdded self.old.lexicon (take count self.old.text) }
-        ensures alters { Alters (λ a c x. Did c (adding (take count self.old.text) (Created x.here None) x)) (Ok tt) self.old self.new }
+        ensures alters { Alters (λ a c x. Did c (adding (take count self.old.text) (Created x.here None) x)) (Ok tt)
+            self.old self.new }
         ensures spares { Spares self.old self.new }
     {
         let _ = self.lexicon.create(&self.text[..count]);
@@ -329,7 +330,8 @@ impl<D: SectorDevice> Forth<D> {
     /// Forgets this word and all newer ones.
     fn forget_from(&mut self, token: u16) -> Result<(), Fault>
         requires word { (x : Language) × (Means self.old.lexicon x × IsWord x token) }
-        ensures alters { Alters (λ a c x. stepped (forgetting token a.running (language_of x)) (λ c. c) c x) result self.old self.new }
+        ensures alters { Alters (λ a c x. stepped (forgetting token a.running (language_of x)) (λ c. c) c x)
+            result self.old self.new }
         ensures spares { Spares self.old self.new }
         ensures tells { Tells fault_count result self.old self.new }
     {

@@ -42,7 +42,9 @@ impl<D: SectorDevice> Forth<D> {
         requires sound { IsSoundIn self.old.lexicon }
         requires within { count ≤ 1024 }
         requires whole { length (take count self.old.text) ≡ count }
-        ensures alters { Alters (λ a c x. pushing x.here (record c { space = with_bytes c.space x.here (counted (take count self.old.text)) }) x) result self.old self.new }
+        ensures alters { Alters
+            (λ a c x. pushing x.here (record c { space = with_bytes c.space x.here (counted (take count self.old.text)) }) x)
+            result self.old self.new }
         ensures spares { Spares self.old self.new }
         ensures tells { Tells fault_count result self.old self.new }
     {

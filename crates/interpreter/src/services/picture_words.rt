@@ -117,7 +117,8 @@ impl<D: SectorDevice> Forth<D> {
 
     /// `U.`.
     pub(crate) fn unsigned_dot<T: Terminal>(&mut self, terminal: &mut T) -> Result<(), Stop>
-        ensures serves { Serves T.Terminal (λ a c x. on_picture UnsignedDot c x) result self.old self.new terminal.old terminal.new }
+        ensures serves { Serves T.Terminal (λ a c x. on_picture UnsignedDot c x)
+            result self.old self.new terminal.old terminal.new }
         ensures lasts { Lasts D.SectorDevice T.Terminal result (device self.old) (device self.new) terminal.old terminal.new }
         ensures tells { Tells stop_count result self.old self.new }
         ensures budget { self.new.budget ≡ self.old.budget }
@@ -151,7 +152,9 @@ impl<D: SectorDevice> Forth<D> {
         requires least { 2 ≤ base }
         requires most { base ≤ 72 }
         requires room { length self.old.stack < 255 }
-        ensures alters { Alters (λ a c x. hold (digit_char (double low high % base)) c x (λ d y. push_double (double low high / base) d y)) result self.old self.new }
+        ensures alters { Alters
+            (λ a c x. hold (digit_char (double low high % base)) c x (λ d y. push_double (double low high / base) d y))
+            result self.old self.new }
         ensures spares { Spares self.old self.new }
         ensures tells { Tells fault_count result self.old self.new }
     {
@@ -221,7 +224,9 @@ impl<D: SectorDevice> Forth<D> {
         requires least { 2 ≤ base }
         requires most { base ≤ 72 }
         requires room { length self.old.stack < 255 }
-        ensures alters { Alters (λ a c x. hold_all (reverse (digits_of base (double low high))) c x (λ d y. push_double 0 d y)) result self.old self.new }
+        ensures alters { Alters
+            (λ a c x. hold_all (reverse (digits_of base (double low high))) c x (λ d y. push_double 0 d y))
+            result self.old self.new }
         ensures spares { Spares self.old self.new }
         ensures tells { Tells fault_count result self.old self.new }
     {
@@ -239,7 +244,8 @@ impl<D: SectorDevice> Forth<D> {
     fn hold_digits(&mut self, number: u32, base: u16) -> Result<(), Fault>
         requires least { 2 ≤ base }
         requires most { base ≤ 72 }
-        ensures alters { Alters (λ a c x. hold_all (reverse (digits_of base number)) c x (λ c x. Did c x)) result self.old self.new }
+        ensures alters { Alters (λ a c x. hold_all (reverse (digits_of base number)) c x (λ c x. Did c x))
+            result self.old self.new }
         ensures spares { Spares self.old self.new }
         ensures stack { self.new.stack ≡ self.old.stack }
         ensures tells { Tells fault_count result self.old self.new }

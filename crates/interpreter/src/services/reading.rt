@@ -34,7 +34,8 @@ impl<D: SectorDevice> Forth<D> {
     pub(crate) fn advance(&mut self) -> Result<Round, Fault>
         requires sound { IsSound self.old }
         requires idle { self.old.machine.pending ≡ None }
-        ensures advanced { (n : ℕ) (levels : List Level) (x : World) → self.old.steps < n → Stands self.old levels x → IsAtText levels
+        ensures advanced { (n : ℕ) (levels : List Level) (x : World) → self.old.steps < n → Stands self.old levels x
+            → IsAtText levels
             → Advanced n (λ r. left n levels (core self.old) (with_run r x)) result self.old self.new x }
         ensures down { GoesDown (stopped result) (weight self.old) (weight self.new) }
         ensures lasts { LastsAlone D.SectorDevice (device self.old) (device self.new) }
@@ -53,8 +54,10 @@ impl<D: SectorDevice> Forth<D> {
         requires idle { self.old.machine.pending ≡ None }
         requires within { look.count ≤ 1024 }
         requires whole { length (take look.count self.old.text) ≡ look.count }
-        ensures passed { (n : ℕ) (levels : List Level) (x : World) → self.old.steps < n → Stands self.old levels x → IsAtText levels
-            → Passed n (λ r. seen_round n levels (seen_in look self.old.text) (core self.old) (with_run r x)) result self.old self.new x }
+        ensures passed { (n : ℕ) (levels : List Level) (x : World) → self.old.steps < n → Stands self.old levels x
+            → IsAtText levels
+            → Passed n (λ r. seen_round n levels (seen_in look self.old.text) (core self.old) (with_run r x))
+            result self.old self.new x }
         ensures down { GoesDown (stopped result) (weight self.old) (weight self.new) }
         ensures spares { Spares self.old self.new }
         ensures tells { Tells fault_count result self.old self.new }
@@ -100,7 +103,8 @@ impl<D: SectorDevice> Forth<D> {
         requires idle { self.old.machine.pending ≡ None }
         requires within { count ≤ 1024 }
         ensures entered { (n : ℕ) (levels : List Level) (x : World) → Stands self.old levels x
-            → Entered n (λ r. treated n levels (take count self.old.text) (core self.old) (with_run r x)) result self.old self.new x }
+            → Entered n (λ r. treated n levels (take count self.old.text) (core self.old) (with_run r x))
+            result self.old self.new x }
         ensures spares { Spares self.old self.new }
         ensures tells { Tells fault_count result self.old self.new }
     {
@@ -116,7 +120,9 @@ impl<D: SectorDevice> Forth<D> {
         requires idle { self.old.machine.pending ≡ None }
         requires word { (x : World) → Rests self.old x → IsWord (language_of x) token }
         ensures entered { (n : ℕ) (levels : List Level) (x : World) → Stands self.old levels x
-            → Entered n (λ r. and_then (found_word n (λ a due c x. serve n a due c x) token (around_of levels) (core self.old) (with_run r x)) (λ c x. left n levels c x)) result self.old self.new x }
+            → Entered n (λ r. and_then
+            (found_word n (λ a due c x. serve n a due c x) token (around_of levels) (core self.old) (with_run r x))
+            (λ c x. left n levels c x)) result self.old self.new x }
         ensures spares { Spares self.old self.new }
         ensures tells { Tells fault_count result self.old self.new }
     {
@@ -136,7 +142,9 @@ impl<D: SectorDevice> Forth<D> {
         requires idle { self.old.machine.pending ≡ None }
         requires word { (x : World) → Rests self.old x → IsWord (language_of x) token }
         ensures entered { (n : ℕ) (levels : List Level) (x : World) → Stands self.old levels x
-            → Entered n (λ r. and_then (found_compiling n token (around_of levels) (core self.old) (with_run r x)) (λ c x. left n levels c x)) result self.old self.new x }
+            → Entered n (λ r. and_then
+            (found_compiling n token (around_of levels) (core self.old) (with_run r x))
+            (λ c x. left n levels c x)) result self.old self.new x }
         ensures spares { Spares self.old self.new }
         ensures tells { Tells fault_count result self.old self.new }
     {
@@ -163,7 +171,9 @@ impl<D: SectorDevice> Forth<D> {
     fn number(&mut self, count: usize) -> Result<(), Fault>
         requires sound { IsSound self.old }
         requires within { count ≤ 1024 }
-        ensures alters { Alters (λ a c x. with_base c x (λ c. number_value (number (system_cell base_cell c) (take count self.old.text)) c x)) result self.old self.new }
+        ensures alters { Alters
+            (λ a c x. with_base c x (λ c. number_value (number (system_cell base_cell c) (take count self.old.text)) c x))
+            result self.old self.new }
         ensures spares { Spares self.old self.new }
         ensures tells { Tells fault_count result self.old self.new }
     {

@@ -26,8 +26,10 @@ impl<D: SectorDevice> Forth<D> {
     /// The next byte of the input, or `None` at its end, at which the terminal is asked once.
     fn ask<T: Terminal>(&mut self, terminal: &mut T) -> Result<Option<u8>, IoFault>
         ensures rest { self.new ≡ record self.old { at_end = self.new.at_end } }
-        ensures heard { Heard T.Terminal (io_of result) (asking_of result) self.old.at_end self.new.at_end terminal.old terminal.new }
-        ensures lasts { Lasts D.SectorDevice T.Terminal (io_of result) (device self.old) (device self.old) terminal.old terminal.new }
+        ensures heard { Heard T.Terminal (io_of result) (asking_of result)
+            self.old.at_end self.new.at_end terminal.old terminal.new }
+        ensures lasts { Lasts D.SectorDevice T.Terminal (io_of result) (device self.old) (device self.old)
+            terminal.old terminal.new }
         ensures fewer { IfOk result (λ key. OnSome key (T.may_give terminal.new < T.may_give terminal.old)) }
         ensures tells { D.failures (device self.new) ≡ D.failures (device self.old) }
     {
@@ -55,7 +57,8 @@ impl<D: SectorDevice> Forth<D> {
         requires some { 0 < left }
         requires within { a + left ≤ 65536 }
         ensures step { StepOf T.Terminal a left result self.old self.new terminal.old terminal.new }
-        ensures lasts { Lasts D.SectorDevice T.Terminal (io_of result) (device self.old) (device self.new) terminal.old terminal.new }
+        ensures lasts { Lasts D.SectorDevice T.Terminal (io_of result) (device self.old) (device self.new)
+            terminal.old terminal.new }
         ensures tells { D.failures (device self.new) ≡ D.failures (device self.old) }
         ensures budget { self.new.budget ≡ self.old.budget }
     {
@@ -91,7 +94,8 @@ impl<D: SectorDevice> Forth<D> {
     /// Reads up to `u` bytes to `a`.
     fn fill<T: Terminal>(&mut self, a: u16, u: u16, terminal: &mut T) -> Result<(), Stop>
         requires within { a + u ≤ 65536 }
-        ensures serves { Serves T.Terminal (λ _ c x. expect_of x.run.terminal a u c x) result self.old self.new terminal.old terminal.new }
+        ensures serves { Serves T.Terminal (λ _ c x. expect_of x.run.terminal a u c x)
+            result self.old self.new terminal.old terminal.new }
         ensures lasts { Lasts D.SectorDevice T.Terminal result (device self.old) (device self.new) terminal.old terminal.new }
         ensures tells { Tells stop_count result self.old self.new }
         ensures budget { self.new.budget ≡ self.old.budget }

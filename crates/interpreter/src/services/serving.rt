@@ -57,7 +57,8 @@ impl<D: SectorDevice> Forth<D> {
     /// A word that reaches neither device nor terminal.
     fn quiet(&mut self, word: QuietWord) -> Result<(), Fault>
         requires sound { IsSoundLexicon self.old.lexicon }
-        ensures alters { (f : ℕ) (inner : Serve World) → Alters (λ a c x. on_service f inner (quiet_word word) a c x) result self.old self.new }
+        ensures alters { (f : ℕ) (inner : Serve World)
+            → Alters (λ a c x. on_service f inner (quiet_word word) a c x) result self.old self.new }
         ensures spares { Spares self.old self.new }
         ensures tells { Tells fault_count result self.old self.new }
     {
@@ -94,7 +95,8 @@ impl<D: SectorDevice> Forth<D> {
     fn on_device(&mut self, word: DeviceWord) -> Result<(), Fault>
         requires standing { IsSound self.old }
         requires sound { IsSoundLexicon self.old.lexicon }
-        ensures consults { (f : ℕ) (inner : Serve World) → Consults (λ a c x. on_service f inner (device_word word) a c x) result self.old self.new }
+        ensures consults { (f : ℕ) (inner : Serve World)
+            → Consults (λ a c x. on_service f inner (device_word word) a c x) result self.old self.new }
         ensures lasts { LastsAlone D.SectorDevice (device self.old) (device self.new) }
         ensures tells { Tells fault_count result self.old self.new }
         ensures budget { self.new.budget ≡ self.old.budget }
@@ -123,7 +125,9 @@ impl<D: SectorDevice> Forth<D> {
 
     /// A word that may reach the terminal.
     fn on_terminal<T: Terminal>(&mut self, word: TerminalWord, terminal: &mut T) -> Result<(), Stop>
-        ensures serves { (f : ℕ) (inner : Serve World) → Serves T.Terminal (λ a c x. on_service f inner (terminal_word word) a c x) result self.old self.new terminal.old terminal.new }
+        ensures serves { (f : ℕ) (inner : Serve World)
+            → Serves T.Terminal (λ a c x. on_service f inner (terminal_word word) a c x)
+            result self.old self.new terminal.old terminal.new }
         ensures lasts { Lasts D.SectorDevice T.Terminal result (device self.old) (device self.new) terminal.old terminal.new }
         ensures tells { Tells stop_count result self.old self.new }
         ensures budget { self.new.budget ≡ self.old.budget }
@@ -148,8 +152,12 @@ impl<D: SectorDevice> Forth<D> {
         requires sound { IsSoundLexicon self.old.lexicon }
         requires idle { self.old.machine.pending ≡ None }
         ensures round { (m : ℕ) (levels : List Level) (x : World) → self.old.steps ≤ m → Stands self.old levels x
-            → RanRound T.Terminal (suc m) (λ r. and_then (on_service (suc m) (λ a due c x. serve m a due c x) (service_in service) (around_of levels) (core self.old) (with_run r x)) (λ c x. left (suc m) levels c x)) result self.old self.new terminal.old terminal.new x }
-        ensures lasts { LastsRound D.SectorDevice T.Terminal result (device self.old) (device self.new) terminal.old terminal.new }
+            → RanRound T.Terminal (suc m) (λ r. and_then
+            (on_service (suc m) (λ a due c x. serve m a due c x) (service_in service)
+            (around_of levels) (core self.old) (with_run r x))
+            (λ c x. left (suc m) levels c x)) result self.old self.new terminal.old terminal.new x }
+        ensures lasts { LastsRound D.SectorDevice T.Terminal result (device self.old) (device self.new)
+            terminal.old terminal.new }
         ensures tells { Tells stop_count result self.old self.new }
         ensures budget { self.new.budget ≡ self.old.budget }
     {
@@ -165,8 +173,10 @@ impl<D: SectorDevice> Forth<D> {
     /// A word that is no service of the table, and that the machine can't call: a vocabulary becomes the first of the search.
     fn users_word(&mut self, token: u16) -> Result<(), Fault>
         requires sound { IsSoundLexicon self.old.lexicon }
-        ensures alters { (f : ℕ) (inner : Serve World) (levels : List Level) (x : World) → Stands self.old levels x → meanings (language_of x) token ≡ Outside
-            → Altered (λ r. user_word f inner token (entry x.words token) (around_of levels) (core self.old) (with_run r x)) result self.old self.new levels x }
+        ensures alters { (f : ℕ) (inner : Serve World) (levels : List Level) (x : World) → Stands self.old levels x
+            → meanings (language_of x) token ≡ Outside
+            → Altered (λ r. user_word f inner token (entry x.words token) (around_of levels) (core self.old) (with_run r x))
+            result self.old self.new levels x }
         ensures spares { Spares self.old self.new }
         ensures tells { Tells fault_count result self.old self.new }
     {
@@ -182,9 +192,13 @@ impl<D: SectorDevice> Forth<D> {
         requires standing { IsSound self.old }
         requires sound { IsSoundLexicon self.old.lexicon }
         requires idle { self.old.machine.pending ≡ None }
-        ensures round { (m : ℕ) (levels : List Level) (x : World) → self.old.steps ≤ m → Stands self.old levels x → meanings (language_of x) token ≡ Outside
-            → RanRound T.Terminal (suc m) (λ r. and_then (serve (suc m) (around_of levels) (Word token) (core self.old) (with_run r x)) (λ c x. left (suc m) levels c x)) result self.old self.new terminal.old terminal.new x }
-        ensures lasts { LastsRound D.SectorDevice T.Terminal result (device self.old) (device self.new) terminal.old terminal.new }
+        ensures round { (m : ℕ) (levels : List Level) (x : World) → self.old.steps ≤ m → Stands self.old levels x
+            → meanings (language_of x) token ≡ Outside
+            → RanRound T.Terminal (suc m) (λ r. and_then
+            (serve (suc m) (around_of levels) (Word token) (core self.old) (with_run r x))
+            (λ c x. left (suc m) levels c x)) result self.old self.new terminal.old terminal.new x }
+        ensures lasts { LastsRound D.SectorDevice T.Terminal result (device self.old) (device self.new)
+            terminal.old terminal.new }
         ensures tells { Tells stop_count result self.old self.new }
         ensures budget { self.new.budget ≡ self.old.budget }
     {
@@ -197,7 +211,8 @@ impl<D: SectorDevice> Forth<D> {
     /// Prints the text that begins at this place.
     fn print_text_at<T: Terminal>(&mut self, place: u16, terminal: &mut T) -> Result<(), Stop>
         requires text { (s : List ℕ) × TextAt self.old.lexicon.code place s }
-        ensures serves { (s : List ℕ) → TextAt self.old.lexicon.code place s → Serves T.Terminal (λ a c x. print s c x) result self.old self.new terminal.old terminal.new }
+        ensures serves { (s : List ℕ) → TextAt self.old.lexicon.code place s
+            → Serves T.Terminal (λ a c x. print s c x) result self.old self.new terminal.old terminal.new }
         ensures lasts { Lasts D.SectorDevice T.Terminal result (device self.old) (device self.new) terminal.old terminal.new }
         ensures tells { Tells stop_count result self.old self.new }
         ensures budget { self.new.budget ≡ self.old.budget }
@@ -210,7 +225,9 @@ impl<D: SectorDevice> Forth<D> {
     /// The same, and then the line is aborted.
     fn abort_with<T: Terminal>(&mut self, place: u16, terminal: &mut T) -> Result<(), Stop>
         requires text { (s : List ℕ) × TextAt self.old.lexicon.code place s }
-        ensures serves { (s : List ℕ) → TextAt self.old.lexicon.code place s → Serves T.Terminal (λ a c x. and_then (print s c x) (λ c x. Ends Aborts c x)) result self.old self.new terminal.old terminal.new }
+        ensures serves { (s : List ℕ) → TextAt self.old.lexicon.code place s
+            → Serves T.Terminal (λ a c x. and_then (print s c x) (λ c x. Ends Aborts c x))
+            result self.old self.new terminal.old terminal.new }
         ensures lasts { Lasts D.SectorDevice T.Terminal result (device self.old) (device self.new) terminal.old terminal.new }
         ensures tells { Tells stop_count result self.old self.new }
         ensures budget { self.new.budget ≡ self.old.budget }
@@ -223,12 +240,17 @@ impl<D: SectorDevice> Forth<D> {
 
     /// The service that the machine asks for.
     pub(crate) fn serve<T: Terminal>(&mut self, op: Op, terminal: &mut T) -> Result<Round, Stop>
-        requires asked { (levels : List Level) × (x : World) × (due : Due) × (Stands self.old levels x × IsDue self.old.lexicon (language_of x) op due) }
+        requires asked { (levels : List Level) × (x : World) × (due : Due)
+            × (Stands self.old levels x × IsDue self.old.lexicon (language_of x) op due) }
         requires idle { self.old.machine.pending ≡ None }
-        ensures round { (n : ℕ) (levels : List Level) (x : World) (due : Due) → self.old.steps < n → Stands self.old levels x → IsDue self.old.lexicon (language_of x) op due
-            → RanRound T.Terminal n (λ r. and_then (serve n (around_of levels) due (core self.old) (with_run r x)) (λ c x. left n levels c x)) result self.old self.new terminal.old terminal.new x }
+        ensures round { (n : ℕ) (levels : List Level) (x : World) (due : Due) → self.old.steps < n → Stands self.old levels x
+            → IsDue self.old.lexicon (language_of x) op due
+            → RanRound T.Terminal n (λ r. and_then
+            (serve n (around_of levels) due (core self.old) (with_run r x)) (λ c x. left n levels c x))
+            result self.old self.new terminal.old terminal.new x }
         ensures given { WhereFree op (weight self.new ≤ weight self.old) }
-        ensures lasts { LastsRound D.SectorDevice T.Terminal result (device self.old) (device self.new) terminal.old terminal.new }
+        ensures lasts { LastsRound D.SectorDevice T.Terminal result (device self.old) (device self.new)
+            terminal.old terminal.new }
         ensures tells { Tells stop_count result self.old self.new }
         ensures budget { self.new.budget ≡ self.old.budget }
     {

@@ -115,7 +115,8 @@ impl<D: SectorDevice> Forth<D> {
 
     /// Prints so many blanks.
     fn print_blanks<T: Terminal>(&self, count: u16, terminal: &mut T) -> Result<(), Stop>
-        ensures serves { Serves T.Terminal (λ a c x. print (replicate count 32) c x) result self.now self.now terminal.old terminal.new }
+        ensures serves { Serves T.Terminal (λ a c x. print (replicate count 32) c x)
+            result self.now self.now terminal.old terminal.new }
         ensures lasts { Lasts D.SectorDevice T.Terminal result (device self.now) (device self.now) terminal.old terminal.new }
         ensures tells { Tells stop_count result self.now self.now }
     {
@@ -127,7 +128,8 @@ impl<D: SectorDevice> Forth<D> {
 
     /// `TYPE`.
     pub(crate) fn type_text<T: Terminal>(&mut self, terminal: &mut T) -> Result<(), Stop>
-        ensures serves { Serves T.Terminal (λ a c x. on_terminal TypeText c x) result self.old self.new terminal.old terminal.new }
+        ensures serves { Serves T.Terminal (λ a c x. on_terminal TypeText c x)
+            result self.old self.new terminal.old terminal.new }
         ensures lasts { Lasts D.SectorDevice T.Terminal result (device self.old) (device self.new) terminal.old terminal.new }
         ensures tells { Tells stop_count result self.old self.new }
         ensures budget { self.new.budget ≡ self.old.budget }
