@@ -1,5 +1,7 @@
 //! Disks, images and stops for tests, here and in crates above.
-ghost use Rattle.std.specs.Prelude.{◌≤◌};
+ghost use Rattle.std.specs.Prelude.{◌≡◌, ◌≤◌, ◌↔◌, ◌<◌, IsErr, IsOk, IsTrue, IfOk, OnOk};
+ghost use Rattle.sector_disk.specs.Disk.{MayLeave, written};
+ghost use Rattle.sector_disk.specs.MemoryDisk.{held, size};
 
 use journal::Store;
 use recovery::{OpenFault, format, open};
@@ -14,12 +16,18 @@ pub const BLOCKS: u16 = 32;
 pub const SECTORS: u32 = 131;
 
 /// An error where it isn't so.
-pub fn check(is_so: bool, message: &'static str) -> Result<(), Fail> {
+pub fn check(is_so: bool, message: &'static str) -> Result<(), Fail>
+    ensures { IsOk result ↔ IsTrue is_so }
+{
     if is_so { Ok(()) } else { Err(message)? }
 }
 
 /// A sector's bytes, or an error where there is no such sector or it can't be read.
-pub fn sector<D: SectorDevice>(disk: &mut D, k: u32) -> Result<[u8; 512], &'static str> {
+pub fn sector<D: SectorDevice>(disk: &mut D, k: u32) -> Result<[u8; 512], &'static str>
+    ensures there { IsOk result → k < D.sector_count disk.old }
+    ensures bytes { IsTrue (D.keeps_model disk.old) → IfOk result (λ bytes. bytes ≡ (D.disk disk.old).content k) }
+    ensures disk { IsTrue (D.keeps_model disk.old) → D.disk disk.new ≡ D.disk disk.old }
+{
     let mut bytes = [0; 512];
     if k >= disk.sectors() {
         return Err("no such sector");
@@ -30,10 +38,14 @@ pub fn sector<D: SectorDevice>(disk: &mut D, k: u32) -> Result<[u8; 512], &'stat
     }
 }
 
-/// Writes a sector.
-pub fn put<D: SectorDevice>(disk: &mut D, k: u32, bytes: &[u8; 512]) -> Result<(), &'static str> {
+/// Writes a sector, or gives an error where there is no such sector or it can't be written.
+pub fn put<D: SectorDevice>(disk: &mut D, k: u32, bytes: &[u8; 512]) -> Result<(), &'static str>
+    ensures there { IsOk result → k < D.sector_count disk.old }
+    ensures ok { IsTrue (D.keeps_model disk.old)
+        → OnOk result (D.disk disk.new ≡ written (D.disk disk.old) k bytes.now) }
+{
     if k >= disk.sectors() {
-        return Err("no such sector");
+        return Err("no sector to write");
     }
     disk.write(k, bytes).map_err(|_| "write failed")
 }
@@ -209,15 +221,26 @@ fn combination(rt: &HostRuntime, sectors: &[Unsynced], n: usize) -> Result<Vec<F
     Ok(fates)
 }
 
+// What a stop leaves of the disk where its unsynced sectors meet these fates.
+fn after_stop(rt: &HostRuntime, disk: &MemoryDisk, fates: &[Fate]) -> Result<MemoryDisk, Fail>
+    ensures size { IfOk result (λ d. size d ≡ size disk.now) }
+    ensures left { IfOk result (λ d. MayLeave (held disk.now) (held d).content) }
+{
+    Ok(disk.try_clone(rt.alloc())?.stop(fates))
+}
+
 /// What a stop leaves of the disk by the n-th combination.
 pub fn stopped(
     rt: &HostRuntime,
     disk: &MemoryDisk,
     sectors: &[Unsynced],
     n: usize,
-) -> Result<MemoryDisk, Fail> {
+) -> Result<MemoryDisk, Fail>
+    ensures size { IfOk result (λ d. size d ≡ size disk.now) }
+    ensures left { IfOk result (λ d. MayLeave (held disk.now) (held d).content) }
+{
     let fates = combination(rt, sectors, n)?;
-    Ok(disk.try_clone(rt.alloc())?.stop(&fates))
+    after_stop(rt, disk, &fates)
 }
 
 /// Five ways in which a stop may leave all unsynced sectors.
@@ -253,8 +276,11 @@ fn fates(rt: &HostRuntime, sectors: &[Unsynced], way: Way) -> Result<Vec<Fate>, 
 }
 
 /// What a stop leaves of the disk in one of the five ways.
-pub fn stopped_by(rt: &HostRuntime, disk: &MemoryDisk, way: Way) -> Result<MemoryDisk, Fail> {
+pub fn stopped_by(rt: &HostRuntime, disk: &MemoryDisk, way: Way) -> Result<MemoryDisk, Fail>
+    ensures size { IfOk result (λ d. size d ≡ size disk.now) }
+    ensures left { IfOk result (λ d. MayLeave (held disk.now) (held d).content) }
+{
     let sectors = unsynced_sectors(rt, disk)?;
     let fates = fates(rt, &sectors, way)?;
-    Ok(disk.try_clone(rt.alloc())?.stop(&fates))
+    after_stop(rt, disk, &fates)
 }
