@@ -1,0 +1,25 @@
+#!/bin/sh
+# Copies the pages and the screens of their examples into data/: a run of the gate sees that folder, and nothing else of the repository.
+# usage: crates/transcripts/copies.sh             copies them
+#        crates/transcripts/copies.sh --check     shows where a copy differs, and ends with status 1 where one does
+set -eu
+cd "$(dirname "$0")/../.."
+data=crates/transcripts/data
+pages='README.md docs/TUTORIAL.md docs/MANUAL.md docs/LANGUAGE.md examples'
+copy_to() {
+    mkdir -p "$1/docs"
+    for page in $pages; do
+        rm -rf "${1:?}/$page"
+        cp -r "$page" "$1/$page"
+    done
+}
+if [ "${1:-}" = --check ]; then
+    fresh=$(mktemp -d)
+    trap 'rm -rf "$fresh"' EXIT
+    copy_to "$fresh"
+    for page in $pages; do
+        diff -r "$data/$page" "$fresh/$page"
+    done
+    exit
+fi
+copy_to "$data"
