@@ -1,25 +1,44 @@
-//! The words in chains, one chain for each vocabulary.
+//! The words in chains: one for each vocabulary, and strands, of which a search follows one.
 //!
 //! A header has the token of the next older word of its vocabulary, and a table that of each vocabulary's newest one.
-//! So a search reads the words of one vocabulary alone, the newest first. Contracts see a list of words, oldest first.
-ghost use Rattle.std.specs.Prelude.{◌≡◌, ◌+◌, ◌-◌, ◌<◌, ◌≤◌, [], ◌∷◌, ◌++◌, length, take, option_map, is_some, IfOk, IfSome, IsTrue};
+//! Which strand a word is in, its vocabulary and its name say. There are as many strands as there may be words, so
+//! a search reads few headers, the newest first, however many words there are. Contracts see a list of words, oldest first.
+ghost use Rattle.std.specs.Prelude.{◌≡◌, ◌+◌, ◌-◌, ◌<◌, ◌≤◌, ◌==◌, ◌&&◌, [], ◌∷◌, ◌++◌, length, take, option_map, is_some, IfOk, IfSome, IsTrue};
 ghost use Rattle.std.specs.Bool.{OnTrue, OnFalse};
 ghost use Rattle.dictionary.specs.Words.{same_text, is_name, find_in, entry, with_immediate, with_part};
 ghost use Rattle.dictionary.specs.Dictionary.{word_of, kind_of, body_of, cell_of, body_of_word, cell_of_word};
+ghost use Rattle.dictionary.specs.Chains.{strand};
 
 use crate::{Kind, NAME_LIMIT, NoMemory, Place, Token, WORD_LIMIT, Word};
 use std::alloc::Global;
 use std::marker::Model;
 
+/// How many strands there are.
+const STRANDS: usize = 4096;
+
+/// The strand of the words of this name in the vocabulary.
+fn strand(vocabulary: Token, name: &[u8]) -> usize
+    ensures strand { result ≡ strand vocabulary name.now }
+    ensures below { result < 4096 }
+{
+    let mut mix = vocabulary;
+    for byte in name {
+        mix = mix.wrapping_mul(109).wrapping_add(u16::from(*byte));
+    }
+    mix as usize % STRANDS
+}
+
 /// What is kept of a word. What a search reads of each word comes first.
 #[derive(Clone, Copy)]
 pub(crate) struct Header {
-    // The word before this one in the same vocabulary, or 0.
-    previous: Token,
+    // The word before this one in the same strand, or 0.
+    older: Token,
+    vocabulary: Token,
     len: u8,
     name: [u8; NAME_LIMIT],
     immediate: bool,
-    vocabulary: Token,
+    // The word before this one in the same vocabulary, or 0.
+    previous: Token,
     here: u16,
     // What the kind says of a body and of a cell that is left, each where one test finds it: a call looks at nothing else.
     body: Option<Place>,
@@ -28,14 +47,19 @@ pub(crate) struct Header {
 }
 
 impl Header {
-    // Length and first byte tell most names apart.
-    fn is_named(&self, name: &[u8]) -> bool
-        requires short { self.now.len ≤ 31 }
-        requires named { 0 < self.now.len }
-        ensures { result ≡ same_text (take self.now.len self.now.name) name.now }
+    fn is_of(&self, vocabulary: Token, name: &[u8]) -> bool
+        requires { self.now.len ≤ 31 }
+        ensures { result ≡ ((self.now.vocabulary == vocabulary) && same_text (take self.now.len self.now.name) name.now) }
     {
-        let len = self.len as usize;
-        len == name.len() && self.name[0] == name[0] && &self.name[..len] == name
+        self.vocabulary == vocabulary && &self.name[..self.len as usize] == name
+    }
+
+    fn strand(&self) -> usize
+        requires { self.now.len ≤ 31 }
+        ensures strand { result ≡ strand self.now.vocabulary (take self.now.len self.now.name) }
+        ensures below { result < 4096 }
+    {
+        strand(self.vocabulary, &self.name[..self.len as usize])
     }
 }
 
@@ -66,6 +90,8 @@ pub(crate) struct Chains {
     headers: Vec<Header>,
     // By a vocabulary's token: its last word, or 0.
     last: Vec<Token>,
+    // By the strand: its last word, or 0.
+    newest: Vec<Token>,
 }
 
 impl Model for Chains {
@@ -77,7 +103,7 @@ impl Model for Chains {
 
     ghost view = { λ c. map header_word c.headers.items };
 
-    ghost invariant = { λ c. IsChained c.headers.items c.last.items × (4096 ≤ vec_capacity c.headers) };
+    ghost invariant = { λ c. IsChained c.headers.items c.last.items c.newest.items × (4096 ≤ vec_capacity c.headers) };
 }
 
 impl Chains {
@@ -87,7 +113,12 @@ impl Chains {
     {
         let headers = Vec::with_capacity(alloc, WORD_LIMIT)?;
         let last = vec![in alloc; 0; WORD_LIMIT + 1]?;
-        Ok(Chains { headers, last })
+        let newest = vec![in alloc; 0; STRANDS]?;
+        Ok(Chains {
+            headers,
+            last,
+            newest,
+        })
     }
 
     /// How many words there are.
@@ -98,7 +129,7 @@ impl Chains {
         self.headers.len()
     }
 
-    /// Adds a word to the end of its vocabulary's chain.
+    /// Adds a word to the end of its vocabulary's chain, and of its strand.
     pub(crate) fn push(&mut self, word: Word<'_>)
         requires room { length self.old < 4096 }
         requires name { IsTrue (is_name word.name.now) }
@@ -108,12 +139,14 @@ impl Chains {
         let len = word.name.len();
         let mut name = [0; NAME_LIMIT];
         name[..len].copy_from_slice(word.name);
+        let strand = strand(word.vocabulary, word.name);
         let header = Header {
-            previous: self.last[word.vocabulary as usize],
+            older: self.newest[strand],
+            vocabulary: word.vocabulary,
             len: len as u8,
             name,
             immediate: word.immediate,
-            vocabulary: word.vocabulary,
+            previous: self.last[word.vocabulary as usize],
             here: word.here,
             body: body_in(word.kind),
             cell: cell_in(word.kind),
@@ -122,16 +155,18 @@ impl Chains {
         let token = self.headers.len() + 1;
         if self.headers.push(header).is_ok() {
             self.last[word.vocabulary as usize] = token as Token;
+            self.newest[strand] = token as Token;
         }
     }
 
-    /// Takes the last word off, and gives its vocabulary's end back.
+    /// Takes the last word off, and sets the ends of its vocabulary and of its strand back.
     pub(crate) fn pop(&mut self)
         requires { 0 < length self.old }
         ensures { self.new ≡ take (length self.old - 1) self.old }
     {
         if let Some(header) = self.headers.pop() {
             self.last[header.vocabulary as usize] = header.previous;
+            self.newest[header.strand()] = header.older;
         }
     }
 
@@ -151,16 +186,13 @@ impl Chains {
         ensures token { IfSome result (λ token. (0 < token)) }
         ensures within { IfSome result (λ token. token ≤ length self.now) }
     {
-        if vocabulary as usize >= self.last.len() {
-            return None;
-        }
-        let mut token = self.last[vocabulary as usize];
+        let mut token = self.newest[strand(vocabulary, name)];
         while token != 0 {
             let header = &self.headers[token as usize - 1];
-            if header.is_named(name) {
+            if header.is_of(vocabulary, name) {
                 return Some(token);
             }
-            token = header.previous;
+            token = header.older;
         }
         None
     }
