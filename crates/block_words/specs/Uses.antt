@@ -1,12 +1,15 @@
 -- What a use of a block does to the buffers, and how many blocks a save has to write. All this is known over any device.
-use Rattle.std.specs.Prelude.{◌≡◌, ℕ, ◌==◌, ◌&&◌, ◌||◌, Bool, false, List, [], ◌∷◌, Option, Some, None, unwrap_or, replicate, Result, Ok, Err}
+use Rattle.std.specs.Prelude.{◌≡◌, ℕ, ◌==◌, ◌&&◌, ◌||◌, ◌<◌, Bool, false, List, [], ◌∷◌, Option, Some, None, unwrap_or, replicate, Result, Ok, Err}
 use Rattle.sector_disk.specs.declared.device.SectorDevice.{Ghosts}
 use Rattle.journal.specs.declared.store.Store.{Store}
 use Rattle.journal.specs.Layout.{count_below}
-use Rattle.journal.specs.Store.{is_pending}
-use Rattle.data_space.specs.Space.{buffer_at, with_bytes}
+use Rattle.journal.specs.Store.{is_pending, text_of}
+use Rattle.data_space.specs.Space.{buffer_at, buffer_bytes, with_bytes}
 use Rattle.block_buffers.specs.declared.Assigned.{Assigned}
 use Rattle.block_buffers.specs.Buffers.{Buffers, assigned, slot_of, touched, oldest, slot_for, placed, updated_ones}
+use Rattle.block_words.specs.declared.BlockFault.{BlockFault}
+use Rattle.block_words.specs.declared.TextPlace.{TextPlace}
+use Rattle.block_words.specs.declared.TextPlace.TheVariants.{InBuffer, InStore}
 
 abbrev pub used_if : Option Assigned → Buffers → ℕ → Buffers
 used_if (Some x) buffers u = touched buffers x
@@ -51,7 +54,22 @@ abbrev pub with_bytes_left : {A E : Type 0} → Result A E → List ℕ → Resu
 with_bytes_left (Ok value) bytes = Ok bytes
 with_bytes_left (Err fault) bytes = Err fault
 
+-- a place where a text may be
+abbrev pub IsPlace : TextPlace → Type 0
+IsPlace (InBuffer slot) = slot < 4
+IsPlace InStore = Unit {0}
+
 module _ {D : Type 0} {G : Ghosts D} where
+  -- the text at a place
+  abbrev pub text_at : TextPlace → Store D G → List ℕ → List ℕ
+  text_at (InBuffer slot) store space = buffer_bytes space slot
+  text_at InStore store space = text_of store
+
+  -- what a search for a text answered, with the bytes at the place that it gave
+  abbrev pub text_found : Result TextPlace BlockFault → Store D G → List ℕ → Result (List ℕ) BlockFault
+  text_found (Ok place) store space = Ok (text_at place store space)
+  text_found (Err fault) store space = Err fault
+
   -- whether block u was changed since the last save: its buffer is updated, or it was spilled
   abbrev pub is_changed : Store D G → Buffers → ℕ → Bool
   is_changed store buffers u = is_among (updated_ones buffers) u || is_pending store u

@@ -2,14 +2,14 @@
 //! of data space, and all edits are saved at once.
 #![tactic(auto)]
 
-ghost use Rattle.std.specs.Prelude.{◌≡◌, ◌↔◌, List, [], ℕ, true, None, is_ok, IfOk, IfErr, OnOk, OnErr, IsErrOf, IsSome, IfSome, MatchResult};
+ghost use Rattle.std.specs.Prelude.{◌≡◌, ◌↔◌, List, [], ℕ, true, None, Ok, length, is_ok, IfOk, IfErr, OnOk, OnErr, IsErrOf, IsSome, IfSome, MatchResult};
 ghost use Rattle.std.proofs.Props.{props};
 ghost use Rattle.journal.specs.Maps.{Maps};
 ghost use Rattle.journal.specs.Store.{blocks_of, closed_of, StandsFor, DeviceBegins, KeepsSaved, SamePending};
 ghost use Rattle.data_space.specs.Space.{buffer_at, buffer_bytes};
 ghost use Rattle.block_buffers.specs.Buffers.{slot_of, none_assigned, unmarked, after_mark, IsValid};
 ghost use Rattle.block_words.specs.Words.{block, buffer, update, save_buffers, flush, source, next_map};
-ghost use Rattle.block_words.specs.Uses.{used, slot_used, replaced, blanked, with_bytes_left, PendingOnceReplaced};
+ghost use Rattle.block_words.specs.Uses.{used, slot_used, replaced, blanked, with_bytes_left, IsPlace, text_at, text_found, PendingOnceReplaced};
 ghost use Rattle.block_words.specs.Rooms.{within};
 ghost use Rattle.block_words.specs.Validity.{AreApart-prop, SlotsBelow-prop};
 ghost use Rattle.block_words.specs.Calls.{CallRuns, save_begun};
@@ -41,6 +41,15 @@ pub enum BlockFault {
     Closed,
     /// Memory for the list of buffers was refused.
     Memory,
+}
+
+/// Where the text of a block was found.
+#[derive(Clone, Copy, Debug, PartialEq, Eq)]
+pub enum TextPlace {
+    /// In the buffer of this slot, 0 to 3.
+    InBuffer(u8),
+    /// In the store, as the text that it read last.
+    InStore,
 }
 
 impl From<StoreFault> for BlockFault {
@@ -206,19 +215,56 @@ impl<D: SectorDevice> Blocks<D> {
         ensures pending { SamePending (store_of self.old) (store_of self.new) }
         ensures begins { DeviceBegins (store_of self.old) (store_of self.new) 0 0 }
     {
+        match self.find_text(u) {
+            Ok(place) => {
+                out.copy_from_slice(self.text(space, place));
+                Ok(())
+            }
+            Err(fault) => Err(fault),
+        }
+    }
+
+    /// Finds the text of block `u` as `source` does, and copies nothing: `text` lends it. The store keeps the text that it
+    /// read last, so a block that is read word by word is read from the device once. Faults are those of `source`.
+    pub fn find_text(&mut self, u: u16) -> Result<TextPlace, BlockFault>
+        ensures runs { (m : Maps) (space : List ℕ) → StandsFor (store_of self.old) m
+            → CallRuns D.SectorDevice (source u) (text_found result (store_of self.new) space) [] m
+            (store_of self.old) (store_of self.new) (buffers_of self.old) (buffers_of self.new) space space }
+
+        ensures asks { AsksFor u result self.old self.new }
+        ensures list { buffers_of self.new ≡ buffers_of self.old }
+        // A block that has a buffer is found there.
+        ensures found { IfSome (slot_of (buffers_of self.old) u) (λ slot. result ≡ Ok (TextPlace.InBuffer slot)) }
+        ensures below { IfOk result (λ place. IsPlace place) }
+
+        ensures no_memory { ¬ IsErrOf result BlockFault.Memory }
+
+        ensures shuts { closed_of (store_of self.new) ≡ closed_of (store_of self.old) }
+        ensures pending { SamePending (store_of self.old) (store_of self.new) }
+        ensures begins { DeviceBegins (store_of self.old) (store_of self.new) 0 0 }
+    {
         if u >= self.store.blocks() {
             return Err(BlockFault::NoBlock);
         }
         // This is a look alone: the order of use stays.
         match self.buffers.peek(u) {
-            Some(slot) => {
-                out.copy_from_slice(space.buffer(slot));
-                Ok(())
-            }
-            None => match self.store.read_block(u, out) {
-                Ok(()) => Ok(()),
+            Some(slot) => Ok(TextPlace::InBuffer(slot)),
+            None => match self.store.read_text(u) {
+                Ok(()) => Ok(TextPlace::InStore),
                 Err(fault) => Err(BlockFault::from(fault)),
             },
+        }
+    }
+
+    /// The 1,024 bytes of the text at a place that `find_text` gave last.
+    pub fn text<'a>(&'a self, space: &'a DataSpace, place: TextPlace) -> &'a [u8]
+        requires { IsPlace place }
+        ensures text { result.now ≡ text_at place (store_of self.now) space.now }
+        ensures len { length result.now ≡ 1024 }
+    {
+        match place {
+            TextPlace::InBuffer(slot) => space.buffer(slot),
+            TextPlace::InStore => self.store.text(),
         }
     }
 

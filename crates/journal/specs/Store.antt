@@ -27,6 +27,10 @@ module _ {D : Type 0} {G : Ghosts D} where
   abbrev pub closed_of : Store D G → Bool
   closed_of store = store.closed
 
+  -- the bytes that were read last as a text
+  abbrev pub text_of : Store D G → List ℕ
+  text_of store = store.text
+
   -- whether a block was spilled since the last save
   abbrev pub is_pending : Store D G → ℕ → Bool
   is_pending store b = listed store.pending b

@@ -1,11 +1,11 @@
 // Blocks on a device, spilled one by one and saved all at once.
-ghost use Rattle.std.specs.Prelude.{◌≡◌, ◌≢◌, ◌==◌, ◌||◌, ◌<◌, ◌≤◌, ◌+◌, ◌*◌, ◌↔◌, ℕ, true, false, length, replicate, IsTrue, OnOk, OnErr, IsOk, IsErr, IsErrOf, MatchResult};
+ghost use Rattle.std.specs.Prelude.{◌≡◌, ◌≢◌, ◌==◌, ◌||◌, ◌<◌, ◌≤◌, ◌+◌, ◌*◌, ◌↔◌, ℕ, true, false, Some, length, replicate, IsTrue, OnOk, OnErr, IsOk, IsErr, IsErrOf, MatchResult};
 ghost use Rattle.sector_disk.specs.Disk.{Image, MayLeave};
 ghost use Rattle.journal.specs.Clean.{IsClean};
 ghost use Rattle.journal.specs.Images.{meaning, Means};
 ghost use Rattle.journal.specs.Layout.{fewest_blocks, most_blocks, listed, count_listed, sectors_for};
 ghost use Rattle.journal.specs.Maps.{Maps, contents, latest, fresh, spilled, committed, shut};
-ghost use Rattle.journal.specs.Steps.{IsSound};
+ghost use Rattle.journal.specs.Steps.{IsSound, merged};
 
 use crate::commit::save;
 use crate::layout::{home_sector, is_listed, slot_sector};
@@ -31,15 +31,20 @@ pub struct Store<D: SectorDevice> {
     // the bits of the blocks spilled since the last save, with zeros where a commit record has its digest
     pending: [u8; 512],
     closed: bool,
+    // the block whose text was read last, and its bytes, as long as nothing was written since
+    kept: Option<u16>,
+    text: [u8; 1024],
     ghost many: { fewest_blocks ≤ blocks },
     ghost few: { blocks ≤ most_blocks },
     ghost size: { D.sector_count device ≡ sectors_for blocks },
     ghost clear: { (b : ℕ) → blocks ≤ b → listed pending b ≡ false },
     ghost sound: { IsTrue (D.keeps_model device) → closed ≡ false → IsSound blocks (D.disk device) },
+    ghost keeps: { IsTrue (D.keeps_model device) → closed ≡ false
+        → (b : ℕ) → kept ≡ Some b → text ≡ merged blocks pending (D.disk device).content b },
 }
 
 impl<D: SectorDevice> Store<D> {
-    ghost use Rattle.journal.specs.Store.{device_of, disk_of, blocks_of, closed_of, is_pending, pending_count, SamePending, HasRecordOf, StandsFor, Continues, DeviceFailed, DeviceWentWell, DeviceBegins, KeepsSaved, SavesAllOrNone, OpensGateWhole, AddsNothing};
+    ghost use Rattle.journal.specs.Store.{device_of, disk_of, blocks_of, closed_of, text_of, is_pending, pending_count, SamePending, HasRecordOf, StandsFor, Continues, DeviceFailed, DeviceWentWell, DeviceBegins, KeepsSaved, SavesAllOrNone, OpensGateWhole, AddsNothing};
 
     /// A store of `blocks` blocks, 32 to 3,840, over an image with a good label and a closed gate, of which nothing is
     /// unsynced. Makes no device call.
@@ -60,6 +65,8 @@ impl<D: SectorDevice> Store<D> {
             blocks,
             pending: empty_record(),
             closed: false,
+            kept: None,
+            text: [0; 1024],
         }
     }
 
@@ -122,10 +129,60 @@ impl<D: SectorDevice> Store<D> {
         } else {
             home_sector(self.blocks, b)
         };
+        self.kept = None; // a block that is edited has no second copy here
         match read_pair(&mut self.device, k, out) {
             Ok(()) => Ok(()),
             Err(_) => Err(StoreFault::Device),
         }
+    }
+
+    /// Reads block `b` as `read_block` does, and keeps its bytes, which `text` lends. While they are kept no call of the
+    /// device is made for them: until another text is read, a block by `read_block`, or anything is written.
+    pub fn read_text(&mut self, b: u16) -> Result<(), StoreFault>
+        requires below { b < blocks_of self.old }
+
+        ensures ok { (m : Maps) → StandsFor self.old m → OnOk result (text_of self.new ≡ contents m b) }
+        ensures state { (m : Maps) → StandsFor self.old m → StandsFor self.new m }
+
+        ensures closed { IsErrOf result StoreFault.Closed ↔ (closed_of self.old ≡ true) }
+        ensures closed_same { closed_of self.old ≡ true → self.new ≡ self.old }
+        ensures shuts { closed_of self.new ≡ closed_of self.old }
+        ensures device { IsErrOf result StoreFault.Device → DeviceFailed self.old self.new }
+        ensures well { OnOk result (DeviceWentWell self.old self.new) }
+
+        ensures stops { KeepsSaved self.old self.new }
+        ensures closed_stops { AddsNothing self.old self.new }
+        ensures continues { Continues self.old self.new }
+        ensures pending { SamePending self.old self.new }
+        ensures begins { DeviceBegins self.old self.new 0 0 }
+    {
+        // The device of a closed store may hold a save half done, so what was read of it isn't given either.
+        if self.closed {
+            return Err(StoreFault::Closed);
+        }
+        if self.kept == Some(b) {
+            return Ok(());
+        }
+        let k = if is_listed(&self.pending, b) {
+            slot_sector(b)
+        } else {
+            home_sector(self.blocks, b)
+        };
+        match read_pair(&mut self.device, k, &mut self.text) {
+            Ok(()) => {
+                self.kept = Some(b);
+                Ok(())
+            }
+            Err(_) => Err(StoreFault::Device),
+        }
+    }
+
+    /// The bytes that `read_text` read last: those of its block until the next call that reads or writes.
+    #[inline]
+    pub fn text(&self) -> &[u8; 1024]
+        ensures { result.now ≡ text_of self.now }
+    {
+        &self.text
     }
 
     /// Writes block `b` to its slot. It is saved by the next commit. A device fault closes the store.
@@ -156,6 +213,7 @@ impl<D: SectorDevice> Store<D> {
         if self.closed {
             return Err(StoreFault::Closed);
         }
+        self.kept = None; // it may be this block's text
         match write_pair(&mut self.device, slot_sector(b), bytes) {
             Ok(()) => {
                 list_block(&mut self.pending, b);
@@ -207,6 +265,7 @@ impl<D: SectorDevice> Store<D> {
         if count_blocks(&self.pending, self.blocks) == 0 {
             return Ok(());
         }
+        self.kept = None; // its bytes go to another place
         match save(&mut self.device, self.blocks, &self.pending) {
             Ok(()) => {
                 self.pending = empty_record();

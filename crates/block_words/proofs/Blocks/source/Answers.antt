@@ -1,71 +1,42 @@
-use Rattle.std.proofs.Common.{◌≡◌, true, false, length, nat_lt, None, sym, ap, ◌∙◌, subst, refl, arith, rules, Err}
-use Rattle.block_words.specs.declared.BlockFault.TheVariants.{NoBlock}
-use Rattle.block_words.specs.Words.{source}
+use Rattle.std.proofs.Common.{◌≡◌, ℕ, List, Option, Some, None, Result, Ok, [], sym, ap, ◌∙◌, subst}
 use Rattle.std.specs.Prelude.{IfSome}
+use Rattle.sector_disk.specs.declared.device.SectorDevice.{Ghosts}
+use Rattle.journal.specs.declared.store.Store.{Store}
 use Rattle.data_space.specs.Space.{buffer_bytes}
-use Rattle.std.proofs.lemmas.Bool.{lt-ltb}
-use Rattle.block_buffers.specs.Buffers.{slot_of, assigned}
-use Rattle.block_words.proofs.Lists.{none_past, none_of}
-use Rattle.block_words.proofs.Runs.{source_found, source_read, source_closed, source_failed, refused_runs, still_runs, keeps_store, keeps_saved}
-use Rattle.block_words.proofs.Asked.{asks_past}
-use Rattle.block_words.proofs.Worn.{wears_none}
+use Rattle.block_buffers.specs.Buffers.{slot_of}
+use Rattle.block_words.specs.declared.BlockFault.{BlockFault}
+use Rattle.block_words.specs.declared.TextPlace.{TextPlace}
+use Rattle.block_words.specs.declared.TextPlace.TheVariants.{InBuffer}
+use Rattle.block_words.specs.Uses.{text_at}
+use Rattle.block_words.specs.Words.{source}
+use Rattle.block_words.specs.Calls.{CallRuns}
+use Rattle.block_words.proofs.Asked.{asks_given, asks_refused}
 use Rattle.block_words.proofs.Blocks.source.Goals as goal
-
-pub returns-then-u-blocks-clause-found_bytes : goal.returns-then-u-blocks-clause-found_bytes
-returns-then-u-blocks-clause-found_bytes g c =
-    let none : slot_of c.args.self.now.buffers c.args.u ≡ None = none_past c.args.self.now.store.blocks c.args.u c.args.self.now.buffers.list c.args.self.now.within (omega (arith, c.if-u-blocks.true, c.blocks-2.ensures.value)) in
-    subst (λ o. IfSome o (λ slot. c.args.out.now ≡ buffer_bytes c.args.space.now slot)) (sym none) tt
-
-pub returns-in-Some-clause-runs : goal.returns-in-Some-clause-runs
-returns-in-Some-clause-runs g c = λ m stands.
-    let is : nat_lt c.args.u (length m.saved) ≡ true = ap (λ n. nat_lt c.args.u n) stands.size ∙ lt-ltb c.args.u c.args.self.now.store.blocks (omega (arith, c.if-u-blocks.false, c.blocks-2.ensures.value)) in
-    record {
-      maps = m;
-      wear = _;
-      runs = source_found c.args.u m c.args.self.now.buffers c.args.space.now is (assigned c.args.self.now.buffers.list c.args.u) c.in-Some.slot c.copy_from_slice.new.self refl c.in-Some.ensures.slot (c.copy_from_slice.ensures.after ∙ c.buffer.ensures.value);
-      stands = stands;
-      kept = keeps_store g.D.SectorDevice c.args.self.now.store m g.met.D.SectorDevice.only_now stands;
-      wears = wears_none g.D.SectorDevice c.args.self.now.store.device;
-      shuts = λ h. h;
-      last = λ _. refl;
-    }
 
 pub returns-in-Ok-clause-runs : goal.returns-in-Ok-clause-runs
 returns-in-Ok-clause-runs g c = λ m stands.
-    let old = c.args.self.now.store in
-    let now : old.closed ≡ false = search rules in
-    let open_now : m.closed ≡ false = stands.closed ∙ now in
-    let is : nat_lt c.args.u (length m.saved) ≡ true = ap (λ n. nat_lt c.args.u n) stands.size ∙ lt-ltb c.args.u old.blocks (omega (arith, c.if-u-blocks.false, c.blocks-2.ensures.value)) in
-    let none = none_of (assigned c.args.self.now.buffers.list c.args.u) (sym c.in-None.ensures.slot) in
-    record {
-      maps = m;
-      wear = _;
-      runs = source_read c.args.u m c.args.self.now.buffers c.args.space.now is none open_now c.read_block.new.out (c.in-Ok.ensures.ok m stands);
-      stands = c.in-Ok.ensures.state m stands;
-      kept = keeps_saved g.D.SectorDevice m.closed old.device c.read_block.new.self.device m.saved open_now (c.in-Ok.ensures.stops m stands open_now);
-      wears = c.in-Ok.ensures.begins;
-      shuts = λ h. h;
-      last = λ _. refl;
-    }
+    let old = c.args.self.now in
+    let new = c.find_text.new.self in
+    let space = c.args.space.now in
+    subst (λ bytes. CallRuns g.D.SectorDevice (source c.args.u) (Ok bytes) [] m old.store new.store old.buffers new.buffers space space)
+    (sym (c.copy_from_slice.ensures.after ∙ c.text.ensures.text))
+    (c.in-Ok.ensures.runs m space stands)
 
-pub returns-in-Err-clause-runs : goal.returns-in-Err-clause-runs
-returns-in-Err-clause-runs g c = λ m stands.
-    let old = c.args.self.now.store in
-    let b = c.args.self.now.buffers in
-    let sp = c.args.space.now in
-    let is : nat_lt c.args.u (length m.saved) ≡ true = ap (λ n. nat_lt c.args.u n) stands.size ∙ lt-ltb c.args.u old.blocks (omega (arith, c.if-u-blocks.false, c.blocks-2.ensures.value)) in
-    let none = none_of (assigned b.list c.args.u) (sym c.in-None.ensures.slot) in
-    refused_runs g.D.SectorDevice (source c.args.u) c.in-Err.fault c.from.result m old c.read_block.new.self b sp
-    c.from.ensures g.met.D.SectorDevice.only_now stands (c.read_block.ensures.state m stands)
-    (λ f. search rules) (λ f. search rules) (λ f. search rules)
-    (source_closed c.args.u m b sp is none) (source_failed c.args.u m b sp is none)
-    (c.read_block.ensures.stops m stands) c.read_block.ensures.begins
+pub returns-in-Ok-clause-asks : goal.returns-in-Ok-clause-asks
+returns-in-Ok-clause-asks g c = asks_given c.in-Ok.place tt c.in-Ok.ensures.asks
 
-pub returns-then-u-blocks-clause-asks : goal.returns-then-u-blocks-clause-asks
-returns-then-u-blocks-clause-asks g c =
-    asks_past g.D.SectorDevice c.args.u c.args.self.now g.met.D.SectorDevice.only_now (omega (arith, c.if-u-blocks.true, c.blocks-2.ensures.value))
+pub returns-in-Err-clause-asks : goal.returns-in-Err-clause-asks
+returns-in-Err-clause-asks g c = asks_refused c.in-Err.fault c.in-Err.ensures.asks
 
-pub returns-then-u-blocks-clause-runs : goal.returns-then-u-blocks-clause-runs
-returns-then-u-blocks-clause-runs g c = λ m stands.
-    still_runs g.D.SectorDevice (source c.args.u) (Err NoBlock) m c.args.self.now.store c.args.self.now.buffers c.args.self.now.buffers c.args.space.now c.args.space.now g.met.D.SectorDevice.only_now stands
-    (λ rest f was sv. search rules)
+abbrev found_at : TextPlace → Result TextPlace BlockFault
+found_at place = Ok place
+
+lent : {D : Type 0} {G : Ghosts D} (o : Option ℕ) (place : TextPlace) (store : Store D G) (space bytes : List ℕ)
+    → IfSome o (λ slot. found_at place ≡ Ok (InBuffer slot)) → bytes ≡ text_at place store space → IfSome o (λ slot. bytes ≡ buffer_bytes space slot)
+lent None place store space bytes at same = tt
+lent (Some slot) place store space bytes at same = let is : place ≡ InBuffer slot = cc in same ∙ ap (λ p. text_at p store space) is
+
+pub returns-in-Ok-clause-found_bytes : goal.returns-in-Ok-clause-found_bytes
+returns-in-Ok-clause-found_bytes g c =
+    let old = c.args.self.now in
+    lent (slot_of old.buffers c.args.u) c.in-Ok.place c.find_text.new.self.store c.args.space.now c.copy_from_slice.new.self c.in-Ok.ensures.found (c.copy_from_slice.ensures.after ∙ c.text.ensures.text)
