@@ -223,6 +223,7 @@ fn texts_and_statuses(rt: HostRuntime) -> Result<(), Fail> {
         (Failure::Device, "image: device fault 3"),
         (Failure::Exists, "image: exists 3"),
         (Failure::CannotOpen, "image: cannot open 3"),
+        (Failure::InUse, "image: in use 3"),
         (Failure::NoBlock, "image: no block 3"),
         (Failure::CannotRead, "input: cannot read 4"),
         (Failure::NotAScreen, "input: not a screen 4"),

@@ -1,3 +1,4 @@
 pub mod Fates
+pub mod FileCalls
 pub mod Histories
 pub mod Moments

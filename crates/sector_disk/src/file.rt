@@ -1,93 +1,47 @@
-// A file as a device. Nothing is said of what it holds.
-ghost use Rattle.std.specs.Prelude.{◌≡◌, ◌⊎◌, ◌+◌, ℕ, ◌<◌, ◌≤◌, ◌%◌, ◌/◌, ◌^◌, ◌==◌, ◌&&◌, nat_lt, if◌then◌else◌, Bool, true, false, List, [], IfOk, IfErr};
-ghost use Rattle.sector_disk.specs.Disk.{Disk, Image};
+// A file as a device.
+ghost use Rattle.std.specs.Prelude.{◌≡◌, ◌⊎◌, IsTrue, OnOk, OnErr, ◌+◌, ℕ, ◌<◌, ◌≤◌, ◌%◌, ◌/◌, ◌^◌, ◌==◌, ◌&&◌, nat_lt, if◌then◌else◌, Bool, true, false, List, [], IfOk, IfErr};
+ghost use Rattle.sector_disk.specs.Disk.{Disk, Image, MayWrite, written};
+ghost use Rattle.sector_disk.specs.FileBytes.{disk_of_file};
+ghost use Rattle.sector_disk.specs.Whole.{Goes};
 
 use crate::device::count_failure;
-use crate::{Counts, DeviceFault, SectorDevice};
-use std::fs::{File, Files, OpenOptions};
-use std::io;
-use std::io::ErrorKind;
-use std::os::unix::fs::FileExt;
-use std::path::Path;
+use crate::whole::{read_whole, write_whole};
+use crate::{Counts, DeviceFault, HostFile, SectorDevice};
 
-// the bytes of a sector
-const SECTOR: u64 = 512;
+/// The bytes of a sector.
+pub(crate) const SECTOR: u64 = 512;
 
-/// Why a file isn't opened or made.
-#[derive(Clone, Copy, Debug, PartialEq, Eq)]
-pub enum FileFault {
-    /// A file that was to be made is there.
-    Exists = 1,
-    /// The system refused.
-    Cannot = 2,
-}
-
-/// A file of sectors. Each read and write is one call of the system at the sector's place, and a sync asks that all
-/// bytes written reach the disk.
+/// A file of sectors. Each read and write moves the sector's bytes at its place, and a sync asks that all bytes written
+/// reach the disk.
 ///
-/// It is safe whatever the file holds. That a file keeps the disk model is assumed, not proved.
+/// Over a file that keeps the model of a file it keeps the disk model.
 #[derive(Drop)]
-pub struct FileDisk {
-    file: File,
+pub struct SectorFile<H: HostFile> {
+    file: H,
     sectors: u32,
     sync_failed: bool,
     failures: u64,
     counts: Counts,
+    // As long as no sync failed, one that succeeds settles.
+    ghost settle: { sync_failed ≡ false → IsTrue (H.HostFile.syncs_settle file) },
 }
 
-impl FileDisk {
-    ghost use Rattle.sector_disk.specs.FileDisk.{has_failed_sync};
+impl<H: HostFile> SectorFile<H> {
+    ghost use Rattle.sector_disk.specs.SectorFile.{file_of, has_failed_sync, sectors_of};
+    ghost use Rattle.sector_disk.specs.FileBytes.{disk_of_file};
 
-    /// Opens a file that is there. One whose length isn't a multiple of 512 bytes, or is 2^32 sectors or more, has
-    /// no sectors. `Cannot` where it can't be opened for reading and writing.
-    pub fn open(rt: &impl Files<File = File>, path: &str) -> Result<FileDisk, FileFault>
-        ensures refusal { IfErr result (λ fault. fault ≡ FileFault.Cannot) }
-        ensures counts { IfOk result (λ d. ⟦<FileDisk as SectorDevice>⟧.counts d ≡ record { reads = 0; writes = 0; syncs = 0 }) }
-        ensures failures { IfOk result (λ d. ⟦<FileDisk as SectorDevice>⟧.failures d ≡ 0) }
-        ensures sync { IfOk result (λ d. has_failed_sync d ≡ false) }
+    /// The file as a device of this many sectors.
+    pub fn new(file: H, sectors: u32) -> SectorFile<H>
+        requires { IsTrue (H.syncs_settle file) }
+        ensures file { file_of result ≡ file }
+        ensures model { ⟦<SectorFile<H> as SectorDevice>⟧.keeps_model result ≡ H.keeps_model file }
+        ensures disk { ⟦<SectorFile<H> as SectorDevice>⟧.disk result ≡ disk_of_file (H.bytes file) }
+        ensures sectors { sectors_of result ≡ sectors }
+        ensures failures { ⟦<SectorFile<H> as SectorDevice>⟧.failures result ≡ 0 }
+        ensures sync { has_failed_sync result ≡ false }
+        ensures counts { ⟦<SectorFile<H> as SectorDevice>⟧.counts result ≡ record { reads = 0; writes = 0; syncs = 0 } }
     {
-        let file = OpenOptions::new()
-            .read(true)
-            .write(true)
-            .open(rt, path)
-            .map_err(|_| FileFault::Cannot)?;
-        let len = file.metadata().map_err(|_| FileFault::Cannot)?.len();
-        Ok(FileDisk::with_sectors(file, sectors_in(len)))
-    }
-
-    /// Makes a file of this many sectors of zeros. `Exists` where something has that name, and `Cannot` where the
-    /// file can't be made. File and name are on the disk when it answers Ok. After `Cannot` a file may stay.
-    pub fn create(
-        rt: &impl Files<File = File>,
-        path: &str,
-        sectors: u32,
-    ) -> Result<FileDisk, FileFault>
-        ensures sectors { IfOk result (λ d. ⟦<FileDisk as SectorDevice>⟧.sector_count d ≡ sectors) }
-        ensures counts { IfOk result (λ d. ⟦<FileDisk as SectorDevice>⟧.counts d ≡ record { reads = 0; writes = 0; syncs = 0 }) }
-        ensures failures { IfOk result (λ d. ⟦<FileDisk as SectorDevice>⟧.failures d ≡ 0) }
-        ensures sync { IfOk result (λ d. has_failed_sync d ≡ false) }
-    {
-        let file = OpenOptions::new()
-            .read(true)
-            .write(true)
-            .create_new(true)
-            .open(rt, path)
-            .map_err(|error| match error.kind() {
-                ErrorKind::AlreadyExists => FileFault::Exists,
-                _ => FileFault::Cannot,
-            })?;
-        fill_and_sync(&file, sectors).map_err(|_| FileFault::Cannot)?;
-        sync_folder(rt, path).map_err(|_| FileFault::Cannot)?;
-        Ok(FileDisk::with_sectors(file, sectors))
-    }
-
-    fn with_sectors(file: File, sectors: u32) -> FileDisk
-        ensures sectors { result.sectors ≡ sectors }
-        ensures failures { result.failures ≡ 0 }
-        ensures sync { result.sync_failed ≡ false }
-        ensures counts { result.counts ≡ record { reads = 0; writes = 0; syncs = 0 } }
-    {
-        FileDisk {
+        SectorFile {
             file,
             sectors,
             sync_failed: false,
@@ -97,62 +51,35 @@ impl FileDisk {
     }
 }
 
-// How many sectors a file of this length has.
-fn sectors_in(len: u64) -> u32
-    ensures { result ≡ (if (len % 512 == 0) && nat_lt (len / 512) (2 ^ 32) then len / 512 else 0) }
-{
-    if len % SECTOR != 0 {
-        return 0;
-    }
-    u32::try_from(len / SECTOR).unwrap_or(0)
-}
-
-// Gives a new file its length, which fills it with zeros, and syncs it.
-fn fill_and_sync(file: &File, sectors: u32) -> io::Result<()> {
-    file.set_len(SECTOR * sectors as u64)?;
-    file.sync_all()
-}
-
-// Syncs the folder of a file, so that its name is on the disk.
-fn sync_folder(rt: &impl Files<File = File>, path: &str) -> io::Result<()> {
-    File::open(rt, folder_of(path))?.sync_all()
-}
-
-// The folder that a path names a file in.
-fn folder_of(path: &str) -> &str {
-    match Path::new(path).parent() {
-        Some(folder) if !folder.as_str().is_empty() => folder.as_str(),
-        _ => ".",
-    }
-}
-
-impl SectorDevice for FileDisk {
-    ghost use Rattle.std.specs.Prelude.{IsErr, ◌↔◌};
+impl<H: HostFile> SectorDevice for SectorFile<H> {
+    ghost use Rattle.std.specs.Prelude.{IsErr, ◌↔◌, OnOk, OnErr};
     ghost use Rattle.sector_disk.specs.Counting.{with_read, with_write, with_sync};
-    ghost use Rattle.sector_disk.specs.FileDisk.{sectors_of, has_failed_sync};
+    ghost use Rattle.sector_disk.specs.Disk.{MayWrite, SettlesNothing, settled, written};
+    ghost use Rattle.sector_disk.specs.FileBytes.{disk_of_file};
+    ghost use Rattle.sector_disk.specs.SectorFile.{sectors_of, has_failed_sync, file_of};
     ghost use Rattle.sector_disk.specs.Fused.{GoesOn};
 
     ghost sector_count = { λ f. f.sectors };
 
-    ghost keeps_model = { λ f. false };
+    ghost keeps_model = { λ f. H.keeps_model f.file };
 
-    ghost disk = { λ f. record { content = λ _. []; synced = λ _. []; unsynced = λ _. true } };
+    ghost disk = { λ f. disk_of_file (H.bytes f.file) };
 
-    ghost time = { λ f. 0 };
+    ghost time = { λ f. H.time f.file };
 
-    ghost left_since = { λ f t c. Unit {0} };
+    ghost left_since = { λ f t c. H.left_since f.file t c };
 
     ghost failures = { λ f. f.failures };
 
     ghost counts = { λ f. f.counts };
 
-    ghost present = { λ f keeps k synced. Prim.cc };
+    ghost present = { λ f keeps. H.present f.file keeps };
 
-    ghost counts_now = { λ f t c le now. tt };
+    ghost counts_now = { λ f t c le now. H.counts_now f.file t c le now };
 
-    ghost only_now = { λ f c since k synced. Prim.cc };
+    ghost only_now = { λ f c since. H.only_now f.file c since };
 
-    ghost widens = { λ f s t c le since. since };
+    ghost widens = { λ f s t c le since. H.widens f.file s t c le since };
 
     fn sectors(&self) -> u32 {
         self.sectors
@@ -161,22 +88,29 @@ impl SectorDevice for FileDisk {
     fn read(&mut self, k: u32, out: &mut [u8; 512]) -> Result<(), DeviceFault>
         requires { k < sectors_of self.old }
         ensures sync { has_failed_sync self.new ≡ has_failed_sync self.old }
-        ensures goes_on { GoesOn ⟦<FileDisk as SectorDevice>⟧ self.old self.new result }
-        ensures counts { let n = ⟦<FileDisk as SectorDevice>⟧.counts in n self.new ≡ with_read (n self.old) }
+        ensures bytes { IsTrue (H.keeps_model (file_of self.old))
+            → OnOk result (out.new ≡ (disk_of_file (H.bytes (file_of self.old))).content k) }
+        ensures disk { IsTrue (H.keeps_model (file_of self.old)) → disk_of_file (H.bytes (file_of self.new)) ≡ disk_of_file (H.bytes (file_of self.old)) }
+        ensures goes_on { GoesOn ⟦<SectorFile<H> as SectorDevice>⟧ self.old self.new result }
+        ensures counts { let n = ⟦<SectorFile<H> as SectorDevice>⟧.counts in n self.new ≡ with_read (n self.old) }
     {
         self.counts.count_read();
-        let outcome = self.file.read_exact_at(out, SECTOR * k as u64);
+        let outcome = read_sector(&mut self.file, k, out);
         count_failure(&mut self.failures, outcome)
     }
 
     fn write(&mut self, k: u32, bytes: &[u8; 512]) -> Result<(), DeviceFault>
         requires { k < sectors_of self.old }
         ensures sync { has_failed_sync self.new ≡ has_failed_sync self.old }
-        ensures goes_on { GoesOn ⟦<FileDisk as SectorDevice>⟧ self.old self.new result }
-        ensures counts { let n = ⟦<FileDisk as SectorDevice>⟧.counts in n self.new ≡ with_write (n self.old) }
+        ensures ok { IsTrue (H.keeps_model (file_of self.old))
+            → OnOk result (disk_of_file (H.bytes (file_of self.new)) ≡ written (disk_of_file (H.bytes (file_of self.old))) k bytes.now) }
+        ensures err { IsTrue (H.keeps_model (file_of self.old))
+            → OnErr result (MayWrite k (disk_of_file (H.bytes (file_of self.old))) (disk_of_file (H.bytes (file_of self.new)))) }
+        ensures goes_on { GoesOn ⟦<SectorFile<H> as SectorDevice>⟧ self.old self.new result }
+        ensures counts { let n = ⟦<SectorFile<H> as SectorDevice>⟧.counts in n self.new ≡ with_write (n self.old) }
     {
         self.counts.count_write();
-        let outcome = self.file.write_all_at(bytes, SECTOR * k as u64);
+        let outcome = write_sector(&mut self.file, k, bytes);
         count_failure(&mut self.failures, outcome)
     }
 
@@ -185,20 +119,40 @@ impl SectorDevice for FileDisk {
     fn sync(&mut self) -> Result<(), DeviceFault>
         ensures fails { has_failed_sync self.old ≡ true → IsErr result }
         ensures sync { IsErr result ↔ (has_failed_sync self.new ≡ true) }
-        ensures goes_on { GoesOn ⟦<FileDisk as SectorDevice>⟧ self.old self.new result }
-        ensures counts { let n = ⟦<FileDisk as SectorDevice>⟧.counts in n self.new ≡ with_sync (n self.old) }
+        ensures ok { IsTrue (H.keeps_model (file_of self.old))
+            → OnOk result (disk_of_file (H.bytes (file_of self.new)) ≡ settled (disk_of_file (H.bytes (file_of self.old)))) }
+        ensures err { IsTrue (H.keeps_model (file_of self.old))
+            → OnErr result (SettlesNothing (disk_of_file (H.bytes (file_of self.old))) (disk_of_file (H.bytes (file_of self.new)))) }
+        ensures goes_on { GoesOn ⟦<SectorFile<H> as SectorDevice>⟧ self.old self.new result }
+        ensures counts { let n = ⟦<SectorFile<H> as SectorDevice>⟧.counts in n self.new ≡ with_sync (n self.old) }
     {
         self.counts.count_sync();
-        let outcome = if self.sync_failed {
-            Err(DeviceFault)
-        } else {
-            sync_file(&self.file)
-        };
-        self.sync_failed = outcome.is_err();
-        count_failure(&mut self.failures, outcome)
+        if self.sync_failed {
+            return count_failure(&mut self.failures, Err(DeviceFault));
+        }
+        match self.file.sync() {
+            Ok(()) => Ok(()),
+            Err(fault) => {
+                self.sync_failed = true;
+                count_failure(&mut self.failures, Err(fault))
+            }
+        }
     }
 }
 
-fn sync_file(file: &File) -> Result<(), DeviceFault> {
-    file.sync_data().map_err(|_| DeviceFault)
+fn read_sector<H: HostFile>(file: &mut H, k: u32, out: &mut [u8; 512]) -> Result<(), DeviceFault>
+    ensures bytes { IsTrue (H.keeps_model file.old) → OnOk result (out.new ≡ (disk_of_file (H.bytes file.old)).content k) }
+    ensures disk { H.bytes file.new ≡ H.bytes file.old }
+    ensures goes { Goes H.HostFile file.old file.new }
+{
+    read_whole(file, SECTOR * k as u64, out)
+}
+
+fn write_sector<H: HostFile>(file: &mut H, k: u32, bytes: &[u8; 512]) -> Result<(), DeviceFault>
+    ensures ok { IsTrue (H.keeps_model file.old)
+        → OnOk result (disk_of_file (H.bytes file.new) ≡ written (disk_of_file (H.bytes file.old)) k bytes.now) }
+    ensures err { OnErr result (MayWrite k (disk_of_file (H.bytes file.old)) (disk_of_file (H.bytes file.new))) }
+    ensures goes { Goes H.HostFile file.old file.new }
+{
+    write_whole(file, SECTOR * k as u64, bytes)
 }

@@ -4,13 +4,22 @@
 mod device;
 mod file;
 mod fused;
+mod host;
 mod memory;
+mod memory_file;
+mod opening;
 mod recorded;
+mod std_files;
 mod tearing;
+mod whole;
 
 pub use device::{Counts, DeviceFault, SectorDevice};
-pub use file::{FileDisk, FileFault};
+pub use file::SectorFile;
 pub use fused::Fused;
+pub use host::{HostFault, HostFile, StdFile};
 pub use memory::{Fate, MemoryDisk, NoMemory};
+pub use memory_file::{MemoryFile, Script};
+pub use opening::{FileFault, HostFiles, create_disk, open_disk};
 pub use recorded::Recorded;
+pub use std_files::{FileDisk, StdFiles};
 pub use tearing::Tearing;

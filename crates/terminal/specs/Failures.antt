@@ -8,7 +8,7 @@ use Rattle.recovery.specs.declared.fault.OpenFault.TheVariants as image
 use Rattle.recovery.specs.declared.fault.UpgradeFault.{UpgradeFault}
 use Rattle.recovery.specs.declared.fault.UpgradeFault.TheVariants.{Old, New}
 use Rattle.terminal.specs.declared.failure.Failure.{Failure}
-use Rattle.terminal.specs.declared.failure.Failure.TheVariants.{BadSize, NoLabel, OtherVersion, WrongCount, Damaged, Device, Exists, CannotOpen, NoBlock, CannotRead, NotAScreen, CannotWrite, NoMemory}
+use Rattle.terminal.specs.declared.failure.Failure.TheVariants.{BadSize, NoLabel, OtherVersion, WrongCount, Damaged, Device, Exists, CannotOpen, InUse, NoBlock, CannotRead, NotAScreen, CannotWrite, NoMemory}
 use Rattle.terminal.specs.declared.run_fault.RunFault.{RunFault}
 use Rattle.terminal.specs.declared.run_fault.RunFault.TheVariants.{Read, Write}
 
@@ -22,6 +22,7 @@ status_of Damaged = 3
 status_of Device = 3
 status_of Exists = 3
 status_of CannotOpen = 3
+status_of InUse = 3
 status_of NoBlock = 3
 status_of CannotRead = 4
 status_of NotAScreen = 4
@@ -45,6 +46,7 @@ of_upgrade (New fault) = of_image fault
 abbrev pub of_file : FileFault → Failure
 of_file file.Exists = Exists
 of_file file.Cannot = CannotOpen
+of_file file.InUse = InUse
 
 -- outside a line a store that was closed is a device that failed
 abbrev pub of_store : StoreFault → Failure

@@ -27,6 +27,8 @@ pub enum Failure {
     Exists,
     #[error("image: cannot open")]
     CannotOpen,
+    #[error("image: in use")]
+    InUse,
     #[error("image: no block")]
     NoBlock,
     #[error("input: cannot read")]
@@ -54,6 +56,7 @@ impl Failure {
             | Failure::Device
             | Failure::Exists
             | Failure::CannotOpen
+            | Failure::InUse
             | Failure::NoBlock => 3,
             Failure::CannotRead | Failure::NotAScreen | Failure::CannotWrite => 4,
             Failure::NoMemory => 5,
@@ -95,6 +98,7 @@ impl From<FileFault> for Failure {
         match fault {
             FileFault::Exists => Failure::Exists,
             FileFault::Cannot => Failure::CannotOpen,
+            FileFault::InUse => Failure::InUse,
         }
     }
 }

@@ -1,0 +1,167 @@
+-- Calls of a file, one after another, and what they do to its sectors.
+use Rattle.std.proofs.Common.{◌≡◌, ◌≢◌, ℕ, ◌+◌, ◌*◌, ◌-◌, ◌<◌, ◌≤◌, true, false, List, length, slice_index, take, replicate, refl, sym, ◌∙◌, ap, subst, inl, inr, ⊎_elim, arith}
+use Rattle.std.specs.Prelude.{Result, Ok, Err, OnOk, OnErr}
+use Rattle.std.proofs.Math.Path.{fun_ext}
+use Rattle.std.proofs.lemmas.List.{get_or-replicate, get_or-take}
+use Rattle.std.proofs.lemmas.Bool.{cases_eq, cases_lt}
+use Rattle.std.proofs.lemmas.Bool.Decides.{nat_tests}
+use Rattle.sector_disk.specs.Disk.{Image, Disk, MayLeave, MayLeaveEither, MayWrite, written, with_sector}
+use Rattle.sector_disk.specs.FileBytes.{FileBytes, sector_of, disk_of_file, SameSector, Misses, Spoils, Puts}
+use Rattle.sector_disk.specs.Opening.{KeepsGoing}
+use Rattle.sector_disk.specs.Spans.{sector_is, same_sector}
+use Rattle.sector_disk.specs.Whole.{Goes}
+use Rattle.sector_disk.proofs.Moments.{elapses_then, leaves_then}
+use Rattle.sector_disk.specs.declared.host.HostFile.{Ghosts}
+
+same_refl : (k : ℕ) (f : FileBytes) → SameSector k f f
+same_refl k f = record { bytes = λ i below. refl; unsynced = refl }
+
+same_then : (k : ℕ) (f g h : FileBytes) → SameSector k f g → SameSector k g h → SameSector k f h
+same_then k f g h one two = record { bytes = λ i below. two.bytes i below ∙ one.bytes i below; unsynced = two.unsynced ∙ one.unsynced }
+
+-- a write of a part of the bytes after another one
+pub spoils_then : (at n from m : ℕ) (f g h : FileBytes) → at ≤ from → from + m ≤ at + n
+    → Spoils at n f g → Spoils from m g h → Spoils at n f h
+spoils_then at n from m f g h le within one two = record {
+  synced = two.synced ∙ one.synced;
+  touched = λ k.
+      ⊎_elim
+      (λ same. ⊎_elim (λ was. inl (same_then k f g h was same)) (λ marked. inr (same.unsynced ∙ marked)) (one.touched k))
+      (λ marked. inr marked)
+      (two.touched k);
+  missed = λ k out.
+      same_then k f g h (one.missed k out)
+      (two.missed k (⊎_elim (λ low. inl (omega (arith, low, le))) (λ high. inr (omega (arith, high, within))) out));
+}
+
+-- what one left unsynced the other does
+less_synced : (at n : ℕ) (g h : FileBytes) (c : Image) → Spoils at n g h → MayLeave (disk_of_file g) c → MayLeave (disk_of_file h) c
+less_synced at n g h c spoils may k is =
+    ⊎_elim
+    (λ same. may k (sym same.unsynced ∙ is) ∙ sym (ap (λ s. sector_of s k) spoils.synced))
+    (λ marked. absurd (true_false (sym marked ∙ is)))
+    (spoils.touched k)
+  where
+    true_false : true ≡ false → ⊥
+    true_false is = cc
+
+module _ {H : Type 0} (G : Ghosts H) where
+  goes_then : (a b d : H) → ((s t : ℕ) (c : Image) → s ≤ t → G.left_since d t c → G.left_since d s c)
+      → ((c : Image) → MayLeave (disk_of_file (G.bytes b)) c → MayLeave (disk_of_file (G.bytes d)) c)
+      → Goes G a b → Goes G b d → Goes G a d
+  goes_then a b d widens more one two = record {
+    model = two.model ∙ one.model;
+    settle = two.settle ∙ one.settle;
+    time = elapses_then G.time G.left_since a b d widens one.time two.time;
+    stops = leaves_then G.time G.left_since a b d
+        (MayLeaveEither (disk_of_file (G.bytes a)) (disk_of_file (G.bytes b))) (MayLeaveEither (disk_of_file (G.bytes b)) (disk_of_file (G.bytes d)))
+        (MayLeaveEither (disk_of_file (G.bytes a)) (disk_of_file (G.bytes d)))
+        one.time two.time one.stops two.stops
+        (λ c either. ⊎_elim (λ was. inl was) (λ mid. inr (more c mid)) either)
+        (λ c either. ⊎_elim (λ mid. inr (more c mid)) (λ now. inr now) either);
+  }
+
+  pub writes_then : (a b d : H) (at n : ℕ) → ((s t : ℕ) (c : Image) → s ≤ t → G.left_since d t c → G.left_since d s c)
+      → Spoils at n (G.bytes b) (G.bytes d) → Goes G a b → Goes G b d → Goes G a d
+  writes_then a b d at n widens spoils one two = goes_then a b d widens (λ c may. less_synced at n (G.bytes b) (G.bytes d) c spoils may) one two
+
+-- Sector k alone has other bytes, and is unsynced.
+module _ (k : ℕ) (f g : FileBytes) (xs : List ℕ) (synced : g.synced ≡ f.synced) (other : (j : ℕ) → j ≢ k → SameSector j f g)
+    (mark : g.unsynced k ≡ true) (is : sector_of g.content k ≡ xs) where
+  content_at : (j : ℕ) → sector_of g.content j ≡ with_sector (sector_of f.content) k xs j
+  content_at j = elim (cases_eq j k) [
+    | inl same ↦ ap (sector_of g.content) same ∙ is ∙ sym (ap (with_sector (sector_of f.content) k xs) same ∙ grind (arith, nat_tests))
+    | inr not ↦ same_sector g.content f.content j (other j not).bytes ∙ grind (arith, nat_tests)
+  ]
+
+  marks_at : (j : ℕ) → g.unsynced j ≡ (written (disk_of_file f) k xs).unsynced j
+  marks_at j = elim (cases_eq j k) [
+    | inl same ↦ ap g.unsynced same ∙ mark ∙ sym (ap (written (disk_of_file f) k xs).unsynced same ∙ grind (arith, nat_tests))
+    | inr not ↦ (other j not).unsynced ∙ grind (arith, nat_tests)
+  ]
+
+  pub is_written : disk_of_file g ≡ written (disk_of_file f) k xs
+  is_written = parts (fun_ext content_at) (ap sector_of synced) (fun_ext marks_at)
+    where
+      parts : {a b : Disk} → a.content ≡ b.content → a.synced ≡ b.synced → a.unsynced ≡ b.unsynced → a ≡ b
+      parts one two three = grind (arith, one, two, three)
+
+misses : (j k : ℕ) → j ≢ k → Misses (512 * k) 512 j
+misses j k not = ⊎_elim (λ low. inl (omega (arith, low))) (λ high. inr (omega (arith, high, not))) (cases_lt j k)
+
+pub one_written : (k : ℕ) (f g : FileBytes) (xs : List ℕ) → length xs ≡ 512 → Spoils (512 * k) 512 f g → Puts (512 * k) xs 512 f g
+    → disk_of_file g ≡ written (disk_of_file f) k xs
+one_written k f g xs long spoils puts =
+    is_written k f g xs spoils.synced (λ j not. spoils.missed j (misses j k not)) (puts.marks k (omega arith) (omega arith) (omega arith))
+    (sym (sector_is g.content k xs long (λ i below. sym (puts.put i below))))
+
+pub one_spoiled : (k : ℕ) (f g : FileBytes) → Spoils (512 * k) 512 f g → MayWrite k (disk_of_file f) (disk_of_file g)
+one_spoiled k f g spoils =
+    ⊎_elim
+    (λ same. inl (all_same (λ j. elim (cases_eq j k) [ inl is ↦ subst (λ i. SameSector i f g) (sym is) same | inr not ↦ spoils.missed j (misses j k not) ])))
+    (λ marked. inr (sector_of g.content k, is_written k f g (sector_of g.content k) spoils.synced (λ j not. spoils.missed j (misses j k not)) marked refl))
+    (spoils.touched k)
+  where
+    parts : {a b : Disk} → a.content ≡ b.content → a.synced ≡ b.synced → a.unsynced ≡ b.unsynced → a ≡ b
+    parts one two three = grind (arith, one, two, three)
+
+    all_same : ((j : ℕ) → SameSector j f g) → disk_of_file g ≡ disk_of_file f
+    all_same each =
+        parts (fun_ext (λ j. same_sector g.content f.content j (each j).bytes)) (ap sector_of spoils.synced) (fun_ext (λ j. (each j).unsynced))
+
+-- the first n bytes, and then m more
+pub puts_then : (at : ℕ) (bytes : List ℕ) (n : ℕ) (rest : List ℕ) (m size : ℕ) (f g h : FileBytes) → ((i : ℕ) → i < m → slice_index rest i ≡ slice_index bytes (n + i))
+    → Puts at bytes n f g → Spoils (at + n) size g h → Puts (at + n) rest m g h → Puts at bytes (n + m) f h
+puts_then at bytes n rest m size f g h alike one spoils two = record {
+  put = λ i below. elim (cases_lt i n) [
+    | inl early ↦ two.before (at + i) (omega (arith, early)) ∙ one.put i early
+    | inr late ↦
+        let here : at + i ≡ at + n + (i - n) = omega (arith, late) in
+        let there : n + (i - n) ≡ i = omega (arith, late) in
+        ap h.content here ∙ two.put (i - n) (omega (arith, late, below)) ∙ alike (i - n) (omega (arith, late, below)) ∙ ap (slice_index bytes) there
+  ];
+  before = λ p low. two.before p (omega (arith, low)) ∙ one.before p low;
+  after = λ p high. two.after p (omega (arith, high)) ∙ one.after p (omega (arith, high));
+  marks = λ k some low high. elim (cases_lt 0 n) [
+    | inl any ↦ elim (cases_lt (512 * k) (at + n)) [
+      | inl first ↦ kept k (one.marks k any first high)
+      | inr second ↦ two.marks k (omega (arith, second, low)) (omega (arith, low)) (omega (arith, second))
+    ]
+    | inr none ↦ two.marks k (omega (arith, none, some)) (omega (arith, low)) (omega (arith, none, high))
+  ];
+}
+  where
+    kept : (k : ℕ) → g.unsynced k ≡ true → h.unsynced k ≡ true
+    kept k is = ⊎_elim (λ same. same.unsynced ∙ is) (λ marked. marked) (spoils.touched k)
+
+pub on_ok : {T E P Q : Type 0} (r : Result T E) → OnOk r P → (P → Q) → OnOk r Q
+on_ok (Ok x) p f = f p
+on_ok (Err x) p f = tt
+
+pub on_any : {T E P : Type 0} (r : Result T E) → P → OnErr r P
+on_any (Ok x) p = tt
+on_any (Err x) p = p
+
+-- Calls of a file that keep to it go on with it.
+pub keeps_going : {H : Type 0} (G : Ghosts H) (a b d : H) → ((s t : ℕ) (c : Image) → s ≤ t → G.left_since d t c → G.left_since d s c)
+    → KeepsGoing G a b → Goes G b d → KeepsGoing G a d
+keeps_going G a b d widens one two = record {
+  model = two.model ∙ one.model;
+  settle = two.settle ∙ one.settle;
+  time = elapses_then G.time G.left_since a b d widens one.time two.time;
+}
+
+-- more zeros after zeros
+pub zeros_then : (at n : ℕ) (piece : List ℕ) (f h : FileBytes) → length piece ≡ n → ((i : ℕ) → i < n → slice_index piece i ≡ 0)
+    → ((p : ℕ) → p < at → f.content p ≡ 0) → Puts at piece (length piece) f h → (p : ℕ) → p < at + n → h.content p ≡ 0
+zeros_then at n piece f h long zero before puts p below = elim (cases_lt p at) [
+  | inl early ↦ puts.before p early ∙ before p early
+  | inr late ↦
+      let here : at + (p - at) ≡ p = omega (arith, late) in
+      let inside : p - at < n = omega (arith, late, below) in
+      ap h.content (sym here) ∙ puts.put (p - at) (subst (λ m. p - at < m) (sym long) inside) ∙ zero (p - at) inside
+]
+
+-- the first bytes of zeros
+pub zero_taken : (n size i : ℕ) → i < n → n ≤ size → slice_index (take n (replicate size 0)) i ≡ 0
+zero_taken n size i below few = get_or-take n (replicate size 0) i 0 below ∙ get_or-replicate size i 0 0 (omega (arith, below, few))

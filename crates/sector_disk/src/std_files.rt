@@ -1,0 +1,137 @@
+// The files of this system.
+ghost use Rattle.std.specs.Prelude.{◌≡◌, ◌≢◌, IfOk, IfErr, false};
+ghost use Rattle.sector_disk.specs.SectorFile.{has_failed_sync};
+
+use crate::{
+    FileFault, HostFault, HostFiles, SectorDevice, SectorFile, StdFile, create_disk, open_disk,
+};
+use std::fs::{File, Files, Metadata, OpenOptions, TryLockError};
+use std::io::ErrorKind;
+use std::os::unix::fs::MetadataExt;
+use std::path::Path;
+use std::{fs, io};
+
+/// A file of this system as a device. That such a file keeps the model of a file is assumed, not proved.
+pub type FileDisk = SectorFile<StdFile>;
+
+/// The names of this program's standard streams.
+const STREAMS: [&str; 3] = ["/dev/stdin", "/dev/stdout", "/dev/stderr"];
+
+/// The files of this system. Each is locked as long as it is open: only programs that ask for the lock are kept out.
+#[derive(Drop)]
+pub struct StdFiles<'a, R> {
+    rt: &'a R,
+}
+
+impl<'a, R: Files<File = File>> StdFiles<'a, R> {
+    /// The files that this runtime reaches.
+    pub fn new(rt: &'a R) -> StdFiles<'a, R> {
+        StdFiles { rt }
+    }
+}
+
+impl<R: Files<File = File>> HostFiles<StdFile> for StdFiles<'_, R> {
+    ghost opens = { λ files path file. Unit {0} };
+
+    ghost makes = { λ files path file. Unit {0} };
+
+    fn open(&self, path: &str) -> Result<StdFile, FileFault> {
+        let file = OpenOptions::new()
+            .read(true)
+            .write(true)
+            .open(self.rt, path)
+            .map_err(|_| FileFault::Cannot)?;
+        lock(&file)?;
+        let of = file.metadata().map_err(|_| FileFault::Cannot)?;
+        if is_a_stream(self.rt, &of) {
+            return Err(FileFault::InUse);
+        }
+        Ok(StdFile::new(file))
+    }
+
+    fn make(&self, path: &str) -> Result<StdFile, FileFault> {
+        let file = OpenOptions::new()
+            .read(true)
+            .write(true)
+            .create_new(true)
+            .open(self.rt, path)
+            .map_err(|error| match error.kind() {
+                ErrorKind::AlreadyExists => FileFault::Exists,
+                _ => FileFault::Cannot,
+            })?;
+        lock(&file)?;
+        Ok(StdFile::new(file))
+    }
+
+    fn keep_name(&self, path: &str) -> Result<(), HostFault> {
+        match sync_folder(self.rt, path) {
+            Ok(()) => Ok(()),
+            Err(_) => Err(HostFault::Failed),
+        }
+    }
+}
+
+impl SectorFile<StdFile> {
+    /// Opens a file of this system that is there. One whose length isn't a multiple of 512 bytes, or is 2^32 sectors or
+    /// more, has no sectors. `InUse` where another program has it open or it is a standard stream of this one, and
+    /// `Cannot` where it can't be opened for reading and writing, or its file system has no locks. Nothing of it is read
+    /// then.
+    pub fn open(rt: &impl Files<File = File>, path: &str) -> Result<FileDisk, FileFault>
+        ensures refusal { IfErr result (λ fault. fault ≢ FileFault.Exists) }
+        ensures counts { IfOk result (λ d. ⟦<SectorFile<StdFile> as SectorDevice>⟧.counts d
+            ≡ record { reads = 0; writes = 0; syncs = 0 }) }
+        ensures failures { IfOk result (λ d. ⟦<SectorFile<StdFile> as SectorDevice>⟧.failures d ≡ 0) }
+        ensures sync { IfOk result (λ d. has_failed_sync d ≡ false) }
+    {
+        open_disk(&StdFiles::new(rt), path)
+    }
+
+    /// Makes a file of this many sectors of zeros. `Exists` where something has that name, and `Cannot` where the
+    /// file can't be made. File and name are on the disk when it answers Ok. After `Cannot` a file may stay.
+    pub fn create(
+        rt: &impl Files<File = File>,
+        path: &str,
+        sectors: u32,
+    ) -> Result<FileDisk, FileFault>
+        ensures sectors { IfOk result (λ d. ⟦<SectorFile<StdFile> as SectorDevice>⟧.sector_count d ≡ sectors) }
+        ensures counts { IfOk result (λ d. ⟦<SectorFile<StdFile> as SectorDevice>⟧.counts d
+            ≡ record { reads = 0; writes = 0; syncs = 0 }) }
+        ensures failures { IfOk result (λ d. ⟦<SectorFile<StdFile> as SectorDevice>⟧.failures d ≡ 0) }
+        ensures sync { IfOk result (λ d. has_failed_sync d ≡ false) }
+    {
+        create_disk(&StdFiles::new(rt), path, sectors)
+    }
+}
+
+// Locks a file until it is closed. The lock is the system's advice: only programs that ask for it are kept out.
+fn lock(file: &File) -> Result<(), FileFault>
+    ensures { IfErr result (λ fault. fault ≢ FileFault.Exists) }
+{
+    match file.try_lock() {
+        Ok(()) => Ok(()),
+        Err(TryLockError::WouldBlock) => Err(FileFault::InUse),
+        Err(TryLockError::Error(_)) => Err(FileFault::Cannot),
+    }
+}
+
+// Whether a file is what one of the standard streams reads or writes, by its device and number.
+fn is_a_stream(rt: &impl Files, of: &Metadata) -> bool {
+    of.is_file()
+        && STREAMS.iter().any(|name| match fs::metadata(rt, *name) {
+            Ok(stream) => stream.dev() == of.dev() && stream.ino() == of.ino(),
+            Err(_) => false,
+        })
+}
+
+// Syncs the folder of a file, so that its name is on the disk.
+fn sync_folder(rt: &impl Files<File = File>, path: &str) -> io::Result<()> {
+    File::open(rt, folder_of(path))?.sync_all()
+}
+
+// The folder that a path names a file in.
+fn folder_of(path: &str) -> &str {
+    match Path::new(path).parent() {
+        Some(folder) if !folder.as_str().is_empty() => folder.as_str(),
+        _ => ".",
+    }
+}
