@@ -11,6 +11,7 @@ pub mod MemoryFile
 pub mod Moments
 pub mod Opening
 pub mod Recorded
+pub mod RecordedDisk
 pub mod SectorFile
 pub mod Spans
 pub mod Stop

@@ -5,6 +5,7 @@ ghost use Rattle.sector_disk.specs.Disk.{Disk, Image, MayLeave};
 ghost use Rattle.sector_disk.specs.Counting.{CountsFailure};
 ghost use Rattle.sector_disk.specs.MemoryDisk.{held, size};
 ghost use Rattle.sector_disk.specs.Recorded.{LeftSince, AddsMoment};
+ghost use Rattle.sector_disk.specs.RecordedDisk.{recorded_device_of};
 ghost use Rattle.sector_disk.specs.Laws.{present_of, now_alone, since_earlier};
 
 use crate::device::count_failure;
@@ -25,6 +26,7 @@ pub struct Recorded {
 impl Recorded {
     /// A history that begins now.
     pub fn new(alloc: Global, device: MemoryDisk) -> Recorded
+        ensures device { recorded_device_of result ≡ device }
         ensures sectors { ⟦<Recorded as SectorDevice>⟧.sector_count result ≡ size device }
         ensures disk { ⟦<Recorded as SectorDevice>⟧.disk result ≡ held device }
         ensures time { ⟦<Recorded as SectorDevice>⟧.time result ≡ 0 }
@@ -52,8 +54,9 @@ impl Recorded {
         &self.past
     }
 
-    /// The disk as it is now.
+    /// The disk as it is now. Nothing is asked of it.
     pub fn into_device(self) -> MemoryDisk
+        ensures device { result ≡ recorded_device_of self }
         ensures sectors { size result ≡ ⟦<Recorded as SectorDevice>⟧.sector_count self }
         ensures disk { held result ≡ ⟦<Recorded as SectorDevice>⟧.disk self }
     {

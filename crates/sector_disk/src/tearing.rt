@@ -1,5 +1,5 @@
 // A device that tears a write on purpose.
-ghost use Rattle.std.specs.Prelude.{◌≡◌, ◌⊎◌, ℕ, ◌+◌, ◌<◌, ◌≤◌, Bool, IsTrue};
+ghost use Rattle.std.specs.Prelude.{◌≡◌, ◌⊎◌, ◌==◌, ℕ, ◌+◌, ◌<◌, ◌≤◌, Bool, false, IsErr, IsTrue};
 ghost use Rattle.sector_disk.specs.Disk.{Disk, Image};
 
 use crate::device::count_failure;
@@ -18,15 +18,24 @@ pub struct Tearing<D> {
 }
 
 impl<D: SectorDevice> Tearing<D> {
-    ghost use Rattle.sector_disk.specs.Tearing.{torn_device_of};
+    ghost use Rattle.std.specs.Prelude.{◌^◌, ◌-◌, min};
+    ghost use Rattle.sector_disk.specs.Tearing.{torn_device_of, tears_at, torn_bytes};
 
     /// Fails the `k`-th call, counted from 1. A write that is failed leaves the bytes `torn`.
     pub fn once(device: D, k: u64, torn: [u8; 512]) -> Self
         requires { 1 ≤ k }
         ensures device { torn_device_of result ≡ device }
+        ensures fails { (j : ℕ) → tears_at result j ≡ (j == k) }
+        ensures torn { torn_bytes result ≡ torn }
+
+        // So it holds what the device holds, and keeps the disk model where that does.
         ensures disk { ⟦<Tearing<D> as SectorDevice>⟧.disk result ≡ D.disk device }
         ensures model { ⟦<Tearing<D> as SectorDevice>⟧.keeps_model result ≡ D.keeps_model device }
         ensures sectors { ⟦<Tearing<D> as SectorDevice>⟧.sector_count result ≡ D.sector_count device }
+
+        // Its own calls are counted from 0, and its failures on from those of the device.
+        ensures counts { ⟦<Tearing<D> as SectorDevice>⟧.counts result ≡ record { reads = 0; writes = 0; syncs = 0 } }
+        ensures failures { ⟦<Tearing<D> as SectorDevice>⟧.failures result ≡ min (D.failures device) (2 ^ 64 - 1) }
     {
         Tearing {
             device,
@@ -50,7 +59,11 @@ impl<D: SectorDevice> Tearing<D> {
 }
 
 impl<D: SectorDevice> SectorDevice for Tearing<D> {
-    ghost use Rattle.std.specs.Prelude.{◌^◌, ◌-◌, min};
+    ghost use Rattle.std.specs.Prelude.{OnOk, OnErr, ◌^◌, ◌-◌, min};
+    ghost use Rattle.sector_disk.specs.Counting.{CountsFailure, with_read, with_write, with_sync};
+    ghost use Rattle.sector_disk.specs.Disk.{MayWrite, SettlesNothing, settled, written};
+    ghost use Rattle.sector_disk.specs.Fused.{GoesOn};
+    ghost use Rattle.sector_disk.specs.Tearing.{torn_device_of, tears_at, torn_bytes};
 
     ghost sector_count = { λ f. D.sector_count f.device };
 
@@ -79,7 +92,26 @@ impl<D: SectorDevice> SectorDevice for Tearing<D> {
         self.device.sectors()
     }
 
-    fn read(&mut self, k: u32, out: &mut [u8; 512]) -> Result<(), DeviceFault> {
+    fn read(&mut self, k: u32, out: &mut [u8; 512]) -> Result<(), DeviceFault>
+        requires { k < D.sector_count (torn_device_of self.old) }
+        // The fuse lets the call through, or fails it and passes nothing on.
+        ensures fails { IsTrue (tears_at self.old 1) → IsErr result }
+        ensures untouched { IsTrue (tears_at self.old 1) → torn_device_of self.new ≡ torn_device_of self.old }
+        ensures passes { tears_at self.old 1 ≡ false
+            → D.counts (torn_device_of self.new) ≡ with_read (D.counts (torn_device_of self.old)) }
+        ensures blames { tears_at self.old 1 ≡ false
+            → CountsFailure (D.failures (torn_device_of self.old)) (D.failures (torn_device_of self.new)) result }
+        ensures further { (j : ℕ) → 1 ≤ j → tears_at self.new j ≡ tears_at self.old (j + 1) }
+        ensures torn { torn_bytes self.new ≡ torn_bytes self.old }
+
+        // As for every device.
+        ensures bytes { IsTrue (D.keeps_model (torn_device_of self.old))
+            → OnOk result (out.new ≡ (D.disk (torn_device_of self.old)).content k) }
+        ensures disk { IsTrue (D.keeps_model (torn_device_of self.old))
+            → D.disk (torn_device_of self.new) ≡ D.disk (torn_device_of self.old) }
+        ensures goes_on { GoesOn ⟦<Tearing<D> as SectorDevice>⟧ self.old self.new result }
+        ensures counts { let n = ⟦<Tearing<D> as SectorDevice>⟧.counts in n self.new ≡ with_read (n self.old) }
+    {
         self.counts.count_read();
         match self.fuse.burn() {
             Ok(()) => self.device.read(k, out),
@@ -87,7 +119,28 @@ impl<D: SectorDevice> SectorDevice for Tearing<D> {
         }
     }
 
-    fn write(&mut self, k: u32, bytes: &[u8; 512]) -> Result<(), DeviceFault> {
+    fn write(&mut self, k: u32, bytes: &[u8; 512]) -> Result<(), DeviceFault>
+        requires { k < D.sector_count (torn_device_of self.old) }
+        // The fuse lets the call through, or fails it and has the other bytes written.
+        ensures fails { IsTrue (tears_at self.old 1) → IsErr result }
+        ensures tears { IsTrue (tears_at self.old 1) → IsTrue (D.keeps_model (torn_device_of self.old))
+            → D.failures (torn_device_of self.new) ≡ D.failures (torn_device_of self.old)
+            → D.failures (torn_device_of self.old) < 2 ^ 64 - 1
+            → D.disk (torn_device_of self.new) ≡ written (D.disk (torn_device_of self.old)) k (torn_bytes self.old) }
+        ensures passes { D.counts (torn_device_of self.new) ≡ with_write (D.counts (torn_device_of self.old)) }
+        ensures blames { tears_at self.old 1 ≡ false
+            → CountsFailure (D.failures (torn_device_of self.old)) (D.failures (torn_device_of self.new)) result }
+        ensures further { (j : ℕ) → 1 ≤ j → tears_at self.new j ≡ tears_at self.old (j + 1) }
+        ensures torn { torn_bytes self.new ≡ torn_bytes self.old }
+
+        // As for every device.
+        ensures ok { IsTrue (D.keeps_model (torn_device_of self.old))
+            → OnOk result (D.disk (torn_device_of self.new) ≡ written (D.disk (torn_device_of self.old)) k bytes.now) }
+        ensures err { IsTrue (D.keeps_model (torn_device_of self.old))
+            → OnErr result (MayWrite k (D.disk (torn_device_of self.old)) (D.disk (torn_device_of self.new))) }
+        ensures goes_on { GoesOn ⟦<Tearing<D> as SectorDevice>⟧ self.old self.new result }
+        ensures counts { let n = ⟦<Tearing<D> as SectorDevice>⟧.counts in n self.new ≡ with_write (n self.old) }
+    {
         self.counts.count_write();
         match self.fuse.burn() {
             Ok(()) => self.device.write(k, bytes),
@@ -99,7 +152,25 @@ impl<D: SectorDevice> SectorDevice for Tearing<D> {
         }
     }
 
-    fn sync(&mut self) -> Result<(), DeviceFault> {
+    fn sync(&mut self) -> Result<(), DeviceFault>
+        // The fuse lets the call through, or fails it and passes nothing on.
+        ensures fails { IsTrue (tears_at self.old 1) → IsErr result }
+        ensures untouched { IsTrue (tears_at self.old 1) → torn_device_of self.new ≡ torn_device_of self.old }
+        ensures passes { tears_at self.old 1 ≡ false
+            → D.counts (torn_device_of self.new) ≡ with_sync (D.counts (torn_device_of self.old)) }
+        ensures blames { tears_at self.old 1 ≡ false
+            → CountsFailure (D.failures (torn_device_of self.old)) (D.failures (torn_device_of self.new)) result }
+        ensures further { (j : ℕ) → 1 ≤ j → tears_at self.new j ≡ tears_at self.old (j + 1) }
+        ensures torn { torn_bytes self.new ≡ torn_bytes self.old }
+
+        // As for every device.
+        ensures ok { IsTrue (D.keeps_model (torn_device_of self.old))
+            → OnOk result (D.disk (torn_device_of self.new) ≡ settled (D.disk (torn_device_of self.old))) }
+        ensures err { IsTrue (D.keeps_model (torn_device_of self.old))
+            → OnErr result (SettlesNothing (D.disk (torn_device_of self.old)) (D.disk (torn_device_of self.new))) }
+        ensures goes_on { GoesOn ⟦<Tearing<D> as SectorDevice>⟧ self.old self.new result }
+        ensures counts { let n = ⟦<Tearing<D> as SectorDevice>⟧.counts in n self.new ≡ with_sync (n self.old) }
+    {
         self.counts.count_sync();
         match self.fuse.burn() {
             Ok(()) => self.device.sync(),
