@@ -43,3 +43,4 @@ pub mod Building
 pub mod Expecting
 pub mod Holding
 pub mod Popping
+pub mod Clearing

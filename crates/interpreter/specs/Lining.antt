@@ -12,7 +12,7 @@ use Rattle.interpreter.specs.Deeds.{Deed, before, after, Fits, mended}
 use Rattle.interpreter.specs.Law.{Grows}
 use Rattle.interpreter.specs.Lines as lines
 use Rattle.interpreter.specs.Lines.{Ended}
-use Rattle.interpreter.specs.Promise.{HasRisenBy, CountsDevice}
+use Rattle.interpreter.specs.Promise.{HasRisenBy, CountsDevice, OnRefused, IsCleared}
 use Rattle.interpreter.specs.State as lines_state
 use Rattle.interpreter.specs.State.{World, Run, with_run}
 use Rattle.interpreter.specs.Stops.{fault_of}
@@ -79,6 +79,14 @@ module _ {D : Type 0} {G : Ghosts D} where
     pub budget : opening.budget ≡ forth.budget
     pub same_core : SameStackAndSpace opening.core forth
     pub rests : Rests forth opening.world
+
+  -- between two lines it stands for a state as a fault leaves one
+  abbrev pub Cleared : Forth D G → Type 0
+  Cleared forth = (closing : lines_state.Forth) × Waits closing forth × IsCleared closing
+
+  -- so it does where the line ended in a fault, or the terminal failed
+  abbrev pub Clears : LineEnd → Forth D G → Type 0
+  Clears e forth = OnRefused (line_end e) (Cleared forth)
 
   -- the system stands for this abstract Forth
   pub record IsSystem (forth : Forth D G) (state : lines_state.Forth) : Type 0 where

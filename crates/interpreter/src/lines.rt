@@ -58,7 +58,7 @@ impl<D: SectorDevice> Forth<D> {
     ghost use Rattle.interpreter.specs.Lines.{replied, ended, after_fault, end_of_line, at_rest, dropped, with_empty_stack, with_line, line};
     ghost use Rattle.interpreter.specs.State.{World, Forth as Abstract, with_run};
     ghost use Rattle.interpreter.specs.Standing.{core, device, Rests, IsAtRest, Stands};
-    ghost use Rattle.interpreter.specs.Lining.{Lined, LastsLine, line_end, SameStackAndSpace, SameSpace, Waits, IsSystem, is_broken, Counts};
+    ghost use Rattle.interpreter.specs.Lining.{Lined, LastsLine, line_end, SameStackAndSpace, SameSpace, Waits, IsSystem, Cleared, Clears, is_broken, Counts};
     ghost use Rattle.block_words.specs.Words.{Save};
     ghost use Rattle.interpreter.specs.Promise.{Answers, Keeps};
     ghost use Rattle.interpreter.specs.Serving.{Spares};
@@ -67,7 +67,9 @@ impl<D: SectorDevice> Forth<D> {
     fn close(&mut self)
         ensures closes { (x : World) → Rests self.old x → Rests self.new (dropped x) }
         ensures space { (c : Core) → SameSpace c self.old → SameSpace (at_rest c) self.new }
+        ensures size { length self.new.space ≡ 65536 }
         ensures stack { self.new.stack ≡ self.old.stack }
+        ensures steps { self.new.steps ≡ self.old.steps }
         ensures spares { Spares self.old self.new }
         ensures budget { self.new.budget ≡ self.old.budget }
     {
@@ -80,6 +82,8 @@ impl<D: SectorDevice> Forth<D> {
     fn abandon(&mut self)
         ensures closes { (x : World) → Rests self.old x → Rests self.new (dropped x) }
         ensures same_core { (c : Core) → SameSpace c self.old → SameStackAndSpace (with_empty_stack (at_rest c)) self.new }
+        ensures clears { (x : World) → Rests self.old x → Cleared self.new }
+        ensures steps { self.new.steps ≡ self.old.steps }
         ensures spares { Spares self.old self.new }
         ensures budget { self.new.budget ≡ self.old.budget }
     {
@@ -96,6 +100,8 @@ impl<D: SectorDevice> Forth<D> {
         ensures lasts { LastsLine D.SectorDevice T.Terminal result (device self.old) (device self.new) terminal.old terminal.new }
         ensures tells { D.failures (device self.new) ≡ D.failures (device self.old) }
         ensures counts { (before after : ℕ) → Counts end before after → Counts result before after }
+        ensures clears { Clears end self.old → (x : World) → Rests self.old x → Clears result self.new }
+        ensures steps { self.new.steps ≡ self.old.steps }
         ensures budget { self.new.budget ≡ self.old.budget }
     {
         match terminal.emit(bytes) {
@@ -115,6 +121,8 @@ impl<D: SectorDevice> Forth<D> {
         ensures lasts { LastsLine D.SectorDevice T.Terminal result (device self.old) (device self.new) terminal.old terminal.new }
         ensures tells { D.failures (device self.new) ≡ D.failures (device self.old) }
         ensures counts { (count : ℕ) → Counts result count (fault_count fault count) }
+        ensures clears { (x : World) → Rests self.old x → Clears result self.new }
+        ensures steps { self.new.steps ≡ self.old.steps }
         ensures budget { self.new.budget ≡ self.old.budget }
     {
         self.abandon();
@@ -130,6 +138,8 @@ impl<D: SectorDevice> Forth<D> {
         ensures lasts { LastsLine D.SectorDevice T.Terminal result (device self.old) (device self.new) terminal.old terminal.new }
         ensures tells { D.failures (device self.new) ≡ D.failures (device self.old) }
         ensures counts { (count : ℕ) → Counts result count count }
+        ensures clears { (x : World) → Rests self.old x → Clears result self.new }
+        ensures steps { self.new.steps ≡ self.old.steps }
         ensures budget { self.new.budget ≡ self.old.budget }
     {
         self.close();
@@ -144,6 +154,8 @@ impl<D: SectorDevice> Forth<D> {
         ensures lasts { LastsLine D.SectorDevice T.Terminal result (device self.old) (device self.new) terminal.old terminal.new }
         ensures tells { D.failures (device self.new) ≡ D.failures (device self.old) }
         ensures counts { (count : ℕ) → Counts result count count }
+        ensures clears { (x : World) → Rests self.old x → Clears result self.new }
+        ensures steps { self.new.steps ≡ self.old.steps }
         ensures budget { self.new.budget ≡ self.old.budget }
     {
         self.abandon();
@@ -165,6 +177,8 @@ impl<D: SectorDevice> Forth<D> {
         ensures lasts { LastsLine D.SectorDevice T.Terminal result (device self.old) (device self.new) terminal.old terminal.new }
         ensures tells { D.failures (device self.new) ≡ D.failures (device self.old) }
         ensures counts { (count : ℕ) → Counts result count count }
+        ensures clears { (x : World) → Rests self.old x → Clears result self.new }
+        ensures steps { self.new.steps ≡ self.old.steps }
         ensures budget { self.new.budget ≡ self.old.budget }
     {
         if self.is_compiling() {
@@ -177,6 +191,7 @@ impl<D: SectorDevice> Forth<D> {
     /// Puts the line into the text input buffer.
     fn take_line(&mut self, text: &[u8])
         requires short { length text.now ≤ 1024 }
+        requires whole { self.old.steps ≡ self.old.budget }
         ensures stands { (x : World) → Rests self.old x → Stands self.new [] x }
         ensures taken { (c : Core) → SameStackAndSpace c self.old → core self.new ≡ with_line text.now self.old.budget c }
         ensures steps { self.new.steps ≡ self.old.budget }
@@ -186,7 +201,6 @@ impl<D: SectorDevice> Forth<D> {
     {
         self.machine = Machine::new();
         self.returns.clear();
-        self.steps = self.budget;
         self.space.set_bytes(TIB, text);
         self.space.set_cell(TIB_COUNT, text.len() as u16);
         self.space.set_cell(TO_IN, 0);
@@ -205,6 +219,9 @@ impl<D: SectorDevice> Forth<D> {
             × Keeps D.SectorDevice opening closing (device self.old) (device self.new) made }
         ensures lasts { LastsLine D.SectorDevice T.Terminal result (device self.old) (device self.new) terminal.old terminal.new }
         ensures tells { Counts result (D.failures (device self.old)) (D.failures (device self.new)) }
+        ensures clears { Clears result self.new }
+        ensures budget { self.new.budget ≡ self.old.budget }
+        ensures spends { self.new.steps ≤ self.new.budget }
     {
         self.line(text, terminal)
     }
@@ -217,9 +234,12 @@ impl<D: SectorDevice> Forth<D> {
             result false self.old self.new terminal.old terminal.new opening.world }
         ensures lasts { LastsLine D.SectorDevice T.Terminal result (device self.old) (device self.new) terminal.old terminal.new }
         ensures tells { Counts result (D.failures (device self.old)) (D.failures (device self.new)) }
+        ensures clears { Clears result self.new }
         ensures budget { self.new.budget ≡ self.old.budget }
+        ensures spends { self.new.steps ≤ self.new.budget }
     {
         self.at_end = false;
+        self.steps = self.budget;
         if text.len() > LINE_LIMIT {
             return self.fail(Fault::LineLength, terminal);
         }

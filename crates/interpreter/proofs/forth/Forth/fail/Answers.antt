@@ -18,3 +18,6 @@ returns-clause-lined g c = λ d x space rests.
 
 pub returns-clause-counts : goal.returns-clause-counts
 returns-clause-counts g c = λ count. c.say.ensures.counts count (fault_count c.args.fault count) (fault_counts c.args.fault count)
+
+pub returns-clause-clears : goal.returns-clause-clears
+returns-clause-clears g c = λ x rests. c.say.ensures.clears (c.abandon.ensures.clears x rests) (dropped x) (c.abandon.ensures.closes x rests)

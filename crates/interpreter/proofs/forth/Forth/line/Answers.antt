@@ -103,3 +103,64 @@ pub returns-in-Err-Io-clause-tells : goal.returns-in-Err-Io-clause-tells
 returns-in-Err-Io-clause-tells g c =
     let told = rw c.in-Err-Io.field-0-is at c.in-Err-Io.ensures.tells in
     inl (same_count g.D.SectorDevice c.abandon.ensures.spares.device ∙ told ∙ same_count g.D.SectorDevice c.take_line.ensures.device)
+
+pub returns-then-text-gt-LINE_LIMIT-clause-clears : goal.returns-then-text-gt-LINE_LIMIT-clause-clears
+returns-then-text-gt-LINE_LIMIT-clause-clears g c = c.fail.ensures.clears c.requires.sound.0 c.requires.sound.1
+
+pub returns-in-Ok-clause-clears : goal.returns-in-Ok-clause-clears
+returns-in-Ok-clause-clears g c =
+    let h = c.in-Ok.ensures.ran (suc c.args.self.now.budget) [] c.requires.sound.0 (omega (arith, c.take_line.ensures.steps)) (c.take_line.ensures.stands c.requires.sound.0 c.requires.sound.1) in
+    c.finish.ensures.clears h.world h.stands.rests
+
+pub returns-in-Ok-clause-spends : goal.returns-in-Ok-clause-spends
+returns-in-Ok-clause-spends g c =
+    let h = c.in-Ok.ensures.ran (suc c.args.self.now.budget) [] c.requires.sound.0 (omega (arith, c.take_line.ensures.steps)) (c.take_line.ensures.stands c.requires.sound.0 c.requires.sound.1) in
+    omega (arith, h.steps, c.take_line.ensures.steps, c.finish.ensures.steps, c.take_line.ensures.budget, c.in-Ok.ensures.budget, c.finish.ensures.budget)
+
+pub returns-in-Err-Fault-clause-clears : goal.returns-in-Err-Fault-clause-clears
+returns-in-Err-Fault-clause-clears g c =
+    let ran = rw c.in-Err-Fault.field-0-is at c.in-Err-Fault.ensures.ran in
+    let h = ran (suc c.args.self.now.budget) [] c.requires.sound.0 (omega (arith, c.take_line.ensures.steps)) (c.take_line.ensures.stands c.requires.sound.0 c.requires.sound.1) in
+    c.fail-in-Err-Fault.ensures.clears h.world h.stands
+
+pub returns-in-Err-Fault-clause-spends : goal.returns-in-Err-Fault-clause-spends
+returns-in-Err-Fault-clause-spends g c =
+    let ran = rw c.in-Err-Fault.field-0-is at c.in-Err-Fault.ensures.ran in
+    let h = ran (suc c.args.self.now.budget) [] c.requires.sound.0 (omega (arith, c.take_line.ensures.steps)) (c.take_line.ensures.stands c.requires.sound.0 c.requires.sound.1) in
+    omega (arith, h.steps, c.take_line.ensures.steps, c.fail-in-Err-Fault.ensures.steps, c.take_line.ensures.budget, c.in-Err-Fault.ensures.budget, c.fail-in-Err-Fault.ensures.budget)
+
+pub returns-in-Err-Quit-clause-clears : goal.returns-in-Err-Quit-clause-clears
+returns-in-Err-Quit-clause-clears g c =
+    let ran = rw c.in-Err-Quit.field-0-is at c.in-Err-Quit.ensures.ran in
+    let h = ran (suc c.args.self.now.budget) [] c.requires.sound.0 (omega (arith, c.take_line.ensures.steps)) (c.take_line.ensures.stands c.requires.sound.0 c.requires.sound.1) in
+    c.quit.ensures.clears h.world h.stands
+
+pub returns-in-Err-Quit-clause-spends : goal.returns-in-Err-Quit-clause-spends
+returns-in-Err-Quit-clause-spends g c =
+    let ran = rw c.in-Err-Quit.field-0-is at c.in-Err-Quit.ensures.ran in
+    let h = ran (suc c.args.self.now.budget) [] c.requires.sound.0 (omega (arith, c.take_line.ensures.steps)) (c.take_line.ensures.stands c.requires.sound.0 c.requires.sound.1) in
+    omega (arith, h.steps, c.take_line.ensures.steps, c.quit.ensures.steps, c.take_line.ensures.budget, c.in-Err-Quit.ensures.budget, c.quit.ensures.budget)
+
+pub returns-in-Err-Abort-clause-clears : goal.returns-in-Err-Abort-clause-clears
+returns-in-Err-Abort-clause-clears g c =
+    let ran = rw c.in-Err-Abort.field-0-is at c.in-Err-Abort.ensures.ran in
+    let h = ran (suc c.args.self.now.budget) [] c.requires.sound.0 (omega (arith, c.take_line.ensures.steps)) (c.take_line.ensures.stands c.requires.sound.0 c.requires.sound.1) in
+    c.abort.ensures.clears h.world h.stands
+
+pub returns-in-Err-Abort-clause-spends : goal.returns-in-Err-Abort-clause-spends
+returns-in-Err-Abort-clause-spends g c =
+    let ran = rw c.in-Err-Abort.field-0-is at c.in-Err-Abort.ensures.ran in
+    let h = ran (suc c.args.self.now.budget) [] c.requires.sound.0 (omega (arith, c.take_line.ensures.steps)) (c.take_line.ensures.stands c.requires.sound.0 c.requires.sound.1) in
+    omega (arith, h.steps, c.take_line.ensures.steps, c.abort.ensures.steps, c.take_line.ensures.budget, c.in-Err-Abort.ensures.budget, c.abort.ensures.budget)
+
+pub returns-in-Err-Io-clause-clears : goal.returns-in-Err-Io-clause-clears
+returns-in-Err-Io-clause-clears g c =
+    let ran = rw c.in-Err-Io.field-0-is at c.in-Err-Io.ensures.ran in
+    let h = ran (suc c.args.self.now.budget) [] c.requires.sound.0 (omega (arith, c.take_line.ensures.steps)) (c.take_line.ensures.stands c.requires.sound.0 c.requires.sound.1) in
+    c.abandon.ensures.clears h.world h.stands
+
+pub returns-in-Err-Io-clause-spends : goal.returns-in-Err-Io-clause-spends
+returns-in-Err-Io-clause-spends g c =
+    let ran = rw c.in-Err-Io.field-0-is at c.in-Err-Io.ensures.ran in
+    let h = ran (suc c.args.self.now.budget) [] c.requires.sound.0 (omega (arith, c.take_line.ensures.steps)) (c.take_line.ensures.stands c.requires.sound.0 c.requires.sound.1) in
+    omega (arith, h.steps, c.take_line.ensures.steps, c.abandon.ensures.steps, c.take_line.ensures.budget, c.in-Err-Io.ensures.budget, c.abandon.ensures.spares.budget)

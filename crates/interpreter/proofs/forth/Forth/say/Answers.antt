@@ -15,3 +15,6 @@ returns-in-Err-clause-lined g c = λ d x same_core rests.
 
 pub returns-in-Err-clause-counts : goal.returns-in-Err-clause-counts
 returns-in-Err-clause-counts g c = λ before after h. cut_counts c.args.end before after h
+
+pub returns-in-Err-clause-clears : goal.returns-in-Err-clause-clears
+returns-in-Err-clause-clears g c = λ before x rests. c.abandon.ensures.clears x rests
