@@ -15,7 +15,6 @@ fn size_quotient(n: u32, by: u32) -> i32
 }
 
 /// The quotient rounded down.
-#[tactic(auto, using(crate::proofs::Floors::both_up, crate::proofs::Floors::divisor_down, crate::proofs::Floors::dividend_down, crate::proofs::Floors::both_down))]
 #[inline(always)]
 fn quotient(n: i32, by: i32) -> i32
     requires nonzero { by ≢ pos 0 }

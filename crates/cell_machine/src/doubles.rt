@@ -116,7 +116,6 @@ fn divide_double(low: u16, high: u16, by: u16) -> Result<(u16, u16), Event>
 
 impl Operands {
     /// `/`
-    #[tactic(auto, using(crate::proofs::Deeds::short, crate::proofs::Wides::quotient_did, crate::proofs::Wides::quotient_none))]
     #[inline(always)]
     pub fn divide(&mut self, places: &mut [u16], budget: &mut u32) -> Result<(), Event>
         requires sized { length places.old ≡ 257 }
@@ -135,7 +134,6 @@ impl Operands {
     }
 
     /// `MOD`
-    #[tactic(auto, using(crate::proofs::Deeds::short, crate::proofs::Wides::remainder_did, crate::proofs::Wides::remainder_none))]
     #[inline(always)]
     pub fn remainder(&mut self, places: &mut [u16], budget: &mut u32) -> Result<(), Event>
         requires sized { length places.old ≡ 257 }
@@ -154,7 +152,6 @@ impl Operands {
     }
 
     /// `/MOD`
-    #[tactic(auto, using(crate::proofs::Deeds::short, crate::proofs::Wides::both_did, crate::proofs::Wides::both_none))]
     #[inline(always)]
     pub fn divide_both(&mut self, places: &mut [u16], budget: &mut u32) -> Result<(), Event>
         requires sized { length places.old ≡ 257 }
@@ -173,7 +170,6 @@ impl Operands {
     }
 
     /// `*/`
-    #[tactic(auto, using(crate::proofs::Deeds::short, crate::proofs::Wides::scaled_did, crate::proofs::Wides::scaled_none))]
     #[inline(always)]
     pub fn scale(&mut self, places: &mut [u16], budget: &mut u32) -> Result<(), Event>
         requires sized { length places.old ≡ 257 }
@@ -192,7 +188,6 @@ impl Operands {
     }
 
     /// `*/MOD`
-    #[tactic(auto, using(crate::proofs::Deeds::short, crate::proofs::Wides::scaled_both_did, crate::proofs::Wides::scaled_both_none))]
     #[inline(always)]
     pub fn scale_both(&mut self, places: &mut [u16], budget: &mut u32) -> Result<(), Event>
         requires sized { length places.old ≡ 257 }
@@ -212,7 +207,6 @@ impl Operands {
     }
 
     /// `UM/MOD`
-    #[tactic(auto, using(crate::proofs::Deeds::short, crate::proofs::Wides::unsigned_did, crate::proofs::Wides::unsigned_none))]
     #[inline(always)]
     pub fn divide_unsigned(&mut self, places: &mut [u16], budget: &mut u32) -> Result<(), Event>
         requires sized { length places.old ≡ 257 }
@@ -232,7 +226,6 @@ impl Operands {
     }
 
     /// `UM*`
-    #[tactic(auto, using(crate::proofs::Deeds::short, crate::proofs::Wides::product_did))]
     #[inline(always)]
     pub fn multiply_wide(&mut self, places: &mut [u16], budget: &mut u32) -> Result<(), Event>
         requires sized { length places.old ≡ 257 }
@@ -251,7 +244,6 @@ impl Operands {
     }
 
     /// `DNEGATE`
-    #[tactic(auto, using(crate::proofs::Deeds::short, crate::proofs::Wides::negate_did))]
     #[inline(always)]
     pub fn negate_wide(&mut self, places: &mut [u16], budget: &mut u32) -> Result<(), Event>
         requires sized { length places.old ≡ 257 }
@@ -270,7 +262,6 @@ impl Operands {
     }
 
     /// `D+`
-    #[tactic(auto, using(crate::proofs::Deeds::short, crate::proofs::Wides::add_did))]
     #[inline(always)]
     pub fn add_wide(&mut self, places: &mut [u16], budget: &mut u32) -> Result<(), Event>
         requires sized { length places.old ≡ 257 }
@@ -292,7 +283,6 @@ impl Operands {
     }
 
     /// `D<`
-    #[tactic(auto, using(crate::proofs::Deeds::short, crate::proofs::Wides::less_did))]
     #[inline(always)]
     pub fn less_wide(&mut self, places: &mut [u16], budget: &mut u32) -> Result<(), Event>
         requires sized { length places.old ≡ 257 }

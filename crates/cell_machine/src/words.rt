@@ -1,7 +1,7 @@
 //! The words that the machine does by itself, each named by what it does.
 
 /// ( w1 -- w2 )
-#[derive(Clone, Copy, Debug, PartialEq, Eq)]
+#[derive(Clone, Copy)]
 pub enum Unary {
     OneMore,
     OneLess,
@@ -17,7 +17,7 @@ pub enum Unary {
 }
 
 /// ( w1 w2 -- w3 )
-#[derive(Clone, Copy, Debug, PartialEq, Eq)]
+#[derive(Clone, Copy)]
 pub enum Binary {
     Add,
     Subtract,
@@ -34,7 +34,7 @@ pub enum Binary {
 }
 
 /// A word on the cells of the data stack.
-#[derive(Clone, Copy, Debug, PartialEq, Eq)]
+#[derive(Clone, Copy)]
 pub enum Shuffle {
     Dup,
     Drop,
@@ -45,7 +45,7 @@ pub enum Shuffle {
 }
 
 /// A word on data space.
-#[derive(Clone, Copy, Debug, PartialEq, Eq)]
+#[derive(Clone, Copy)]
 pub enum Store {
     Fetch,
     Set,
@@ -55,7 +55,7 @@ pub enum Store {
 }
 
 /// A frequent word, which the loop does where it stands. It leaves alone what is put aside.
-#[derive(Clone, Copy, Debug, PartialEq, Eq)]
+#[derive(Clone, Copy)]
 pub enum Frequent {
     One(Unary),
     Two(Binary),

@@ -1,0 +1,10 @@
+use Rattle.std.proofs.Common.{arith}
+use Rattle.cell_machine.proofs.Deeds.{short}
+use Rattle.cell_machine.proofs.Wides.{less_did}
+use Rattle.cell_machine.proofs.operands.Operands.less_wide.Goals as goal
+
+pub returns-in_err-begin-clause-ended : goal.returns-in_err-begin-clause-ended
+returns-in_err-begin-clause-ended c = grind (arith, short)
+
+pub returns-clause-did : goal.returns-clause-did
+returns-clause-did c = grind (arith, less_did)
