@@ -17,9 +17,10 @@ if [ "${1:-}" = --check ]; then
     fresh=$(mktemp -d)
     trap 'rm -rf "$fresh"' EXIT
     copy_to "$fresh"
+    status=0
     for page in $pages; do
-        diff -r "$data/$page" "$fresh/$page"
+        diff -r "$data/$page" "$fresh/$page" || status=1
     done
-    exit
+    exit "$status"
 fi
 copy_to "$data"

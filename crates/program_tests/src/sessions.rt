@@ -2,7 +2,7 @@
 ghost use Rattle.std.specs.Prelude.{◌<◌};
 
 use super::streams::{Ended, Failing, Fitful, Listener, Narrow, Patient};
-use super::support::{run, transcript};
+use super::support::run;
 use std::cell::Cell;
 use std::process::Abort;
 use std::test::Fail;
@@ -23,56 +23,6 @@ fn check(
     assert_eq!(rt; written.as_slice(), output);
     assert!(rt; reader.is_empty());
     Ok(())
-}
-
-/// Lines, and their replies.
-const REPLIES: &str = "\
-> 1 2 + .
-3  ok
-> 65535 . 1. . .
--1 0 1  ok
-> 65536
- ? NUMBER
-> -.
- ? UNDEFINED
-> 1 . FOO
-1  ? UNDEFINED
-> 1 2
- ok
-> . .
-2 1  ok
-> : SQUARE DUP * ;
- ok
-> 7 SQUARE . 2 SQUARE .
-49 4  ok
-> : COUNTED 0 DO I .
-> LOOP ;
-
- ok
-> 3 COUNTED
-0 1 2  ok
-> CREATE CELLS 4 ALLOT 5 CELLS ! CELLS @ .
-5  ok
-> 1 BLOCK 1024 65 FILL UPDATE 2 BLOCK DROP 1 BLOCK C@ .
-65  ok
-> 1 LOAD
- ? UNDEFINED
-> 32 LOAD
- ? NO BLOCK
-> KEY EMIT
-A ok
-> A1 .
-1  ok
-> : OPENED DO ;
- ? UNBALANCED
-> .
- ? STACK EMPTY
-";
-
-#[test]
-fn replies(rt: HostRuntime) -> Result<(), Fail> {
-    let (input, output) = transcript(&rt, REPLIES)?;
-    check(&rt, 1_000_000, input.as_slice(), output.as_slice())
 }
 
 /// Inputs, and what is written, one in a row.
@@ -97,12 +47,6 @@ fn lines_are_cut(rt: HostRuntime) -> Result<(), Fail> {
         check(&rt, 1_000_000, input.as_bytes(), output.as_bytes())?;
     }
     Ok(())
-}
-
-#[test]
-fn steps(rt: HostRuntime) -> Result<(), Fail> {
-    check(&rt, 3, b"1 .\n", b"1  ok\n")?;
-    check(&rt, 2, b"1 .\n1 1 1\n", b" ? STEPS\n ? STEPS\n")
 }
 
 #[test]
