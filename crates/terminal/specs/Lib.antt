@@ -8,3 +8,4 @@ pub mod Commands
 pub mod CommandRows
 pub mod InMemory
 pub mod Failures
+pub mod Held

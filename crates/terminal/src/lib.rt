@@ -9,6 +9,7 @@ pub use serving::run_over;
 pub use session::run;
 pub use starting::start;
 
+mod byte_reader;
 mod cut;
 mod failure;
 mod images;

@@ -1,9 +1,10 @@
 //! The program as it is started: its words, its streams, its status.
+use super::byte_reader::ByteReader;
 use super::program::command;
 use interpreter::promise::Lines;
 use sector_disk::{FileDisk, MemoryDisk};
 use std::fs::{File, Files};
-use std::io::{BufReader, BufWriter, ErrorKind, Read, Write};
+use std::io::{BufWriter, ErrorKind, Read, Write};
 use std::os::fd::AsRawFd;
 use std::rt::Env;
 use std::{env, io};
@@ -45,7 +46,7 @@ fn serve<F: Lines<FileDisk>, M: Lines<MemoryDisk>, R: Read + Drop, W: Write + Dr
 ) -> io::Result<u8> {
     let _taken = [taken_stream(rt)?, taken_stream(rt)?, taken_stream(rt)?];
     let words: Vec<String> = env::args(rt)?.collect(rt.alloc())?;
-    let mut input = BufReader::new(rt.alloc(), input)?;
+    let mut input = ByteReader::new(input);
     let mut output = BufWriter::new(rt.alloc(), output)?;
     let status = command::<F, M, _, _, _, _>(rt, words.as_slice(), &mut input, &mut output, errors);
     Ok(status)
