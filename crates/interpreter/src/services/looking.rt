@@ -114,11 +114,11 @@ impl<D: SectorDevice> Forth<D> {
         ensures whole { IfOk result (λ l. length (take l.count self.new.text) ≡ l.count) }
         ensures tells { Tells fault_count result self.old self.new }
     {
-        let mut text = [0; 1024];
-        match self.blocks.source(&self.space, block, &mut text) {
-            Ok(()) => {
+        match self.blocks.find_text(block) {
+            Ok(place) => {
                 let to_in = cell_of(&self.space, TO_IN);
-                let (count, behind) = keep(cut, &text, to_in, delimiter, &mut self.text);
+                let text = self.blocks.text(&self.space, place);
+                let (count, behind) = keep(cut, text, to_in, delimiter, &mut self.text);
                 Ok(Look { count, behind })
             }
             Err(fault) => Err(block_fault(fault)),

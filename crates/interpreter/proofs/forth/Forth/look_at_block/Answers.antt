@@ -1,6 +1,7 @@
 use Rattle.std.proofs.Common.{◌-◌, ℕ, List, [], Ok, Err, refl, ap, sym, ◌∙◌, arith, length, drop}
 use Rattle.interpreter.specs.Taken.{cut_of, after_cut}
 use Rattle.block_words.specs.Words.{source}
+use Rattle.block_words.specs.Uses.{text_at}
 use Rattle.cell_machine.specs.Fault.{Faults}
 use Rattle.cell_machine.specs.Value.{Ends}
 use Rattle.interpreter.specs.State.{with_run}
@@ -13,11 +14,11 @@ use Rattle.interpreter.proofs.forth.Forth.look_at_block.Goals as goal
 pub returns-in-Ok-clause-hands : goal.returns-in-Ok-clause-hands
 returns-in-Ok-clause-hands g c = λ levels x stands.
     let old = c.args.self.now in
-    let text = c.source.new.out in
-    let h = called g.D.SectorDevice (source c.args.block) (Ok text) (λ m. []) old.blocks c.source.new.self old.space old.space
-    c.in-Ok.ensures.runs (λ m shut. refl) (tells_left {A = Unit {0}} (Ok tt) text _ _ c.in-Ok.ensures.asks.failures) c.in-Ok.ensures.asks.continues.model stands.rests in
-    let word = c.keep-count.ensures.taken ∙ ap (λ n. cut_of c.args.cut c.args.delimiter (drop n text)) c.cell_of-to_in.ensures in
-    let behind = c.keep-count.ensures.moved ∙ ap (λ n. length text - length (after_cut c.args.cut c.args.delimiter (drop n text))) c.cell_of-to_in.ensures in
+    let text = text_at c.in-Ok.place c.find_text.new.self.store old.space in
+    let h = called g.D.SectorDevice (source c.args.block) (Ok text) (λ m. []) old.blocks c.find_text.new.self old.space old.space
+    (λ m. c.in-Ok.ensures.runs m old.space) (λ m shut. refl) (tells_left {A = Unit {0}} (Ok tt) text _ _ c.in-Ok.ensures.asks.failures) c.in-Ok.ensures.asks.continues.model stands.rests in
+    let word = c.keep-count.ensures.taken ∙ (λ t. cut_of c.args.cut c.args.delimiter (drop (c.cell_of-to_in.ensures t) (c.text-text.ensures.text t))) in
+    let behind = c.keep-count.ensures.moved ∙ (λ t. length (c.text-text.ensures.text t) - length (after_cut c.args.cut c.args.delimiter (drop (c.cell_of-to_in.ensures t) (c.text-text.ensures.text t)))) in
     record {
       answers = h.answers;
       failures = 0;
@@ -38,8 +39,8 @@ returns-in-Ok-clause-hands g c = λ levels x stands.
 pub returns-in-Err-clause-hands : goal.returns-in-Err-clause-hands
 returns-in-Err-clause-hands g c = λ levels x stands.
     let old = c.args.self.now in
-    let h = called g.D.SectorDevice (source c.args.block) (Err c.in-Err.fault) (λ m. []) old.blocks c.source.new.self old.space old.space
-    c.in-Err.ensures.runs (λ m shut. refl) (tells_left {A = Unit {0}} (Err c.in-Err.fault) c.source.new.out _ _ c.in-Err.ensures.asks.failures) c.in-Err.ensures.asks.continues.model stands.rests in
+    let h = called g.D.SectorDevice (source c.args.block) (Err c.in-Err.fault) (λ m. []) old.blocks c.find_text.new.self old.space old.space
+    (λ m. c.in-Err.ensures.runs m old.space) (λ m shut. refl) (tells_left {A = Unit {0}} (Err c.in-Err.fault) [] _ _ c.in-Err.ensures.asks.failures) c.in-Err.ensures.asks.continues.model stands.rests in
     record {
       answers = h.answers;
       failures = failed {A = List ℕ} (Err c.in-Err.fault);
