@@ -12,20 +12,20 @@ fn reply_of(k: u64) -> usize {
     match k {
         ..=12 => 2,
         13..=33 => 4,
-        34..=76 => 6,
-        77..=88 => 8,
+        34..=68 => 6,
+        69..=80 => 8,
         _ => 10,
     }
 }
 
 /// Is call `k` made by a spill or a commit?
 fn closes(k: u64) -> bool {
-    matches!(k, 11..=33 | 52..=74 | 87..=88)
+    matches!(k, 11..=33 | 44..=66 | 79..=80)
 }
 
 /// Does call `k` come after the gate of a save was written?
 fn comes_after_gate(k: u64) -> bool {
-    matches!(k, 22..=33 | 63..=74)
+    matches!(k, 22..=33 | 55..=66)
 }
 
 /// Replies that end so.
@@ -35,7 +35,7 @@ fn count(replies: &str, end: &str) -> usize {
 
 #[test]
 fn each_device_call_fails(rt: HostRuntime) -> Result<(), Fail> {
-    for k in 1..92 {
+    for k in 1..84 {
         for for_good in [false, true] {
             let store = failing(image(&rt)?, k, for_good)?;
             let mut written: Vec<u8> = Vec::new(rt.alloc());
@@ -49,7 +49,7 @@ fn each_device_call_fails(rt: HostRuntime) -> Result<(), Fail> {
                 Some(told.saved)
             };
             assert_eq!(rt; Some(found(disk.into_device())?), wanted, "call {k}");
-            if k == 91 {
+            if k == 83 {
                 assert_eq!(rt; replies, REPLIES);
                 continue;
             }
@@ -91,7 +91,7 @@ fn each_write_is_torn(rt: HostRuntime) -> Result<(), Fail> {
     let mut gate = [0xee; 512];
     gate[..8].copy_from_slice(b"COMMIT83");
     for torn in [[0xee; 512], gate] {
-        for k in 1..92 {
+        for k in 1..84 {
             let mut written: Vec<u8> = Vec::new(rt.alloc());
             let store = tearing(&rt, k, torn)?;
             let (disk, end) = play(&rt, store, &mut LINES.as_bytes(), &mut written)?;
@@ -99,7 +99,7 @@ fn each_write_is_torn(rt: HostRuntime) -> Result<(), Fail> {
             let replies = str::from_utf8(written.as_slice())?;
             assert_eq!(rt;
                 count(replies, "DEVICE"),
-                if k < 91 { 1 } else { 0 },
+                if k < 83 { 1 } else { 0 },
                 "call {k}"
             );
             let told = heard(replies);
