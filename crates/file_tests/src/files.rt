@@ -47,7 +47,7 @@ fn the_largest_image_has_each_sector_at_its_place(rt: HostRuntime) -> Result<(),
     let mut disk = FileDisk::create(&rt, path, MOST_SECTORS)?;
     let made = fs::metadata(&rt, path)?;
     assert_eq!(rt; made.len(), 7_865_856);
-    assert!(rt; made.blocks() * 512 >= made.len());
+    assert!(rt; made.blocks() >= 15_363);
     assert!(rt; fs::read(&rt, path)?.iter().all(|byte| *byte == 0));
     for k in 0..MOST_SECTORS {
         put(&mut disk, k, &numbered(k))?;
