@@ -1,0 +1,35 @@
+#!/bin/sh
+# Proves the program and all that it stands on, from a fresh clone: the crates that don't stand on each other side by side, the
+# long ones with four jobs. It leaves the program as crates/forth83/out/forth83. What is built already is taken as it is.
+cd "$(dirname "$0")/crates" || exit 1
+
+# A crate whose libraries are built is read once, as it is proved: so they come lowest first, each by a call of its own.
+prove() {
+    jobs=$1
+    shift
+    for crate; do
+        mkdir -p "$crate/out"
+        if ! (cd "$crate" && rt lib --jobs "$jobs" > out/build.log 2>&1); then
+            echo "$crate is not proved: crates/$crate/out/build.log says why" >&2
+            return 1
+        fi
+        echo "$crate is proved"
+    done
+}
+
+# Two calls over one crate wait for each other: these three share none.
+prove 2 stacks data_space cell_machine compiler &
+machine=$!
+prove 1 sector_disk journal recovery &
+disk=$!
+prove 1 number_io block_buffers dictionary &
+parts=$!
+failed=0
+for lane in $machine $disk $parts; do
+    wait "$lane" || failed=1
+done
+[ $failed = 0 ] || exit 1
+
+# Lexicon and block_words share data_space, and each fills the cores but for its end.
+prove 4 lexicon block_words interpreter terminal || exit 1
+cd forth83 && rt run --jobs 4 < /dev/null
