@@ -52,6 +52,34 @@ compared "a word from standard input" words empty 400000 word
 } > numbers
 compared "numbers printed" numbers empty 200000 number
 
+# ---- the same with many words defined, and these words looked up and compiled
+# N: definitions of so many words that do nothing
+defined() {
+    awk -v n="$1" 'BEGIN { for (i = 0; i < n; i++) printf ": W%d ;\n", i }'
+}
+# N LINES: so many lines of ten of N words, each line with words from another place on
+lines_of_words() {
+    awk -v n="$1" -v lines="$2" 'BEGIN {
+        for (i = 0; i < lines; i++) {
+            line = ""
+            for (j = 0; j < 10; j++) line = line "W" (i * 7919 + j * 613) % n " "
+            print line
+        }
+    }'
+}
+for names in 800 3900; do
+    defined "$names" > "defined.$names"
+    { cat "defined.$names" lines; } > "lines.$names"
+    compared "200,000 lines 1 2 + . beside $names words" "lines.$names" "defined.$names" 200000 line
+    { cat "defined.$names" words; } > "words.$names"
+    compared "a word from standard input beside $names" "words.$names" "defined.$names" 400000 word
+    { cat "defined.$names"; lines_of_words "$names" 40000; } > "found.$names"
+    compared "one of $names words looked up" "found.$names" "defined.$names" 400000 word
+    { cat "defined.$names"; echo ': ALL'; lines_of_words "$names" 2500; echo ';'; } > "compiled.$names"
+    compared "one of $names words compiled" "compiled.$names" "defined.$names" 25000 word
+    compared "$names definitions" "defined.$names" empty "$names" definition
+done
+
 # ---- a hundred full blocks, of 288 words each
 awk 'BEGIN { for (i = 0; i < 16; i++) print "1 DROP 2 DROP 3 DROP 4 DROP 5 DROP 6 DROP 7 DROP 8 DROP 12 DROP " }' > screen
 for block in $(seq 100 199); do "$program" put image "$block" screen; done
@@ -59,6 +87,8 @@ echo ': ALL 200 100 DO I LOAD LOOP ; ALL' > load
 saved=$others
 others=
 compared "LOAD of 100 full blocks" load empty 100 block
+{ cat "defined.3900" load; } > load.3900
+compared "LOAD of 100 full blocks beside 3900 words" load.3900 defined.3900 100 block
 others=$saved
 
 # ---- the four programs
