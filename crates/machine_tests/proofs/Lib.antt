@@ -1,4 +1,3 @@
 pub mod Sound
-pub mod Running
 pub mod Callees
 pub mod Enters

@@ -3,7 +3,6 @@
 ghost use Rattle.std.specs.Prelude.{◌≡◌, ◌==◌, if◌then◌else◌, slice_index};
 ghost use Rattle.cell_machine.specs.declared.calls.Called.{Called as GivenCalled};
 
-use crate::reading::numbers;
 use cell_machine::calls::{Called, Calls};
 use cell_machine::code::Code;
 use cell_machine::event::{Event, MachineFault, Op, Work};
@@ -208,11 +207,11 @@ fn run_whole(alloc: Global, word: u16, steps: u32) -> Result<Ran, Fail> {
     })
 }
 
-/// Whether a word takes just these steps, ends so at first and is done at last, and leaves these cells, the top last.
+/// Whether a word takes just these steps, ends so at first and is done at last, and leaves these cells, the top first.
 fn leaves(alloc: Global, word: u16, steps: u32, first: Event, cells: &str) -> Result<bool, Fail> {
     let mut ran = run_whole(alloc, word, steps)?;
-    for cell in numbers(cells)?.iter().rev() {
-        if ran.stack.pop()? != *cell {
+    for cell in cells.split(" ") {
+        if ran.stack.pop()? != cell.parse::<u16>()? {
             return Ok(false);
         }
     }
@@ -222,9 +221,9 @@ fn leaves(alloc: Global, word: u16, steps: u32, first: Event, cells: &str) -> Re
 // words with their steps, how they end at first, and what they leave; a part finds its data address, and a word that isn't
 // known is left to the caller, and what is left of the body is done after it
 const LEAVES: [(u16, u32, Event, &str); 3] = [
-    (133, 4, Event::Done, "7 1281"),
+    (133, 4, Event::Done, "1281 7"),
     (135, 2, Event::Done, "1281"),
-    (136, 6, Event::Service(Op::Word(140)), "7 1281"),
+    (136, 6, Event::Service(Op::Word(140)), "1281 7"),
 ];
 
 #[test]

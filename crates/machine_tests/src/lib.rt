@@ -1,4 +1,4 @@
-//! Tests of the machine and of the compiler, by their public calls alone.
+//! Tests of the machine and of the compiler by calls that no line of Forth makes.
 #![tactic(auto)]
 
 #[cfg(test)]
@@ -6,8 +6,10 @@ mod calls;
 #[cfg(test)]
 mod cells;
 #[cfg(test)]
-mod compiled;
+mod entering;
 #[cfg(test)]
-mod reading;
+mod laws;
+#[cfg(test)]
+mod leave;
 #[cfg(test)]
 mod words;

@@ -1,5 +1,0 @@
-use Rattle.compiler.specs.Represents.{IsSound}
-use Rattle.machine_tests.proofs.compiled.support.all_refused.Given as goal
-
-abbrev pub invariant-loop-step : goal.invariant-loop-step
-invariant-loop-step l = IsSound l.compiler l.code
