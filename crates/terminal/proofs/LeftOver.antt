@@ -39,8 +39,7 @@ module _ {D : Type 0} (G : Ghosts D) (fault : RunFault) (opening closing : Forth
     read = tt;
     output = b.output;
     all_saves = b.all_saves;
-    cause = b.cause;
-    wears = b.wears;
+    told = b.told;
   }
 
   -- no known byte is left behind the end of the input

@@ -5,16 +5,13 @@ use Rattle.std.proofs.KnownBytes.{Appends-nil, Appends-trans, Consumes-nil, Cons
 use Rattle.std.proofs.lemmas.Grind.{flat_map-append}
 use Rattle.sector_disk.specs.declared.device.SectorDevice.{Ghosts}
 use Rattle.block_words.specs.Words.{Save}
-use Rattle.block_words.specs.Calls.{WearsAtMost}
-use Rattle.block_words.proofs.Worn.{wears_none}
 use Rattle.interpreter.specs.State.{Forth}
 use Rattle.interpreter.specs.Lines.{Turn}
-use Rattle.interpreter.specs.Promise.{HasRisenBy}
 use Rattle.terminal.specs.declared.run_fault.RunFault.{RunFault}
-use Rattle.terminal.specs.Sessions.{Session, Completes, BreaksOff, output_of, saves_of, failures_of, wear_of}
+use Rattle.terminal.specs.Sessions.{Session, Completes, BreaksOff, Told, output_of, saves_of}
 use Rattle.terminal.specs.Calls.{TurnDone}
 use Rattle.terminal.proofs.Known.{Consumes-none, empty-parts}
-use Rattle.terminal.proofs.Rising.{failed_then, failed_once, worn_then, worn_once}
+use Rattle.terminal.proofs.Rising.{told_then, told_once}
 
 output_of-append : (ts us : List Turn) → output_of (ts ++ us) ≡ output_of ts ++ output_of us
 output_of-append ts us = flat_map-append (λ t. t.reply) ts us
@@ -29,8 +26,7 @@ pub record SoFar {D : Type 0} (G : Ghosts D) (opening now : Forth) (start left o
   pub read : Consumes start left taken
   pub replies : Appends output written (output_of turns)
   pub saves : made ≡ saves_of turns
-  pub cause : HasRisenBy (failures_of turns) (G.failures before) (G.failures after)
-  pub wears : WearsAtMost G before after (wear_of turns)
+  pub told : Told G before turns after
   pub goes_on : (rest : List ℕ) (more : List Turn) (closing : Forth) → (left ≡ Some [] → rest ≡ []) → Session now rest more closing
       → Session opening (taken ++ rest) (turns ++ more) closing
 
@@ -41,8 +37,7 @@ so_far_none G opening start output before = record {
   read = Consumes-nil start;
   replies = Appends-nil output;
   saves = refl;
-  cause = refl;
-  wears = wears_none G before;
+  told = refl;
   goes_on = λ rest more closing follows session. session;
 }
 
@@ -60,8 +55,7 @@ module _ {D : Type 0} (G : Ghosts D) (opening now next : Forth) (start left left
     replies = subst (λ l. Appends output written' l) (ap (λ l. output_of so_far.turns ++ l) (sym (append-nil done.turn.reply)) ∙ sym (output_of-append so_far.turns (done.turn ∷ [])))
         (Appends-trans output written written' (output_of so_far.turns) done.turn.reply so_far.replies done.reply);
     saves = ap (λ l. l ++ more) so_far.saves ∙ ap (λ l. saves_of so_far.turns ++ l) (done.saves ∙ sym (append-nil done.turn.saves)) ∙ sym (saves_of-append so_far.turns (done.turn ∷ []));
-    cause = failed_then so_far.turns (done.turn ∷ []) (G.failures before) (G.failures mid) (G.failures after) so_far.cause (failed_once done.turn (G.failures mid) (G.failures after) done.cause);
-    wears = worn_then G so_far.turns (done.turn ∷ []) before mid after so_far.wears (worn_once G done.turn mid after done.wears);
+    told = told_then G so_far.turns (done.turn ∷ []) before mid after so_far.told (told_once G done.turn mid after done.told);
     goes_on = λ rest turns closing follows session.
         let none : left ≡ Some [] → done.taken ++ rest ≡ [] = λ e.
         let ended = none_taken done.taken done.read e in
@@ -101,10 +95,8 @@ module _ {D : Type 0} (G : Ghosts D) (opening now next : Forth) (start left left
             (Appends-trans output written written' (output_of so_far.turns) (output_of cut.turns ++ cut.printed) so_far.replies cut.output);
         all_saves = ap (λ l. l ++ more) so_far.saves ∙ ap (λ l. saves_of so_far.turns ++ l) cut.all_saves
             ∙ sym (append_assoc (saves_of so_far.turns) (saves_of cut.turns) cut.begun) ∙ ap (λ l. l ++ cut.begun) (sym (saves_of-append so_far.turns cut.turns));
-        cause = subst (λ ts. HasRisenBy (failures_of ts) (G.failures before) (G.failures after)) (sym (append_assoc so_far.turns cut.turns cut.last))
-            (failed_then so_far.turns (cut.turns ++ cut.last) (G.failures before) (G.failures mid) (G.failures after) so_far.cause cut.cause);
-        wears = subst (λ ts. WearsAtMost G before after (wear_of ts)) (sym (append_assoc so_far.turns cut.turns cut.last))
-            (worn_then G so_far.turns (cut.turns ++ cut.last) before mid after so_far.wears cut.wears);
+        told = subst (λ ts. Told G before ts after) (sym (append_assoc so_far.turns cut.turns cut.last))
+            (told_then G so_far.turns (cut.turns ++ cut.last) before mid after so_far.told cut.told);
       }
 
 pub so_far_end : {D : Type 0} (G : Ghosts D) (opening now : Forth) (start left left' output written written' : Option (List ℕ)) (before after : D) (made : List Save)
@@ -121,6 +113,5 @@ so_far_end G opening now start left left' output written written' before after m
   end = subst (λ l. IsAtEnd l) (sym end) refl;
   output = subst (λ o. Appends output o (output_of so_far.turns)) (sym silent) so_far.replies;
   saves = so_far.saves;
-  cause = so_far.cause;
-  wears = so_far.wears;
+  told = so_far.told;
 }

@@ -5,9 +5,10 @@ use Rattle.std.specs.Io.BufRead.{strip_last}
 use Rattle.std.specs.Io.KnownBytes.{Consumes, Appends, Keeps}
 use Rattle.std.proofs.KnownBytes.{Appends-nil}
 use Rattle.sector_disk.specs.Counting.{count_up}
+use Rattle.sector_disk.specs.Moments.{Elapses}
+use Rattle.sector_disk.proofs.Moments.{elapses_refl}
 use Rattle.sector_disk.specs.declared.device.SectorDevice.{Ghosts}
 use Rattle.block_words.specs.Words.{Save}
-use Rattle.block_words.proofs.Worn.{wears_none}
 use Rattle.interpreter.specs.State.{Forth}
 use Rattle.interpreter.specs.Lines.{LineEnd, Interpreting, Compiling, Quit, Io, Fails, Turn, Line, Broken, line}
 use Rattle.interpreter.specs.Promise.{HasRisenBy, Replied, Stopped, Answers, OnIo}
@@ -18,7 +19,7 @@ use Rattle.terminal.specs.Cut.{IsWhole, line_text}
 use Rattle.terminal.specs.Calls.{ReadsPart, TurnDone}
 use Rattle.terminal.specs.Sessions.{FirstTurn, BreaksOff, InReading, InLine, InFlushing}
 use Rattle.terminal.proofs.Known.{Appends-after}
-use Rattle.terminal.proofs.Rising.{failed_once, worn_once}
+use Rattle.terminal.proofs.Rising.{told_once}
 use Rattle.terminal.proofs.Kept.{Kept, TakenLine, taken_line, first_turn, kept_alike, line_alike, broken_alike}
 
 -- ---- how the line ended
@@ -45,7 +46,7 @@ module _ {D : Type 0} (G : Ghosts D) (opening : Forth) (bytes : List ℕ) (closi
 -- ---- the line was read
 
 module _ {D : Type 0} (G : Ghosts D) (long_lines : LongLinesAreAlike) (opening : Forth) (a b c before during written : Option (List ℕ)) (items text : List ℕ) (kept : Kept a b items) (is : text ≡ strip_last 13 items)
-    (same : during ≡ before) (f g : D) (made : List Save) (closing : Forth) where
+    (same : during ≡ before) (f g : D) (made : List Save) (closing : Forth) (time : Elapses G.time G.left_since f g) where
   abbrev bytes : List ℕ
   bytes = kept.0
 
@@ -84,8 +85,7 @@ module _ {D : Type 0} (G : Ghosts D) (long_lines : LongLinesAreAlike) (opening :
         read = t.read;
         output = subst (λ o. Appends o written s.shown) same s.reply;
         all_saves = refl;
-        cause = failed_once s.turn (G.failures f) (G.failures g) s.cause;
-        wears = worn_once G s.turn f g s.wears;
+        told = told_once G s.turn f g (record { time = time; cause = s.cause; wears = s.wears });
       }
 
   module _ (ending : LineEnd) (r : Replied G ending opening text closing b c during written f g made) (d flushed : Option (List ℕ)) (left : d ≡ c) (kept_on : Keeps written flushed) where
@@ -105,8 +105,7 @@ module _ {D : Type 0} (G : Ghosts D) (long_lines : LongLinesAreAlike) (opening :
       read = subst (λ l. Consumes a l taken_r.taken) (sym left) taken_r.read;
       reply = shown;
       saves = r.saves;
-      cause = r.cause;
-      wears = r.wears;
+      told = record { time = time; cause = r.cause; wears = r.wears };
       first = λ rest follows.
           let ends : c ≡ Some [] → rest ≡ [] = λ e. follows (left ∙ e) in
           first_turn opening closing r.turn bytes a c taken_r rest ends (λ ended. ends (r.at_end ended)) whole_line;
@@ -133,8 +132,7 @@ module _ {D : Type 0} (G : Ghosts D) (long_lines : LongLinesAreAlike) (opening :
           read = subst (λ l. Consumes a l taken_r.taken) (sym left) taken_r.read;
           output = shown;
           all_saves = refl;
-          cause = failed_once r.turn (G.failures f) (G.failures g) r.cause;
-          wears = worn_once G r.turn f g r.wears;
+          told = told_once G r.turn f g (record { time = time; cause = r.cause; wears = r.wears });
         }
 
 -- ---- the reader failed in the line
@@ -161,8 +159,7 @@ module _ {D : Type 0} (G : Ghosts D) (total : HasTurn) (opening : Forth) (f : D)
     read = read;
     output = silent;
     all_saves = refl;
-    cause = refl;
-    wears = wears_none G f;
+    told = refl;
   }
   unread_bytes (x ∷ xs) no_feed read =
       let (turn, over, line, none, calm) = total opening (line_text (x ∷ xs)) in
@@ -195,8 +192,12 @@ module _ {D : Type 0} (G : Ghosts D) (total : HasTurn) (opening : Forth) (f : D)
         read = read;
         output = silent;
         all_saves = refl;
-        cause = failed_once turn (G.failures f) (G.failures f) (subst (λ n. HasRisenBy n (G.failures f) (G.failures f)) (sym calm) refl);
-        wears = worn_once G turn f f (record { few_writes = omega arith; few_syncs = omega arith });
+        told = told_once G turn f f
+            (record {
+              time = elapses_refl G.time G.left_since f;
+              cause = subst (λ n. HasRisenBy n (G.failures f) (G.failures f)) (sym calm) refl;
+              wears = record { few_writes = omega arith; few_syncs = omega arith };
+            });
       }
 
   pub line_unread : (bytes : List ℕ) → ReadsPart a b bytes → BreaksOff G Read opening opening a b before after f f []

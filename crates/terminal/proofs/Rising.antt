@@ -1,38 +1,26 @@
--- How often the device failed in the lines, and how much it began.
-use Rattle.std.proofs.Common.{◌≡◌, ℕ, ◌+◌, List, [], ◌∷◌, ◌++◌, sym, ◌∙◌, ap, subst, arith}
+-- What is told line by line: of lines one after another, and in all.
+use Rattle.std.proofs.Common.{◌≡◌, List, [], ◌∷◌, ◌++◌, refl, sym, ap, subst}
 use Rattle.sector_disk.specs.declared.device.SectorDevice.{Ghosts}
-use Rattle.block_words.specs.Words.{add_wear}
+use Rattle.block_words.specs.Words.{no_wear}
 use Rattle.block_words.specs.Calls.{WearsAtMost}
 use Rattle.block_words.proofs.Counted.{risen_then}
-use Rattle.block_words.proofs.Worn.{none_first, none_more, wear_assoc, wears_then}
+use Rattle.block_words.proofs.Worn.{wears_none, wears_then}
 use Rattle.interpreter.specs.Lines.{Turn}
 use Rattle.interpreter.specs.Promise.{HasRisenBy}
-use Rattle.terminal.specs.Sessions.{failures_of, wear_of}
-
-failures_of-append : (turns more : List Turn) → failures_of (turns ++ more) ≡ failures_of turns + failures_of more
-failures_of-append [] more = omega arith
-failures_of-append (turn ∷ turns) more =
-    let later = failures_of-append turns more in omega (arith, later)
-
-pub failed_then : (turns more : List Turn) (before mid after : ℕ) → HasRisenBy (failures_of turns) before mid
-    → HasRisenBy (failures_of more) mid after → HasRisenBy (failures_of (turns ++ more)) before after
-failed_then turns more before mid after h k =
-    subst (λ n. HasRisenBy n before after) (sym (failures_of-append turns more))
-    (risen_then (failures_of turns) (failures_of more) before mid after h k)
-
-pub failed_once : (turn : Turn) (before after : ℕ) → HasRisenBy turn.failures before after → HasRisenBy (failures_of (turn ∷ [])) before after
-failed_once turn before after h =
-    let same : turn.failures ≡ turn.failures + 0 = omega arith in
-    subst (λ n. HasRisenBy n before after) same h
-
-wear_of-append : (turns more : List Turn) → wear_of (turns ++ more) ≡ add_wear (wear_of turns) (wear_of more)
-wear_of-append [] more = sym (none_first (wear_of more))
-wear_of-append (turn ∷ turns) more = ap (λ w. add_wear turn.wear w) (wear_of-append turns more) ∙ sym (wear_assoc turn.wear (wear_of turns) (wear_of more))
+use Rattle.terminal.specs.Sessions.{LineTold, Told, ToldInAll, failures_of, wear_of}
 
 module _ {D : Type 0} (G : Ghosts D) where
-  pub worn_then : (turns more : List Turn) (old mid new : D) → WearsAtMost G old mid (wear_of turns) → WearsAtMost G mid new (wear_of more) → WearsAtMost G old new (wear_of (turns ++ more))
-  worn_then turns more old mid new h k =
-      subst (λ w. WearsAtMost G old new w) (sym (wear_of-append turns more)) (wears_then G old mid new (wear_of turns) (wear_of more) h k)
+  pub told_then : (turns more : List Turn) (old mid new : D) → Told G old turns mid → Told G mid more new → Told G old (turns ++ more) new
+  told_then [] more old mid new h k = subst (λ d. Told G d more new) h k
+  told_then (turn ∷ turns) more old mid new h k = (h.0, h.1, told_then turns more h.0 mid new h.2 k)
 
-  pub worn_once : (turn : Turn) (old new : D) → WearsAtMost G old new turn.wear → WearsAtMost G old new (wear_of (turn ∷ []))
-  worn_once turn old new h = subst (λ w. WearsAtMost G old new w) (sym (none_more turn.wear)) h
+  pub told_once : (turn : Turn) (old new : D) → LineTold G turn old new → Told G old (turn ∷ []) new
+  told_once turn old new h = (new, h, refl)
+
+  pub told_in_all : ToldInAll G
+  told_in_all old new [] h = (ap G.failures h, subst (λ d. WearsAtMost G old d no_wear) (sym h) (wears_none G old))
+  told_in_all old new (turn ∷ turns) h =
+      let rest = told_in_all h.0 new turns h.2 in (
+        risen_then turn.failures (failures_of turns) (G.failures old) (G.failures h.0) (G.failures new) h.1.cause rest.0,
+        wears_then G old h.0 new turn.wear (wear_of turns) h.1.wears rest.1,
+      )

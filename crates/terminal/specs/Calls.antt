@@ -4,11 +4,9 @@ use Rattle.std.specs.List.{AllByRecursion}
 use Rattle.std.specs.Io.KnownBytes.{Appends, Consumes}
 use Rattle.sector_disk.specs.declared.device.SectorDevice.{Ghosts}
 use Rattle.block_words.specs.Words.{Save}
-use Rattle.block_words.specs.Calls.{WearsAtMost}
 use Rattle.interpreter.specs.State.{Forth}
 use Rattle.interpreter.specs.Lines.{Turn}
-use Rattle.interpreter.specs.Promise.{HasRisenBy}
-use Rattle.terminal.specs.Sessions.{FirstTurn}
+use Rattle.terminal.specs.Sessions.{FirstTurn, LineTold}
 
 -- the bytes of a line were read, with its line feed or up to the end of the input
 pub record ReadsLine (input left : Option (List ℕ)) (bytes : List ℕ) : Type 0 where
@@ -27,6 +25,5 @@ pub record TurnDone {D : Type 0} (G : Ghosts D) (opening closing : Forth) (input
   pub read : Consumes input left taken
   pub reply : Appends output written turn.reply
   pub saves : made ≡ turn.saves
-  pub cause : HasRisenBy turn.failures (G.failures old) (G.failures new)
-  pub wears : WearsAtMost G old new turn.wear
+  pub told : LineTold G turn old new
   pub first : (rest : List ℕ) → (left ≡ Some [] → rest ≡ []) → FirstTurn opening (taken ++ rest) turn rest closing

@@ -2,6 +2,7 @@
 use Rattle.std.specs.Prelude.{◌≡◌, ◌≢◌, ℕ, ◌+◌, true, List, [], ◌∷◌, ◌++◌, length, Option}
 use Rattle.std.specs.List.{AllByRecursion, flat_map}
 use Rattle.std.specs.Io.KnownBytes.{Appends, Consumes, IsAtEnd}
+use Rattle.sector_disk.specs.Moments.{Elapses}
 use Rattle.sector_disk.specs.declared.device.SectorDevice.{Ghosts}
 use Rattle.block_words.specs.Words.{Save, Wear, no_wear, add_wear}
 use Rattle.block_words.specs.Calls.{WearsAtMost}
@@ -31,6 +32,17 @@ abbrev pub wear_of : List Turn → Wear
 wear_of [] = no_wear
 wear_of (turn ∷ turns) = add_wear turn.wear (wear_of turns)
 
+-- What the device counts over a line: it failed just as often as its turn says, and began no more than the turn counts.
+pub record LineTold {D : Type 0} (G : Ghosts D) (turn : Turn) (old new : D) : Type 0 where
+  pub time : Elapses G.time G.left_since old new
+  pub cause : HasRisenBy turn.failures (G.failures old) (G.failures new)
+  pub wears : WearsAtMost G old new turn.wear
+
+-- A device between each two lines: what it counts from one to the next is told in the line between them.
+abbrev pub Told : {D : Type 0} → Ghosts D → (old : D) → List Turn → (new : D) → Type 0
+Told G old [] new = new ≡ old
+Told {D} G old (turn ∷ turns) new = (mid : D) × LineTold G turn old mid × Told G mid turns new
+
 -- the first line of the input, and what is left after it: the line may take bytes that follow it
 pub record FirstTurn (opening : Forth) (input : List ℕ) (turn : Turn) (left : List ℕ) (closing : Forth) : Type 0 where
   pub bytes : List ℕ
@@ -55,8 +67,8 @@ Runs {D} {F} G stands device old new P =
     → (closing : Forth) × (made : List Save) × stands new closing
     × Keeps G opening closing (device old) (device new) made × P opening closing made
 
--- The whole input was read, and the output of its session was written. These saves were begun, and the device failed
--- just as often as the session says, and began no more writes and syncs.
+-- The whole input was read, and the output of its session was written. These saves were begun, and what the device counts
+-- was told line by line.
 pub record Completes {D : Type 0} (G : Ghosts D) (opening closing : Forth) (left left' written written' : Option (List ℕ)) (old new : D) (made : List Save) : Type 0 where
   pub input : List ℕ
   pub turns : List Turn
@@ -65,8 +77,7 @@ pub record Completes {D : Type 0} (G : Ghosts D) (opening closing : Forth) (left
   pub end : IsAtEnd left'
   pub output : Appends written written' (output_of turns)
   pub saves : made ≡ saves_of turns
-  pub cause : HasRisenBy (failures_of turns) (G.failures old) (G.failures new)
-  pub wears : WearsAtMost G old new (wear_of turns)
+  pub told : Told G old turns new
 
 -- ---- a run that broke off
 
@@ -125,8 +136,14 @@ pub record BreaksOff {D : Type 0} (G : Ghosts D) (fault : RunFault) (opening clo
   pub read : Consumes left left' (front ++ bytes)
   pub output : Appends written written' (output_of turns ++ printed)
   pub all_saves : made ≡ saves_of turns ++ begun
-  pub cause : HasRisenBy (failures_of (turns ++ last)) (G.failures old) (G.failures new)
-  pub wears : WearsAtMost G old new (wear_of (turns ++ last))
+  pub told : Told G old (turns ++ last) new
+
+-- What is told line by line is told in all: the device failed as often as all turns say together, and began no more than
+-- they count together.
+abbrev pub ToldInAll : {D : Type 0} → Ghosts D → Type 0
+ToldInAll {D} G =
+    (old new : D) (turns : List Turn) → Told G old turns new
+    → HasRisenBy (failures_of turns) (G.failures old) (G.failures new) × WearsAtMost G old new (wear_of turns)
 
 -- each turn ended without DEVICE and MEMORY
 abbrev pub AreCalm : List Turn → Type 0

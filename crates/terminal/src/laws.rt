@@ -2,7 +2,9 @@
 
 ghost use Rattle.terminal.specs.CommandRows.{CommandsAreRead};
 ghost use Rattle.terminal.specs.Playing.{PlayedIsSession};
-ghost use Rattle.terminal.specs.Sessions.{HasOneSession};
+ghost use Rattle.terminal.specs.Sessions.{HasOneSession, ToldInAll};
+
+use sector_disk::SectorDevice;
 
 /// A session that is computed is a session.
 pub fn played()
@@ -12,6 +14,11 @@ pub fn played()
 /// An input has at most one session without `DEVICE` and `MEMORY`, and so at most one output.
 pub fn one_session()
     ensures { HasOneSession }
+{}
+
+/// What a session tells line by line, of failures, writes and syncs of the device, it tells in all.
+pub fn told_in_all<D: SectorDevice>()
+    ensures { ToldInAll D.SectorDevice }
 {}
 
 /// Worked command lines are read, or refused, as they should be.
