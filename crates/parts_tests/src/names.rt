@@ -4,43 +4,16 @@ use dictionary::{Dictionary, DictionaryFault, FORTH, Kind, Token, WORD_LIMIT, is
 use std::process::Abort;
 use std::test::Fail;
 
-// The system words in token order.
-const NAMES: &str =
-    "! * */ */MOD + +! - / /MOD 0< 0= 0> 1+ 1- 2+ 2- 2/ < = > >R ?DUP @ ABS AND C! C@ CMOVE CMOVE> \
-COUNT D+ D< DEPTH DNEGATE DROP DUP EXECUTE EXIT FILL I J MAX MIN MOD NEGATE NOT OR OVER PICK R> R@ ROLL ROT SWAP U< \
-UM* UM/MOD XOR BLOCK BUFFER CR EMIT EXPECT FLUSH KEY SAVE-BUFFERS SPACE SPACES TYPE UPDATE # #> #S #TIB ' ( \
--TRAILING . .( <# >BODY >IN ABORT BASE BLK CONVERT DECIMAL DEFINITIONS FIND FORGET FORTH FORTH-83 HERE HOLD LOAD PAD \
-QUIT SIGN SPAN TIB U. WORD +LOOP , .\" : ; ABORT\" ALLOT BEGIN COMPILE CONSTANT CREATE DO DOES> ELSE IF IMMEDIATE \
-LEAVE LITERAL LOOP REPEAT STATE THEN UNTIL VARIABLE VOCABULARY WHILE [ ['] [COMPILE] ]";
-
-const IMMEDIATE: &str =
-    "( .( .\" ABORT\" ['] ; [ LITERAL [COMPILE] IF ELSE THEN BEGIN UNTIL WHILE REPEAT DO LOOP \
-+LOOP LEAVE DOES>";
-
-const COMPILE_ONLY: &str =
-    ">R R> R@ .\" ABORT\" ['] ; LITERAL COMPILE [COMPILE] IF ELSE THEN BEGIN UNTIL WHILE REPEAT \
-DO LOOP +LOOP LEAVE I J EXIT DOES>";
-
-fn lists(names: &str, name: &str) -> bool {
-    names.split(" ").any(|other| other == name)
-}
-
+// Their names and marks are in the texts that `transcripts` follows.
 #[test]
-fn the_system_words_have_their_tokens_and_marks(rt: HostRuntime) -> Result<(), Fail> {
+fn the_system_words_are_primitives_of_forth(rt: HostRuntime) -> Result<(), Fail> {
     let dictionary = Dictionary::new(rt.alloc())?;
-    let mut token: Token = 0;
-    for name in NAMES.split(" ") {
-        assert!(rt; token < 132);
-        token += 1;
-        assert_eq!(rt; dictionary.find(name.as_bytes()), Some(token), "{name}");
+    for token in 1..=132u16 {
         let word = dictionary.entry(token).ok_or("a system word")?;
-        assert!(rt; word.name == name.as_bytes(), "{name}");
-        assert_eq!(rt; word.immediate, lists(IMMEDIATE, name), "{name}");
-        assert_eq!(rt; is_compile_only(token), lists(COMPILE_ONLY, name), "{name}");
-        assert_eq!(rt; (word.vocabulary, word.here), (FORTH, 1280), "{name}");
-        assert!(rt; word.kind == Kind::Primitive, "{name}");
+        assert_eq!(rt; (word.vocabulary, word.here), (FORTH, 1280), "{token}");
+        assert!(rt; word.kind == Kind::Primitive, "{token}");
+        assert_eq!(rt; dictionary.find(word.name), Some(token));
     }
-    assert_eq!(rt; token, 132);
     assert_eq!(rt; dictionary.len(), 132);
     for token in [0, 133, 4096, 65535] {
         assert!(rt; dictionary.entry(token).is_none(), "{token}");
