@@ -76,17 +76,17 @@ const SAVES: [Fillings; 3] = [*b"        ", *b" AB     ", *b" aB   b "];
 fn a_stopped_session_keeps_its_saves(rt: HostRuntime) -> Result<(), Fail> {
     let mut images = Vec::new(rt.alloc());
     let mut most = 0;
-    for k in 1..92 {
+    for k in 1..84 {
         let (told, is_whole, disk) = run_until(&rt, k)?;
         most = most.max(stop(&rt, &disk, told, &mut images)?);
-        // The saves are done by call 33 and by call 74.
+        // The saves are done by call 33 and by call 66.
         let saved = match k {
             ..=33 => SAVES[0],
-            34..=74 => SAVES[1],
+            34..=66 => SAVES[1],
             _ => SAVES[2],
         };
         assert_eq!(rt; told.saved, saved, "before call {k}");
-        assert_eq!(rt; is_whole, k == 91, "before call {k}");
+        assert_eq!(rt; is_whole, k == 83, "before call {k}");
     }
     // Two slots and the record are unsynced together, and in either save each of four home sectors is old, new or torn.
     assert_eq!(rt; (most, images.len()), (243, 162));
