@@ -87,6 +87,14 @@ fn writes_that_the_system_refuses_are_told(rt: HostRuntime) -> Result<(), Fail> 
     Ok(())
 }
 
+/// The bytes from `first` on, up to before `last`; none where there are fewer.
+fn part(bytes: &[u8], first: usize, last: usize) -> &[u8] {
+    match bytes.get(first..last) {
+        Some(part) => part,
+        None => &[],
+    }
+}
+
 /// A save of one block, by the bytes of the file: label, a closed gate, the record, slot and home.
 #[test]
 fn a_save_stands_in_the_file(rt: HostRuntime) -> Result<(), Fail> {
@@ -103,16 +111,16 @@ fn a_save_stands_in_the_file(rt: HostRuntime) -> Result<(), Fail> {
     store.spill(1, &[65; 1024])?;
     store.commit()?;
     drop(store);
-    let bytes = fs::read(&rt, path)?;
+    let file = fs::read(&rt, path)?;
+    let bytes = file.as_slice();
     assert_eq!(rt; bytes.len(), 67_072);
-    let of = |first: usize, last: usize| bytes.as_slice().get(first..last).unwrap_or(&[]);
-    assert!(rt; of(0, 8) == b"F83BLOCK".as_slice());
-    assert!(rt; of(512, 1024) == [0; 512].as_slice());
-    assert!(rt; of(1024, 1025) == [2].as_slice());
-    assert!(rt; of(2560, 3584) == [65; 1024].as_slice());
-    assert!(rt; of(3584, 34_304).iter().all(|byte| *byte == 0));
-    assert!(rt; of(35_328, 36_352) == [65; 1024].as_slice());
-    assert!(rt; of(36_352, 67_072).iter().all(|byte| *byte == 32));
+    assert!(rt; part(bytes, 0, 8) == b"F83BLOCK".as_slice());
+    assert!(rt; part(bytes, 512, 1024) == [0; 512].as_slice());
+    assert!(rt; part(bytes, 1024, 1025) == [2].as_slice());
+    assert!(rt; part(bytes, 2560, 3584) == [65; 1024].as_slice());
+    assert!(rt; part(bytes, 3584, 34_304).iter().all(|byte| *byte == 0));
+    assert!(rt; part(bytes, 35_328, 36_352) == [65; 1024].as_slice());
+    assert!(rt; part(bytes, 36_352, 67_072).iter().all(|byte| *byte == 32));
     fs::remove_dir_all(&rt, folder)?;
     Ok(())
 }
