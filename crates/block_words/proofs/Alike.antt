@@ -7,7 +7,7 @@ use Rattle.block_buffers.specs.declared.Assigned.{Assigned}
 use Rattle.block_buffers.specs.Buffers.{Buffers, assigned, oldest, updated_ones, unmarked, none_assigned}
 use Rattle.block_words.specs.declared.BlockFault.{BlockFault}
 use Rattle.block_words.specs.declared.BlockFault.TheVariants.{NoBlock, NoBuffer, Device, Closed, Memory}
-use Rattle.block_words.specs.Words.{Answer, Well, Failed, Save, Wear, add_wear, worn, spill_wear, commit_wear, pending_number, Blocks, BlockOutcome, Gives, Fails, first_answer, answered, device_call, with_closed, bytes_of, spill, spill_if, spill_oldest, give_buffer, assign, open_store, with_buffer, if_block, is_block, block, buffer, mark_current, update, next_map, spill_each, commit, returned, save_and, save_buffers, flush, source_of, source}
+use Rattle.block_words.specs.Words.{Answer, Well, Failed, Save, Wear, add_wear, worn, read_wear, spill_wear, commit_wear, pending_number, Blocks, BlockOutcome, Gives, Fails, first_answer, answered, device_call, with_closed, bytes_of, spill, spill_if, spill_oldest, give_buffer, assign, open_store, with_buffer, if_block, is_block, block, buffer, mark_current, update, next_map, spill_each, commit, returned, save_and, save_buffers, flush, source_of, source}
 
 -- with the same answers, or with none
 abbrev pub same_or_none : Bool → List Answer → List Answer
@@ -115,7 +115,7 @@ module _ (same : Bool) (R : Wear → List Save → Type 0) (grows : Grows R) whe
   pub block-li : (b : ℕ) (s : Blocks) → R s.wear s.saves → Linked same R (block b s) (block b (other same s))
   block-li b s h =
       if_block-li R R (λ w l h. h) same (is_block s b) s _ h (with_buffer-li (assigned s.buffers.list b) s _ h
-      (device-li R R (λ w l h. h) same s (λ s. assign b (contents s.maps b) s) (λ s. Fails Device s) h (λ t ht. assign-li b _ t ht) (λ t ht. fails Device t ht) (λ t o e. parted Device t o e tt)))
+      (device-li R R (λ w l h. h) same (worn read_wear s) (λ s. assign b (contents s.maps b) s) (λ s. Fails Device s) (grows.wears s.wear read_wear s.saves h) (λ t ht. assign-li b _ t ht) (λ t ht. fails Device t ht) (λ t o e. parted Device t o e tt)))
 
   pub buffer-li : (b : ℕ) (s : Blocks) → R s.wear s.saves → Linked same R (buffer b s) (buffer b (other same s))
   buffer-li b s h = if_block-li R R (λ w l h. h) same (is_block s b) s _ h (with_buffer-li (assigned s.buffers.list b) s _ h (assign-li b (replicate 1024 32) s h))
@@ -131,7 +131,7 @@ module _ (same : Bool) (R : Wear → List Save → Type 0) (grows : Grows R) whe
   source_of-li (Some x) b s h = gives _ _ h
   source_of-li None b s h =
       open-li R R (λ w l h. h) same s.maps.closed s _ h
-      (device-li R R (λ w l h. h) same s (λ s. Gives (contents s.maps b) s) (λ s. Fails Device s) h (λ t ht. gives _ t ht) (λ t ht. fails Device t ht) (λ t o e. parted Device t o e tt))
+      (device-li R R (λ w l h. h) same (worn read_wear s) (λ s. Gives (contents s.maps b) s) (λ s. Fails Device s) (grows.wears s.wear read_wear s.saves h) (λ t ht. gives _ t ht) (λ t ht. fails Device t ht) (λ t o e. parted Device t o e tt))
 
   pub source-li : (b : ℕ) (s : Blocks) → R s.wear s.saves → Linked same R (source b s) (source b (other same s))
   source-li b s h = if_block-li R R (λ w l h. h) same (is_block s b) s _ h (source_of-li (assigned s.buffers.list b) b s h)

@@ -15,11 +15,11 @@ use Rattle.block_buffers.specs.declared.Assigned.{Assigned}
 use Rattle.block_buffers.specs.Buffers.{Buffers, assigned, oldest, slot_for, placed, slot_in, touched_if}
 use Rattle.block_words.specs.declared.BlockFault.{BlockFault}
 use Rattle.block_words.specs.declared.BlockFault.TheVariants.{NoBlock, Device, Closed, Memory}
-use Rattle.block_words.specs.Words.{Answer, Well, Failed, Save, Wear, no_wear, add_wear, spill_wear, Blocks, BlockOutcome, Gives, Fails, spill_if, spill_oldest, open_store, device_call, answered, first_answer, give_buffer, assign, block, buffer, source}
+use Rattle.block_words.specs.Words.{Answer, Well, Failed, Save, Wear, no_wear, add_wear, worn, read_wear, spill_wear, Blocks, BlockOutcome, Gives, Fails, spill_if, spill_oldest, open_store, device_call, answered, first_answer, give_buffer, assign, block, buffer, source}
 use Rattle.block_words.specs.Rooms.{spilled_if, room_made, is_updated, room_wear}
 use Rattle.block_words.specs.Faults.{of_store}
 use Rattle.block_words.specs.Calls.{state, ended, failures_after, WordRuns, WearsAtMost, CallKeeps, CallRuns}
-use Rattle.block_words.proofs.Worn.{none_more, none_first, wears_none, wears_then}
+use Rattle.block_words.proofs.Worn.{none_more, wear_assoc, wears_none, wears_then}
 use Rattle.journal.specs.declared.store.Store.{Store}
 use Rattle.journal.specs.Store.{StandsFor}
 
@@ -112,17 +112,18 @@ module _ (u : ℕ) (m : Maps) (b : Buffers) (sp : List ℕ) where
   }
 
   pub block_closed : nat_lt u (length m.saved) ≡ true → assigned b.list u ≡ None → m.closed ≡ true → WordRuns (block u) (Err Closed) no_wear [] m m b b sp sp
-  block_closed is none shut_now = record { answers = []; same = λ rest f was sv. rw (is, none) (ap (λ t. open_store t (state m b sp rest f was sv) (λ s. device_call s (λ s. assign u (contents s.maps u) s) (λ s. Fails Device s))) shut_now ∙ (λ t. Fails Closed (state m b sp rest f (sym (none_more was) t) (sym (append-nil sv) t)))) }
+  block_closed is none shut_now = record { answers = []; same = λ rest f was sv. rw (is, none) (ap (λ t. open_store t (state m b sp rest f was sv) (λ s. device_call (worn read_wear s) (λ s. assign u (contents s.maps u) s) (λ s. Fails Device s))) shut_now ∙ (λ t. Fails Closed (state m b sp rest f (sym (none_more was) t) (sym (append-nil sv) t)))) }
 
-  pub block_failed : nat_lt u (length m.saved) ≡ true → assigned b.list u ≡ None → m.closed ≡ false → WordRuns (block u) (Err Device) no_wear [] m m b b sp sp
-  block_failed is none is_open = record { answers = Failed ∷ []; same = λ rest f was sv. rw (is, none) (ap (λ t. open_store t (state m b sp (Failed ∷ rest) f was sv) (λ s. device_call s (λ s. assign u (contents s.maps u) s) (λ s. Fails Device s))) is_open ∙ (λ t. Fails Device (state m b sp rest (f + 1) (sym (none_more was) t) (sym (append-nil sv) t)))) }
+  pub block_failed : nat_lt u (length m.saved) ≡ true → assigned b.list u ≡ None → m.closed ≡ false → WordRuns (block u) (Err Device) read_wear [] m m b b sp sp
+  block_failed is none is_open = record { answers = Failed ∷ []; same = λ rest f was sv. rw (is, none) (ap (λ t. open_store t (state m b sp (Failed ∷ rest) f was sv) (λ s. device_call (worn read_wear s) (λ s. assign u (contents s.maps u) s) (λ s. Fails Device s))) is_open ∙ (λ t. Fails Device (state m b sp rest (f + 1) (add_wear was read_wear) (sym (append-nil sv) t)))) }
 
   pub block_read : nat_lt u (length m.saved) ≡ true → assigned b.list u ≡ None → m.closed ≡ false
       → (r : Result ℕ BlockFault) (wear : Wear) (bytes : List ℕ) (m' : Maps) (b' : Buffers) (sp' : List ℕ) → bytes ≡ contents m u
-      → WordRuns (assign u bytes) r wear [] m m' b b' sp sp' → WordRuns (block u) r wear [] m m' b b' sp sp'
+      → WordRuns (assign u bytes) r wear [] m m' b b' sp sp' → WordRuns (block u) r (add_wear read_wear wear) [] m m' b b' sp sp'
   block_read is none is_open r wear bytes m' b' sp' same w = record {
     answers = Well ∷ w.answers;
-    same = λ rest f was sv. rw (is, none) (ap (λ t. open_store t (state m b sp (Well ∷ (w.answers ++ rest)) f was sv) (λ s. device_call s (λ s. assign u (contents s.maps u) s) (λ s. Fails Device s))) is_open ∙ ap (λ x. assign u x (state m b sp (w.answers ++ rest) f was sv)) (sym same) ∙ w.same rest f was sv);
+    same = λ rest f was sv. rw (is, none) (ap (λ t. open_store t (state m b sp (Well ∷ (w.answers ++ rest)) f was sv) (λ s. device_call (worn read_wear s) (λ s. assign u (contents s.maps u) s) (λ s. Fails Device s))) is_open ∙ ap (λ x. assign u x (state m b sp (w.answers ++ rest) f (add_wear was read_wear) sv)) (sym same) ∙ w.same rest f (add_wear was read_wear) sv
+        ∙ (λ t. ended r (state m' b' sp' rest (failures_after r f) (wear_assoc was read_wear wear t) (sv ++ []))));
   }
 
   pub buffer_blank : nat_lt u (length m.saved) ≡ true → assigned b.list u ≡ None → m.closed ≡ false
@@ -145,23 +146,23 @@ module _ (u : ℕ) (m : Maps) (b : Buffers) (sp : List ℕ) (is : nat_lt u (leng
   }
 
   pub source_closed : assigned b.list u ≡ None → m.closed ≡ true → WordRuns (source u) (Err Closed) no_wear [] m m b b sp sp
-  source_closed none shut_now = record { answers = []; same = λ rest f was sv. rw (is, none) (ap (λ t. open_store t (state m b sp rest f was sv) (λ s. device_call s (λ s. Gives (contents s.maps u) s) (λ s. Fails Device s))) shut_now ∙ (λ t. Fails Closed (state m b sp rest f (sym (none_more was) t) (sym (append-nil sv) t)))) }
+  source_closed none shut_now = record { answers = []; same = λ rest f was sv. rw (is, none) (ap (λ t. open_store t (state m b sp rest f was sv) (λ s. device_call (worn read_wear s) (λ s. Gives (contents s.maps u) s) (λ s. Fails Device s))) shut_now ∙ (λ t. Fails Closed (state m b sp rest f (sym (none_more was) t) (sym (append-nil sv) t)))) }
 
   module _ (none : assigned b.list u ≡ None) (is_open : m.closed ≡ false) where
-    pub source_read : (bytes : List ℕ) → bytes ≡ contents m u → WordRuns (source u) (Ok bytes) no_wear [] m m b b sp sp
+    pub source_read : (bytes : List ℕ) → bytes ≡ contents m u → WordRuns (source u) (Ok bytes) read_wear [] m m b b sp sp
     source_read bytes same = record {
       answers = Well ∷ [];
       same = λ rest f was sv.
-          rw (is, none) (ap (λ t. open_store t (state m b sp (Well ∷ rest) f was sv) (λ s. device_call s (λ s. Gives (contents s.maps u) s) (λ s. Fails Device s))) is_open
-          ∙ (λ t. Gives (sym same t) (state m b sp rest f (sym (none_more was) t) (sym (append-nil sv) t))));
+          rw (is, none) (ap (λ t. open_store t (state m b sp (Well ∷ rest) f was sv) (λ s. device_call (worn read_wear s) (λ s. Gives (contents s.maps u) s) (λ s. Fails Device s))) is_open
+          ∙ (λ t. Gives (sym same t) (state m b sp rest f (add_wear was read_wear) (sym (append-nil sv) t))));
     }
 
-    pub source_failed : WordRuns (source u) (Err Device) no_wear [] m m b b sp sp
+    pub source_failed : WordRuns (source u) (Err Device) read_wear [] m m b b sp sp
     source_failed = record {
       answers = Failed ∷ [];
       same = λ rest f was sv.
-          rw (is, none) (ap (λ t. open_store t (state m b sp (Failed ∷ rest) f was sv) (λ s. device_call s (λ s. Gives (contents s.maps u) s) (λ s. Fails Device s))) is_open
-          ∙ (λ t. Fails Device (state m b sp rest (f + 1) (sym (none_more was) t) (sym (append-nil sv) t))));
+          rw (is, none) (ap (λ t. open_store t (state m b sp (Failed ∷ rest) f was sv) (λ s. device_call (worn read_wear s) (λ s. Gives (contents s.maps u) s) (λ s. Fails Device s))) is_open
+          ∙ (λ t. Fails Device (state m b sp rest (f + 1) (add_wear was read_wear) (sym (append-nil sv) t))));
     }
 
 -- a call that leaves the store as it is
@@ -211,17 +212,17 @@ module _ {D : Type 0} (G : Ghosts D) (u : ℕ) (m : Maps) (old new : Store D G) 
     last = w.last;
   }
 
-  pub block_runs : (mid : Store D G) (bytes : List ℕ) → bytes ≡ contents m u → WearsAtMost G old.device mid.device no_wear
+  pub block_runs : (mid : Store D G) (bytes : List ℕ) → bytes ≡ contents m u → WearsAtMost G old.device mid.device read_wear
       → Elapses G.time G.left_since old.device mid.device → Elapses G.time G.left_since mid.device new.device → LeavesOnly G.time G.left_since old.device mid.device (Means m.saved)
       → CallRuns G (assign u bytes) r' [] m mid new b b' sp sp'' → CallRuns G (block u) r [] m old new b b' sp sp'
   block_runs mid bytes same reads first then leaves w = record {
     maps = w.maps;
-    wear = w.wear;
+    wear = add_wear read_wear w.wear;
     runs = block_read u m b sp is none is_open r w.wear bytes w.maps b' sp' same (assign_as w.wear bytes w.maps w.runs);
     stands = w.stands;
     kept = keeps_saved G m.closed old.device new.device m.saved is_open
         (saved_then G old.device mid.device new.device m.saved first then leaves (leaves_saved G m.closed mid.device new.device m.saved is_open w.kept));
-    wears = subst (λ wear. WearsAtMost G old.device new.device wear) (none_first w.wear) (wears_then G old.device mid.device new.device no_wear w.wear reads w.wears);
+    wears = wears_then G old.device mid.device new.device read_wear w.wear reads w.wears;
     shuts = w.shuts;
     last = w.last;
   }
@@ -249,8 +250,8 @@ still_runs G word r m store b b' sp sp' only_now stands h = record {
 pub refused_runs : {A D : Type 0} (G : Ghosts D) (word : Blocks → BlockOutcome A) (fault : StoreFault) (told : BlockFault) (m : Maps) (old new : Store D G) (b : Buffers) (sp : List ℕ)
     → told ≡ of_store fault → ((d : D) (c : Image) → G.left_since d (G.time d) c → MayLeave (G.disk d) c) → StandsFor old m → StandsFor new m
     → (fault ≡ IsClosed → old.closed ≡ true) → (fault ≡ IsClosed → new ≡ old) → (fault ≡ DeviceRefuses → old.closed ≡ false)
-    → (m.closed ≡ true → WordRuns word (Err Closed) no_wear [] m m b b sp sp) → (m.closed ≡ false → WordRuns word (Err Device) no_wear [] m m b b sp sp)
-    → (m.closed ≡ false → LeavesOnly G.time G.left_since old.device new.device (Means m.saved)) → WearsAtMost G old.device new.device no_wear
+    → (m.closed ≡ true → WordRuns word (Err Closed) no_wear [] m m b b sp sp) → (m.closed ≡ false → WordRuns word (Err Device) read_wear [] m m b b sp sp)
+    → (m.closed ≡ false → LeavesOnly G.time G.left_since old.device new.device (Means m.saved)) → WearsAtMost G old.device new.device read_wear
     → CallRuns G word (Err told) [] m old new b b sp sp
 refused_runs {A} {D} G word fault told m old new b sp is only_now was stands shut_before same open_before shut failed leaves wears =
     subst (λ (f : BlockFault). CallRuns G word (Err f) [] m old new b b sp sp) (sym is) (pick fault shut_before same open_before)
@@ -268,7 +269,7 @@ refused_runs {A} {D} G word fault told m old new b sp is only_now was stands shu
     })
     pick DeviceRefuses _ _ before = record {
       maps = m;
-      wear = no_wear;
+      wear = read_wear;
       runs = failed (was.closed ∙ before refl);
       stands = stands;
       kept = keeps_saved G m.closed old.device new.device m.saved (was.closed ∙ before refl) (leaves (was.closed ∙ before refl));

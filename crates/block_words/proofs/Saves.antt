@@ -8,11 +8,11 @@ use Rattle.sector_disk.specs.Moments.{LeavesOnly}
 use Rattle.sector_disk.proofs.Moments.{elapses_then, leaves_then}
 use Rattle.sector_disk.specs.declared.device.SectorDevice.{Ghosts}
 use Rattle.journal.specs.declared.store.Store.{Store}
-use Rattle.journal.specs.Calls.{BeginsAtMost}
+use Rattle.journal.specs.Calls.{BeginsAtMost, ReadsAtMost}
 use Rattle.journal.specs.Images.{Means, slot_of}
 use Rattle.journal.specs.Layout.{listed, count_listed, count_below}
 use Rattle.journal.specs.Maps.{Maps, latest, spilled, committed, shut, any_pending}
-use Rattle.journal.specs.Store.{Continues, StandsFor, KeepsSaved, SavesAllOrNone, is_pending, pending_count, DeviceBegins}
+use Rattle.journal.specs.Store.{Continues, StandsFor, KeepsSaved, SavesAllOrNone, is_pending, pending_count, DeviceBegins, DeviceReads}
 use Rattle.block_words.specs.Parts.{ChangesAllOrNone}
 use Rattle.block_words.specs.Uses.{is_among, is_changed, changed_count}
 use Rattle.data_space.specs.Space.{buffer_bytes}
@@ -224,6 +224,14 @@ saves_then G old mid new b sp first then stands p q = λ m from is_open.
     (q all (stands m from) (spilled_closed (updated_ones b) sp m ∙ is_open)))
     (λ x means. inl means) (λ x means. means)
 
+-- the reads of a commit after spills
+pub save_reads : {D : Type 0} (G : Ghosts D) (old mid new : Store D G) (b : Buffers) → Continues old mid
+    → ((u : ℕ) → is_pending mid u ≡ (is_among (updated_ones b) u || is_pending old u)) → DeviceReads old mid 0
+    → DeviceReads mid new (4 * pending_count mid) → DeviceReads old new (4 * changed_count old b)
+save_reads G old mid new b on pending first then =
+    let same : pending_count mid ≡ changed_count old b = ap (λ n. count_below (is_pending mid) n) on.blocks ∙ count_below_same (is_pending mid) (is_changed old b) old.blocks pending in
+    omega (arith, first, then, same)
+
 -- the writes of a commit after spills
 pub save_begins : {D : Type 0} (G : Ghosts D) (old mid new : Store D G) (b : Buffers) → Continues old mid
     → ((u : ℕ) → is_pending mid u ≡ (is_among (updated_ones b) u || is_pending old u)) → DeviceBegins old mid (2 * length (updated_ones b)) 0
@@ -239,19 +247,21 @@ save_begins G old mid new b on pending first then =
 
 -- it stopped at a spill
 pub unspilled_wears : {D : Type 0} (G : Ghosts D) (old new : D) (before : List Assigned) → BeginsAtMost G old new (2 * length before + 2) 0
-    → WearsAtMost G old new (add_wear (spills_wear before) spill_wear)
-unspilled_wears G old new before h = subst (λ w. WearsAtMost G old new (add_wear w spill_wear)) (sym (spills_counted before)) (record { few_writes = h.few_writes; few_syncs = h.few_syncs })
+    → ReadsAtMost G old new 0 → WearsAtMost G old new (add_wear (spills_wear before) spill_wear)
+unspilled_wears G old new before begins reads =
+    subst (λ w. WearsAtMost G old new (add_wear w spill_wear)) (sym (spills_counted before)) (record { begins = begins; reads = reads })
 
 -- it came to the commit
 module _ {D : Type 0} (G : Ghosts D) (old : D) (mid new : Store D G) (b : Buffers) (all : Maps) (stands : StandsFor mid all) (is_open : mid.closed ≡ false)
-    (first : BeginsAtMost G old mid.device (2 * length (updated_ones b)) 0) (then : DeviceBegins mid new (2 * pending_count mid + 3) 4) where
+    (first : BeginsAtMost G old mid.device (2 * length (updated_ones b)) 0) (first_reads : ReadsAtMost G old mid.device 0)
+    (then : DeviceBegins mid new (2 * pending_count mid + 3) 4) (then_reads : DeviceReads mid new (4 * pending_count mid)) where
   spills : WearsAtMost G old mid.device (spills_wear (updated_ones b))
-  spills = subst (λ w. WearsAtMost G old mid.device w) (sym (spills_counted (updated_ones b))) first
+  spills = subst (λ w. WearsAtMost G old mid.device w) (sym (spills_counted (updated_ones b))) (record { begins = first; reads = first_reads })
 
   pub committed_wears : WearsAtMost G old new.device (add_wear (spills_wear (updated_ones b)) (commit_wear (pending_number all.pending)))
   committed_wears =
       wears_then G old mid.device new.device (spills_wear (updated_ones b)) (commit_wear (pending_number all.pending)) spills
-      (subst (λ n. WearsAtMost G mid.device new.device (commit_wear n)) (sym (pending_same mid all stands is_open)) then)
+      (subst (λ n. WearsAtMost G mid.device new.device (commit_wear n)) (sym (pending_same mid all stands is_open)) (record { begins = then; reads = then_reads }))
 
   pub saved_wears : (pending_count mid ≡ 0 → new.device ≡ mid.device) → WearsAtMost G old new.device (add_wear (spills_wear (updated_ones b)) (commit_wear_if (any_pending all.pending) (pending_number all.pending)))
   saved_wears nothing = pick (any_pending all.pending) refl

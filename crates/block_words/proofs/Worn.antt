@@ -15,27 +15,35 @@ pub none_more : (w : Wear) → add_wear w no_wear ≡ w
 none_more w =
     let writes : w.writes + 0 ≡ w.writes = omega arith in
     let syncs : w.syncs + 0 ≡ w.syncs = omega arith in
-    λ t. record { writes = writes t; syncs = syncs t }
+    let reads : w.reads + 0 ≡ w.reads = omega arith in
+    λ t. record { writes = writes t; syncs = syncs t; reads = reads t }
 
 pub none_first : (w : Wear) → add_wear no_wear w ≡ w
 none_first w =
     let writes : 0 + w.writes ≡ w.writes = omega arith in
     let syncs : 0 + w.syncs ≡ w.syncs = omega arith in
-    λ t. record { writes = writes t; syncs = syncs t }
+    let reads : 0 + w.reads ≡ w.reads = omega arith in
+    λ t. record { writes = writes t; syncs = syncs t; reads = reads t }
 
 pub wear_assoc : (a b c : Wear) → add_wear (add_wear a b) c ≡ add_wear a (add_wear b c)
 wear_assoc a b c =
     let writes : a.writes + b.writes + c.writes ≡ a.writes + (b.writes + c.writes) = omega arith in
     let syncs : a.syncs + b.syncs + c.syncs ≡ a.syncs + (b.syncs + c.syncs) = omega arith in
-    λ t. record { writes = writes t; syncs = syncs t }
+    let reads : a.reads + b.reads + c.reads ≡ a.reads + (b.reads + c.reads) = omega arith in
+    λ t. record { writes = writes t; syncs = syncs t; reads = reads t }
 
 module _ {D : Type 0} (G : Ghosts D) where
   pub wears_none : (d : D) → WearsAtMost G d d no_wear
-  wears_none d = record { few_writes = omega arith; few_syncs = omega arith }
+  wears_none d = record { begins = record { few_writes = omega arith; few_syncs = omega arith }; reads = omega arith }
 
   pub wears_then : (a b d : D) (wear more : Wear) → WearsAtMost G a b wear → WearsAtMost G b d more → WearsAtMost G a d (add_wear wear more)
-  wears_then a b d wear more one two =
-      record { few_writes = omega (arith, one.few_writes, two.few_writes); few_syncs = omega (arith, one.few_syncs, two.few_syncs) }
+  wears_then a b d wear more one two = record {
+    begins = record {
+      few_writes = omega (arith, one.begins.few_writes, two.begins.few_writes);
+      few_syncs = omega (arith, one.begins.few_syncs, two.begins.few_syncs);
+    };
+    reads = omega (arith, one.reads, two.reads);
+  }
 
 -- ---- what a save wears
 
@@ -44,11 +52,11 @@ abbrev pub spills_wear : List Assigned → Wear
 spills_wear [] = no_wear
 spills_wear (x ∷ xs) = add_wear spill_wear (spills_wear xs)
 
-pub spills_counted : (xs : List Assigned) → spills_wear xs ≡ record { writes = 2 * length xs; syncs = 0 }
+pub spills_counted : (xs : List Assigned) → spills_wear xs ≡ record { writes = 2 * length xs; syncs = 0; reads = 0 }
 spills_counted [] = refl
 spills_counted (x ∷ xs) =
     let writes : 2 + 2 * length xs ≡ 2 * suc (length xs) = omega arith in
-    ap (λ w. add_wear spill_wear w) (spills_counted xs) ∙ ap (λ n. record { writes = n; syncs = 0 }) writes
+    ap (λ w. add_wear spill_wear w) (spills_counted xs) ∙ ap (λ n. record { writes = n; syncs = 0; reads = 0 }) writes
 
 -- of a commit, where something is pending
 abbrev pub commit_wear_if : Bool → ℕ → Wear

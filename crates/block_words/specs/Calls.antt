@@ -5,7 +5,7 @@ use Rattle.sector_disk.specs.Disk.{MayLeave}
 use Rattle.sector_disk.specs.Moments.{LeavesOnly}
 use Rattle.sector_disk.specs.declared.device.SectorDevice.{Ghosts}
 use Rattle.journal.specs.declared.store.Store.{Store}
-use Rattle.journal.specs.Calls.{BeginsAtMost}
+use Rattle.journal.specs.Calls.{BeginsAtMost, ReadsAtMost}
 use Rattle.journal.specs.Images.{Means}
 use Rattle.journal.specs.Maps.{Maps}
 use Rattle.journal.specs.Store.{StandsFor}
@@ -52,9 +52,10 @@ pub record WordRuns {A : Type 0} (word : Blocks → BlockOutcome A) (result : Re
       ≡ ended result (state m' buffers' space' rest (failures_after result failures) (add_wear before wear) (saves ++ made))
 
 module _ {D : Type 0} (G : Ghosts D) where
-  -- The device began no more writes and syncs than these.
-  abbrev pub WearsAtMost : (old new : D) → Wear → Type 0
-  WearsAtMost old new wear = BeginsAtMost G old new wear.writes wear.syncs
+  -- The device began no more calls of each kind than these.
+  pub record WearsAtMost (old new : D) (wear : Wear) : Type 0 where
+    pub begins : BeginsAtMost G old new wear.writes wear.syncs
+    pub reads : ReadsAtMost G old new wear.reads
 
   -- An open store keeps its saves from the call's start; a closed one adds nothing to what a stop may leave.
   abbrev pub CallKeeps : (closed : Bool) → (old new : D) → List (List ℕ) → List Save → Type 0

@@ -2,7 +2,7 @@
 use Rattle.std.specs.Prelude.{◌≡◌, ◌⊎◌, ◌↔◌, ◌≤◌, ◌+◌, ◌*◌, ℕ, true, false, List, [], length, Result, IsOk, IsErr, IfErr, OnOk, IsErrOf, IsSome}
 use Rattle.sector_disk.specs.declared.device.SectorDevice.{Ghosts}
 use Rattle.journal.specs.declared.store.Store.{Store}
-use Rattle.journal.specs.Store.{Continues, DeviceBegins, KeepsSaved, is_pending, pending_count}
+use Rattle.journal.specs.Store.{Continues, DeviceBegins, DeviceReads, KeepsSaved, is_pending, pending_count}
 use Rattle.block_buffers.specs.Buffers.{Buffers, slot_of, updated_ones}
 use Rattle.block_words.specs.declared.BlockFault.{BlockFault}
 use Rattle.block_words.specs.declared.BlockFault.TheVariants.{NoBlock, NoBuffer, Device, Closed}
@@ -54,5 +54,7 @@ module _ {D : Type 0} {G : Ghosts D} where
     pub pending : OnOk result ((u : ℕ) → is_pending new u ≡ false)
     -- two writes for each updated buffer, two for each block that is committed, and three for record and gate
     pub begins : DeviceBegins old new (2 * length (updated_ones buffers) + 2 * changed_count old buffers + 3) 4
+    -- the slot of each block that is committed is read twice, for the digest and for its home
+    pub reads : DeviceReads old new (4 * changed_count old buffers)
     -- with nothing to save the device isn't called
     pub nothing : updated_ones buffers ≡ [] → pending_count old ≡ 0 → new.device ≡ old.device

@@ -17,17 +17,19 @@ pub record Save : Type 0 where
   pub map : List (List ℕ)
   pub returned : Bool
 
--- how many writes and syncs the device may have begun at most
+-- how many calls of each kind the device may have begun at most
 pub record Wear : Type 0 where
   pub writes : ℕ
   pub syncs : ℕ
+  pub reads : ℕ
 
 abbrev pub no_wear : Wear
-no_wear = record { writes = 0; syncs = 0 }
+no_wear = record { writes = 0; syncs = 0; reads = 0 }
 
 -- of one thing and then another
 abbrev pub add_wear : Wear → Wear → Wear
-add_wear wear more = record { writes = wear.writes + more.writes; syncs = wear.syncs + more.syncs }
+add_wear wear more =
+    record { writes = wear.writes + more.writes; syncs = wear.syncs + more.syncs; reads = wear.reads + more.reads }
 
 -- store, buffers, data space, what the device will answer, how often it failed, its wear, and the saves so far
 pub record Blocks : Type 0 where
@@ -78,9 +80,13 @@ view_of None s b = contents s.maps b
 abbrev pub view : Blocks → ℕ → List ℕ
 view s b = view_of (assigned s.buffers.list b) s b
 
+-- both halves of a block are read
+abbrev pub read_wear : Wear
+read_wear = record { writes = 0; syncs = 0; reads = 2 }
+
 -- a spill writes both halves of a block
 abbrev pub spill_wear : Wear
-spill_wear = record { writes = 2; syncs = 0 }
+spill_wear = record { writes = 2; syncs = 0; reads = 0 }
 
 -- a spill of one buffer
 abbrev pub spill : {A : Type 0} → Assigned → Blocks → (Blocks → BlockOutcome A) → BlockOutcome A
@@ -131,7 +137,7 @@ is_block s b = nat_lt b (length s.maps.saved)
 abbrev pub block : ℕ → Blocks → BlockOutcome ℕ
 block b s =
     if_block (is_block s b) s (λ s. with_buffer (assigned s.buffers.list b) s (λ s.
-    device_call s (λ s. assign b (contents s.maps b) s) (λ s. Fails Device s)))
+    device_call (worn read_wear s) (λ s. assign b (contents s.maps b) s) (λ s. Fails Device s)))
 
 -- BUFFER
 abbrev pub buffer : ℕ → Blocks → BlockOutcome ℕ
@@ -165,9 +171,10 @@ pending_number [] = 0
 pending_number (Some bytes ∷ pending) = pending_number pending + 1
 pending_number (None ∷ pending) = pending_number pending
 
--- a commit writes each pending block to its home, a record, and the gate twice
+-- a commit writes each pending block to its home, a record, and the gate twice; it reads each of these blocks twice, for
+-- the digest and for the home
 abbrev pub commit_wear : ℕ → Wear
-commit_wear blocks = record { writes = 2 * blocks + 3; syncs = 4 }
+commit_wear blocks = record { writes = 2 * blocks + 3; syncs = 4; reads = 4 * blocks }
 
 -- a commit of nothing makes no call of the device
 abbrev pub commit : Bool → Blocks → (Blocks → BlockOutcome (Unit {0})) → BlockOutcome (Unit {0})
@@ -197,11 +204,13 @@ save_buffers s = save_and unmarked s
 abbrev pub flush : Blocks → BlockOutcome (Unit {0})
 flush s = save_and (λ bs. none_assigned) s
 
--- the text of a block, as it stands, for a taking: neither the list nor its order changes
+-- the text of a block, as it stands, for a taking: neither the list nor its order changes. Where the store still keeps the
+-- text that it read last, the block isn't read again; so what is counted here is no more than a bound.
 abbrev pub source_of : Option Assigned → ℕ → Blocks → BlockOutcome (List ℕ)
 source_of (Some x) b s = Gives (bytes_of s x) s
 source_of None b s =
-    open_store s.maps.closed s (λ s. device_call s (λ s. Gives (contents s.maps b) s) (λ s. Fails Device s))
+    open_store s.maps.closed s (λ s.
+    device_call (worn read_wear s) (λ s. Gives (contents s.maps b) s) (λ s. Fails Device s))
 
 abbrev pub source : ℕ → Blocks → BlockOutcome (List ℕ)
 source b s = if_block (is_block s b) s (λ s. source_of (assigned s.buffers.list b) b s)

@@ -1,7 +1,7 @@
 // A buffer for a block that has none.
 ghost use Rattle.std.specs.Prelude.{◌≡◌, ◌⊎◌, ◌<◌, ◌↔◌, [], None, true, false, replicate, List, ℕ, OnOk, OnErr, IfOk, IfErr, IsErrOf, MatchResult};
 ghost use Rattle.journal.specs.Maps.{Maps, shut};
-ghost use Rattle.journal.specs.Store.{device_of, blocks_of, closed_of, StandsFor, Continues, DeviceFailed, DeviceWentWell, DeviceBegins, KeepsSaved};
+ghost use Rattle.journal.specs.Store.{device_of, blocks_of, closed_of, StandsFor, Continues, DeviceFailed, DeviceWentWell, DeviceBegins, DeviceReads, KeepsSaved};
 ghost use Rattle.data_space.specs.Space.{buffer_at, with_bytes};
 ghost use Rattle.block_buffers.specs.Buffers.{oldest, assigned, slot_for, placed, IsValid};
 ghost use Rattle.block_words.specs.Words.{assign, block, buffer};
@@ -45,6 +45,7 @@ fn make_room<D: SectorDevice>(
     ensures stops { KeepsSaved store.old store.new }
     ensures continues { Continues store.old store.new }
     ensures begins { DeviceBegins store.old store.new 2 0 }
+    ensures reads { DeviceReads store.old store.new 0 }
     ensures wears { WearsAtMost D.SectorDevice (device_of store.old) (device_of store.new)
         (room_wear (is_updated (oldest buffers.now))) }
 {
@@ -85,6 +86,7 @@ fn assign_slot<D: SectorDevice>(
     ensures failures { TellsFailures result store.old store.new }
     ensures continues { Continues store.old store.new }
     ensures begins { DeviceBegins store.old store.new 2 0 }
+    ensures reads { DeviceReads store.old store.new 0 }
 {
     match make_room(store, buffers, space) {
         Ok(()) => match buffers.place(u) {
@@ -141,6 +143,7 @@ pub(crate) fn fetch<D: SectorDevice>(
     ensures pending { OnOk result (PendingOnceReplaced store.old store.new (oldest buffers.old)) }
     ensures continues { Continues store.old store.new }
     ensures begins { DeviceBegins store.old store.new 2 0 }
+    ensures reads { DeviceReads store.old store.new 2 }
 {
     let mut bytes = [0; 1024];
     match store.read_block(u, &mut bytes) {
@@ -180,6 +183,7 @@ pub(crate) fn blank<D: SectorDevice>(
     ensures pending { OnOk result (PendingOnceReplaced store.old store.new (oldest buffers.old)) }
     ensures continues { Continues store.old store.new }
     ensures begins { DeviceBegins store.old store.new 2 0 }
+    ensures reads { DeviceReads store.old store.new 0 }
 {
     if store.is_closed() {
         return Err(BlockFault::Closed);

@@ -2,10 +2,10 @@
 //! of data space, and all edits are saved at once.
 #![tactic(auto)]
 
-ghost use Rattle.std.specs.Prelude.{◌≡◌, ◌↔◌, List, [], ℕ, true, None, Ok, length, is_ok, IfOk, IfErr, OnOk, OnErr, IsErrOf, IsSome, IfSome, MatchResult};
+ghost use Rattle.std.specs.Prelude.{◌≡◌, ◌↔◌, List, [], ℕ, true, Some, None, Ok, length, is_ok, IfOk, IfErr, OnOk, OnErr, IsErrOf, IsSome, IfSome, MatchResult};
 ghost use Rattle.std.proofs.Props.{props};
 ghost use Rattle.journal.specs.Maps.{Maps};
-ghost use Rattle.journal.specs.Store.{blocks_of, closed_of, StandsFor, DeviceBegins, KeepsSaved, SamePending};
+ghost use Rattle.journal.specs.Store.{blocks_of, closed_of, kept_of, StandsFor, DeviceBegins, DeviceReads, KeepsSaved, SamePending};
 ghost use Rattle.data_space.specs.Space.{buffer_at, buffer_bytes};
 ghost use Rattle.block_buffers.specs.Buffers.{slot_of, none_assigned, unmarked, after_mark, IsValid};
 ghost use Rattle.block_words.specs.Words.{block, buffer, update, save_buffers, flush, source, next_map};
@@ -71,7 +71,7 @@ impl From<StoreFault> for BlockFault {
 ///
 /// Contracts speak of the store and of the list of buffers, which is valid at any time (`laws::buffers_are_valid`).
 /// Where the device keeps the disk model, `CallRuns` says that a call is a run of its word, what a stop at any moment of
-/// it leaves, and that the device began no more writes and syncs than the word counts; all other clauses hold over any
+/// it leaves, and that the device began no more calls of each kind than the word counts; all other clauses hold over any
 /// device.
 #[derive(Drop)]
 pub struct Blocks<D: SectorDevice> {
@@ -149,6 +149,7 @@ impl<D: SectorDevice> Blocks<D> {
         ensures pending { OnOk result
             (PendingOnceReplaced (store_of self.old) (store_of self.new) (replaced (buffers_of self.old) u)) }
         ensures begins { DeviceBegins (store_of self.old) (store_of self.new) 2 0 }
+        ensures reads { DeviceReads (store_of self.old) (store_of self.new) 2 }
     {
         // That there is no such block is said also of a closed store.
         if u >= self.store.blocks() {
@@ -177,6 +178,7 @@ impl<D: SectorDevice> Blocks<D> {
         ensures pending { OnOk result
             (PendingOnceReplaced (store_of self.old) (store_of self.new) (replaced (buffers_of self.old) u)) }
         ensures begins { DeviceBegins (store_of self.old) (store_of self.new) 2 0 }
+        ensures reads { DeviceReads (store_of self.old) (store_of self.new) 0 }
     {
         if u >= self.store.blocks() {
             return Err(BlockFault::NoBlock);
@@ -214,6 +216,7 @@ impl<D: SectorDevice> Blocks<D> {
         ensures shuts { closed_of (store_of self.new) ≡ closed_of (store_of self.old) }
         ensures pending { SamePending (store_of self.old) (store_of self.new) }
         ensures begins { DeviceBegins (store_of self.old) (store_of self.new) 0 0 }
+        ensures reads { DeviceReads (store_of self.old) (store_of self.new) 2 }
     {
         match self.find_text(u) {
             Ok(place) => {
@@ -242,6 +245,9 @@ impl<D: SectorDevice> Blocks<D> {
         ensures shuts { closed_of (store_of self.new) ≡ closed_of (store_of self.old) }
         ensures pending { SamePending (store_of self.old) (store_of self.new) }
         ensures begins { DeviceBegins (store_of self.old) (store_of self.new) 0 0 }
+        ensures reads { DeviceReads (store_of self.old) (store_of self.new) 2 }
+        // A text that the store keeps isn't read again.
+        ensures kept { kept_of (store_of self.old) ≡ Some u → store_of self.new ≡ store_of self.old }
     {
         if u >= self.store.blocks() {
             return Err(BlockFault::NoBlock);

@@ -1,7 +1,7 @@
 // Saving all that was updated or spilled.
 ghost use Rattle.std.specs.Prelude.{◌≡◌, ◌*◌, ◌||◌, ℕ, [], true, false, length, is_ok, if◌then◌else◌, OnOk, OnErr, IsOk, IsErrOf};
 ghost use Rattle.journal.specs.Maps.{Maps, shut};
-ghost use Rattle.journal.specs.Store.{blocks_of, closed_of, StandsFor, Continues, DeviceFailed, DeviceWentWell, DeviceBegins, KeepsSaved, is_pending, device_of};
+ghost use Rattle.journal.specs.Store.{blocks_of, closed_of, StandsFor, Continues, DeviceFailed, DeviceWentWell, DeviceBegins, DeviceReads, KeepsSaved, is_pending, device_of};
 ghost use Rattle.block_buffers.specs.Buffers.{Buffers as Held, updated_ones};
 ghost use Rattle.block_words.specs.Words.{all_spilled, next_map, save_and};
 ghost use Rattle.block_words.specs.Promises.{Saves};
@@ -39,6 +39,7 @@ fn spill_updated<D: SectorDevice>(
     ensures pending { OnOk result
         ((u : ℕ) → is_pending store.new u ≡ (is_among (updated_ones buffers.now) u || is_pending store.old u)) }
     ensures begins { DeviceBegins store.old store.new (2 * length (updated_ones buffers.now)) 0 }
+    ensures reads { DeviceReads store.old store.new 0 }
     ensures nothing { updated_ones buffers.now ≡ [] → IsOk result × (device_of store.new ≡ device_of store.old) }
 {
     for updated in buffers.updated().iter() {

@@ -99,7 +99,13 @@ module _ {D T : Type 0} (G : Ghosts D) (H : TerminalGhosts T) (opening : state.F
         begins = begins_then shown (d.printed ++ d.tried) whole.world.run.output front grows.output;
         saves = grows.saves;
         cause = subst (λ n. HasRisenBy n (G.failures old) (G.failures new)) (none_before ∙ sym told) cause;
-        wears = record { few_writes = omega (arith, wears.few_writes, grows.wear.writes); few_syncs = omega (arith, wears.few_syncs, grows.wear.syncs) };
+        wears = record {
+          begins = record {
+            few_writes = omega (arith, wears.begins.few_writes, grows.wear.writes);
+            few_syncs = omega (arith, wears.begins.few_syncs, grows.wear.syncs);
+          };
+          reads = omega (arith, wears.reads, grows.wear.reads);
+        };
         broken = record {
           calls = d.calls;
           breaks = ap (λ e. e.ending) broke;

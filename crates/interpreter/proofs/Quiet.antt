@@ -5,7 +5,7 @@ use Rattle.journal.specs.Maps.{any_pending, committed, contents, spilled}
 use Rattle.block_buffers.specs.declared.Assigned.{Assigned}
 use Rattle.block_buffers.specs.Buffers.{Buffers, assigned, oldest, updated_ones, unmarked, none_assigned}
 use Rattle.block_words.specs.declared.BlockFault.TheVariants.{Memory}
-use Rattle.block_words.specs.Words.{worn, spill_wear, commit_wear, pending_number, Blocks as State, BlockOutcome, Gives, Fails, first_answer, later_answers, answered, bytes_of, spill, spill_if, spill_oldest, give_buffer, assign, open_store, with_buffer, if_block, is_block, block, buffer, mark_current, update, next_map, spill_each, commit, returned, save_and, save_buffers, flush, source_of, source}
+use Rattle.block_words.specs.Words.{worn, read_wear, spill_wear, commit_wear, pending_number, Blocks as State, BlockOutcome, Gives, Fails, first_answer, later_answers, answered, bytes_of, spill, spill_if, spill_oldest, give_buffer, assign, open_store, with_buffer, if_block, is_block, block, buffer, mark_current, update, next_map, spill_each, commit, returned, save_and, save_buffers, flush, source_of, source}
 use Rattle.cell_machine.specs.Fault.{Faults, Breaks, EndOfInput}
 use Rattle.cell_machine.specs.Frames.{Core, Level}
 use Rattle.cell_machine.specs.Value.{Outcome, Did}
@@ -69,7 +69,7 @@ module _ (n : ℕ) where
 
   block-q : (b : ℕ) (s : State) → IsStill s → Quiet (block b s)
   block-q b s h =
-      if_block-q (is_block s b) s _ h (with_buffer-q (assigned s.buffers.list b) s _ h (call-q s (λ s. assign b (contents s.maps b) s) _ h (λ t ht. assign-q b (contents t.maps b) t ht)))
+      if_block-q (is_block s b) s _ h (with_buffer-q (assigned s.buffers.list b) s _ h (call-q (worn read_wear s) (λ s. assign b (contents s.maps b) s) _ h (λ t ht. assign-q b (contents t.maps b) t ht)))
 
   buffer-q : (b : ℕ) (s : State) → IsStill s → Quiet (buffer b s)
   buffer-q b s h = if_block-q (is_block s b) s _ h (with_buffer-q (assigned s.buffers.list b) s _ h (assign-q b (replicate 1024 32) s h))
@@ -83,7 +83,7 @@ module _ (n : ℕ) where
 
   source_of-q : (o : Option Assigned) (b : ℕ) (s : State) → IsStill s → Quiet (source_of o b s)
   source_of-q (Some x) b s h = h
-  source_of-q None b s h = open-q s.maps.closed s _ h (call-q s (λ s. Gives (contents s.maps b) s) _ h (λ t ht. ht))
+  source_of-q None b s h = open-q s.maps.closed s _ h (call-q (worn read_wear s) (λ s. Gives (contents s.maps b) s) _ h (λ t ht. ht))
 
   source-q : (b : ℕ) (s : State) → IsStill s → Quiet (source b s)
   source-q b s h = if_block-q (is_block s b) s _ h (source_of-q (assigned s.buffers.list b) b s h)

@@ -4,7 +4,7 @@ use Rattle.journal.specs.Maps.{any_pending, committed, contents, spilled}
 use Rattle.block_buffers.specs.declared.Assigned.{Assigned}
 use Rattle.block_buffers.specs.Buffers.{Buffers, assigned, oldest, updated_ones, unmarked, none_assigned}
 use Rattle.block_words.specs.declared.BlockFault.TheVariants.{Device, Memory}
-use Rattle.block_words.specs.Words.{Answer, worn, spill_wear, commit_wear, pending_number, Blocks as State, BlockOutcome, Gives, Fails, first_answer, later_answers, answered, device_call, with_closed, bytes_of, spill, spill_if, spill_oldest, give_buffer, assign, open_store, with_buffer, if_block, is_block, block, buffer, mark_current, update, next_map, spill_each, commit, returned, save_and, save_buffers, flush, source_of, source}
+use Rattle.block_words.specs.Words.{Answer, worn, read_wear, spill_wear, commit_wear, pending_number, Blocks as State, BlockOutcome, Gives, Fails, first_answer, later_answers, answered, device_call, with_closed, bytes_of, spill, spill_if, spill_oldest, give_buffer, assign, open_store, with_buffer, if_block, is_block, block, buffer, mark_current, update, next_map, spill_each, commit, returned, save_and, save_buffers, flush, source_of, source}
 use Rattle.std.specs.Prelude.{replicate}
 use Rattle.cell_machine.specs.Frames.{Core}
 use Rattle.cell_machine.specs.Value.{Outcome}
@@ -72,7 +72,7 @@ buffer_there None s go h k = opened s.maps.closed s go h k
 block_quiet : (b : ℕ) (s : State) → Quiet s → QuietEnd (block b s)
 block_quiet b s h =
     block_there (is_block s b) s _ h (buffer_there (assigned s.buffers.list b) s _ h
-    (called s (λ s. assign b (contents s.maps b) s) (λ s. Fails Device s) h (λ t ht. assigned_well b (contents t.maps b) t ht)))
+    (called (worn read_wear s) (λ s. assign b (contents s.maps b) s) (λ s. Fails Device s) h (λ t ht. assigned_well b (contents t.maps b) t ht)))
 
 buffer_quiet : (b : ℕ) (s : State) → Quiet s → QuietEnd (buffer b s)
 buffer_quiet b s h = block_there (is_block s b) s _ h (buffer_there (assigned s.buffers.list b) s _ h (assigned_well b (replicate 1024 32) s h))
@@ -99,7 +99,7 @@ save_quiet change s h =
 source_of_quiet : (o : Option Assigned) (b : ℕ) (s : State) → Quiet s → QuietEnd (source_of o b s)
 source_of_quiet (Some x) b s h = h
 source_of_quiet None b s h =
-    opened s.maps.closed s _ h (called s (λ s. Gives (contents s.maps b) s) (λ s. Fails Device s) h (λ t ht. ht))
+    opened s.maps.closed s _ h (called (worn read_wear s) (λ s. Gives (contents s.maps b) s) (λ s. Fails Device s) h (λ t ht. ht))
 
 source_quiet : (b : ℕ) (s : State) → Quiet s → QuietEnd (source b s)
 source_quiet b s h = block_there (is_block s b) s _ h (source_of_quiet (assigned s.buffers.list b) b s h)

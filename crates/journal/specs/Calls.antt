@@ -15,6 +15,10 @@ module _ {D : Type 0} (G : Ghosts D) where
     pub few_writes : (G.counts new).writes ≤ (G.counts old).writes + writes
     pub few_syncs : (G.counts new).syncs ≤ (G.counts old).syncs + syncs
 
+  -- So many reads were begun at most.
+  abbrev pub ReadsAtMost : (old new : D) → (reads : ℕ) → Type 0
+  ReadsAtMost old new reads = (G.counts new).reads ≤ (G.counts old).reads + reads
+
   -- What any run of calls keeps, whatever they answered: sectors and model stay, time goes on, and the failures never fall.
   pub record Proceeds (old new : D) : Type 0 where
     pub sectors : G.sector_count new ≡ G.sector_count old

@@ -1,11 +1,11 @@
 -- A store, the maps that it stands for, and what its calls keep.
-use Rattle.std.specs.Prelude.{◌≡◌, ◌⊎◌, ℕ, ◌<◌, ◌≤◌, if◌then◌else◌, Bool, true, false, List, length, IsTrue, Some, None}
+use Rattle.std.specs.Prelude.{◌≡◌, ◌⊎◌, ℕ, ◌<◌, ◌≤◌, if◌then◌else◌, Bool, true, false, List, length, IsTrue, Option, Some, None}
 use Rattle.sector_disk.specs.Counting.{count_up}
 use Rattle.sector_disk.specs.Disk.{Disk, Image, MayLeave}
 use Rattle.sector_disk.specs.Moments.{Elapses}
 use Rattle.sector_disk.specs.declared.device.SectorDevice.{Ghosts}
 use Rattle.journal.specs.declared.store.Store.{Store}
-use Rattle.journal.specs.Calls.{StopsLeave, BeginsAtMost}
+use Rattle.journal.specs.Calls.{StopsLeave, BeginsAtMost, ReadsAtMost}
 use Rattle.journal.specs.Images.{slot_of, home_of, is_true_record, HasHomes, Means}
 use Rattle.journal.specs.Layout.{most_blocks, open_gate_bytes, listed, count_below}
 use Rattle.journal.specs.Maps.{Maps, block_in, pending_in, latest}
@@ -30,6 +30,10 @@ module _ {D : Type 0} {G : Ghosts D} where
   -- the bytes that were read last as a text
   abbrev pub text_of : Store D G → List ℕ
   text_of store = store.text
+
+  -- the block whose text that is, as long as nothing was written since
+  abbrev pub kept_of : Store D G → Option ℕ
+  kept_of store = store.kept
 
   -- whether a block was spilled since the last save
   abbrev pub is_pending : Store D G → ℕ → Bool
@@ -75,6 +79,10 @@ module _ {D : Type 0} {G : Ghosts D} where
   -- So many writes and syncs of the device were begun at most.
   abbrev pub DeviceBegins : Store D G → Store D G → ℕ → ℕ → Type 0
   DeviceBegins old new writes syncs = BeginsAtMost G old.device new.device writes syncs
+
+  -- So many reads of the device were begun at most.
+  abbrev pub DeviceReads : Store D G → Store D G → ℕ → Type 0
+  DeviceReads old new reads = ReadsAtMost G old.device new.device reads
 
   -- A stop of an open store at any moment since the old state leaves the saved blocks.
   abbrev pub KeepsSaved : Store D G → Store D G → Type 0

@@ -1,7 +1,7 @@
 // The steps of a save, and those that a recovery does again.
 ghost use Rattle.std.specs.Prelude.{◌≡◌, ◌⊎◌, ◌<◌, ◌≤◌, ◌+◌, ◌*◌, ◌^◌, ℕ, false, true, IsTrue, OnOk};
 ghost use Rattle.sector_disk.specs.Disk.{written, settled};
-ghost use Rattle.journal.specs.Calls.{StopsLeave, BeginsAtMost, Passes};
+ghost use Rattle.journal.specs.Calls.{StopsLeave, BeginsAtMost, ReadsAtMost, Passes};
 ghost use Rattle.journal.specs.Images.{home_of, HasHomes, is_true_record};
 ghost use Rattle.journal.specs.Layout.{fewest_blocks, most_blocks, count_listed, sectors_for, open_gate_bytes, InListedHomes};
 ghost use Rattle.journal.specs.Chain.{MayRedo};
@@ -25,6 +25,7 @@ pub fn write_through<D: SectorDevice>(
         → StopsLeave D.SectorDevice device.old device.new (IsAsSynced (λ j. j ≡ k) (D.disk device.old)) }
     ensures passes { Passes D.SectorDevice device.old device.new result }
     ensures begins { BeginsAtMost D.SectorDevice device.old device.new 1 1 }
+    ensures reads { ReadsAtMost D.SectorDevice device.old device.new 0 }
 {
     device.write(k, bytes)?;
     device.sync()
@@ -41,6 +42,7 @@ fn log<D: SectorDevice>(device: &mut D, bytes: &[u8; 512]) -> Result<(), DeviceF
         ⊎ IsAsSynced (λ j. j ≡ 1) (settled (written (D.disk device.old) 2 bytes.now)) c) }
     ensures passes { Passes D.SectorDevice device.old device.new result }
     ensures begins { BeginsAtMost D.SectorDevice device.old device.new 2 2 }
+    ensures reads { ReadsAtMost D.SectorDevice device.old device.new 0 }
 {
     write_through(device, RECORD, bytes)?;
     write_through(device, GATE, &open_gate())
@@ -61,6 +63,7 @@ fn copy_and_sync<D: SectorDevice>(
         → StopsLeave D.SectorDevice device.old device.new (IsAsSynced (InListedHomes blocks bytes.now) (D.disk device.old)) }
     ensures passes { Passes D.SectorDevice device.old device.new result }
     ensures begins { BeginsAtMost D.SectorDevice device.old device.new (2 * count_listed bytes.now blocks) 1 }
+    ensures reads { ReadsAtMost D.SectorDevice device.old device.new (2 * count_listed bytes.now blocks) }
 {
     copy_homes(device, blocks, bytes)?;
     device.sync()
@@ -86,6 +89,7 @@ pub fn apply<D: SectorDevice>(
         → StopsLeave D.SectorDevice device.old device.new (MayRedo blocks (D.disk device.old).content) }
     ensures passes { Passes D.SectorDevice device.old device.new result }
     ensures begins { BeginsAtMost D.SectorDevice device.old device.new (2 * count_listed bytes.now blocks + 1) 2 }
+    ensures reads { ReadsAtMost D.SectorDevice device.old device.new (2 * count_listed bytes.now blocks) }
 {
     copy_and_sync(device, blocks, bytes)?;
     write_through(device, GATE, &[0; 512])
@@ -113,6 +117,7 @@ fn save_listed<D: SectorDevice>(
         ⊎ HasHomes blocks (merged blocks bytes.now (D.disk device.old).content) c) }
     ensures passes { Passes D.SectorDevice device.old device.new result }
     ensures begins { BeginsAtMost D.SectorDevice device.old device.new (2 * count_listed bytes.now blocks + 3) 4 }
+    ensures reads { ReadsAtMost D.SectorDevice device.old device.new (2 * count_listed bytes.now blocks) }
 {
     log(device, bytes)?;
     apply(device, blocks, bytes)
@@ -138,6 +143,7 @@ pub(crate) fn save<D: SectorDevice>(
         ⊎ HasHomes blocks (merged blocks bits.now (D.disk device.old).content) c) }
     ensures passes { Passes D.SectorDevice device.old device.new result }
     ensures begins { BeginsAtMost D.SectorDevice device.old device.new (2 * count_listed bits.now blocks + 3) 4 }
+    ensures reads { ReadsAtMost D.SectorDevice device.old device.new (4 * count_listed bits.now blocks) }
 {
     let bytes = sign(device, blocks, bits)?;
     save_listed(device, blocks, &bytes)

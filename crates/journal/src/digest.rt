@@ -1,10 +1,10 @@
 // The digest in a commit record, by which a record and slots that belong together are told from all others.
-ghost use Rattle.std.specs.Prelude.{◌≡◌, ◌<◌, ◌≤◌, ◌+◌, ◌++◌, ℕ, List, if◌then◌else◌, IsTrue, OnOk, IfOk};
+ghost use Rattle.std.specs.Prelude.{◌≡◌, ◌<◌, ◌≤◌, ◌+◌, ◌*◌, ◌++◌, ℕ, List, if◌then◌else◌, IsTrue, OnOk, IfOk};
 ghost use Rattle.sha2.specs.Hashers.{Holds256};
 ghost use Rattle.sector_disk.specs.Disk.{MayLeave};
-ghost use Rattle.journal.specs.Calls.{StopsLeave, BeginsAtMost, Passes};
+ghost use Rattle.journal.specs.Calls.{StopsLeave, BeginsAtMost, ReadsAtMost, Passes};
 ghost use Rattle.journal.specs.Images.{slot_of, listed_slots, digest_of, is_true_record};
-ghost use Rattle.journal.specs.Layout.{fewest_blocks, most_blocks, bits_of, digest_in, listed, sectors_for, slot_at};
+ghost use Rattle.journal.specs.Layout.{fewest_blocks, most_blocks, bits_of, digest_in, listed, count_listed, sectors_for, slot_at};
 ghost use Rattle.journal.specs.Steps.{IsSigned};
 
 use crate::layout::{is_listed, slot_sector};
@@ -25,6 +25,7 @@ fn add_slot<D: SectorDevice>(device: &mut D, b: u16, hasher: &mut Sha256) -> Res
         → StopsLeave D.SectorDevice device.old device.new (MayLeave (D.disk device.old)) }
     ensures passes { Passes D.SectorDevice device.old device.new result }
     ensures begins { BeginsAtMost D.SectorDevice device.old device.new 0 0 }
+    ensures reads { ReadsAtMost D.SectorDevice device.old device.new 2 }
 {
     let mut slot = [0; 1024];
     read_pair(device, slot_sector(b), &mut slot)?;
@@ -48,6 +49,7 @@ fn add_if_listed<D: SectorDevice>(
         → StopsLeave D.SectorDevice device.old device.new (MayLeave (D.disk device.old)) }
     ensures passes { Passes D.SectorDevice device.old device.new result }
     ensures begins { BeginsAtMost D.SectorDevice device.old device.new 0 0 }
+    ensures reads { ReadsAtMost D.SectorDevice device.old device.new (if listed bytes.now b then 2 else 0) }
 {
     if is_listed(bytes, b) {
         add_slot(device, b, hasher)
@@ -73,6 +75,7 @@ fn add_slots<D: SectorDevice>(
         → StopsLeave D.SectorDevice device.old device.new (MayLeave (D.disk device.old)) }
     ensures passes { Passes D.SectorDevice device.old device.new result }
     ensures begins { BeginsAtMost D.SectorDevice device.old device.new 0 0 }
+    ensures reads { ReadsAtMost D.SectorDevice device.old device.new (2 * count_listed bytes.now blocks) }
 {
     for b in 0..blocks {
         add_if_listed(device, bytes, b, hasher)?;
@@ -95,6 +98,7 @@ fn read_digest<D: SectorDevice>(
         → StopsLeave D.SectorDevice device.old device.new (MayLeave (D.disk device.old)) }
     ensures passes { Passes D.SectorDevice device.old device.new result }
     ensures begins { BeginsAtMost D.SectorDevice device.old device.new 0 0 }
+    ensures reads { ReadsAtMost D.SectorDevice device.old device.new (2 * count_listed bytes.now blocks) }
 {
     let (bits, _) = bytes.split_at(BITS);
     let mut hasher = Sha256::new();
@@ -129,6 +133,7 @@ pub(crate) fn sign<D: SectorDevice>(
         → StopsLeave D.SectorDevice device.old device.new (MayLeave (D.disk device.old)) }
     ensures passes { Passes D.SectorDevice device.old device.new result }
     ensures begins { BeginsAtMost D.SectorDevice device.old device.new 0 0 }
+    ensures reads { ReadsAtMost D.SectorDevice device.old device.new (2 * count_listed bits.now blocks) }
 {
     let digest = read_digest(device, blocks, bits)?;
     Ok(with_digest(bits, &digest))
@@ -150,6 +155,7 @@ pub fn is_true_record<D: SectorDevice>(
         → StopsLeave D.SectorDevice device.old device.new (MayLeave (D.disk device.old)) }
     ensures passes { Passes D.SectorDevice device.old device.new result }
     ensures begins { BeginsAtMost D.SectorDevice device.old device.new 0 0 }
+    ensures reads { ReadsAtMost D.SectorDevice device.old device.new (2 * count_listed bytes.now blocks) }
 {
     let digest = read_digest(device, blocks, bytes)?;
     let (_, found) = bytes.split_at(BITS);

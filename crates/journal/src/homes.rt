@@ -1,7 +1,7 @@
 // Homes are written from slots.
 ghost use Rattle.std.specs.Prelude.{◌≡◌, ◌<◌, ◌≤◌, ◌+◌, ◌*◌, ◌^◌, ℕ, true, if◌then◌else◌, IsTrue, OnOk};
 ghost use Rattle.sector_disk.specs.Disk.{written};
-ghost use Rattle.journal.specs.Calls.{StopsLeave, BeginsAtMost, Passes};
+ghost use Rattle.journal.specs.Calls.{StopsLeave, BeginsAtMost, ReadsAtMost, Passes};
 ghost use Rattle.journal.specs.Layout.{fewest_blocks, most_blocks, listed, count_listed, sectors_for, home_at, InPair, InHomeIfListed, InListedHomes};
 ghost use Rattle.journal.specs.Steps.{WritesOnly, IsAsSynced, HasCopied};
 
@@ -19,6 +19,7 @@ fn copy_sector<D: SectorDevice>(device: &mut D, from: u32, to: u32) -> Result<()
         → StopsLeave D.SectorDevice device.old device.new (IsAsSynced (λ k. k ≡ to) (D.disk device.old)) }
     ensures passes { Passes D.SectorDevice device.old device.new result }
     ensures begins { BeginsAtMost D.SectorDevice device.old device.new 1 0 }
+    ensures reads { ReadsAtMost D.SectorDevice device.old device.new 1 }
 {
     let mut bytes = [0; 512];
     device.read(from, &mut bytes)?;
@@ -38,6 +39,7 @@ fn copy_home<D: SectorDevice>(device: &mut D, blocks: u16, b: u16) -> Result<(),
         → StopsLeave D.SectorDevice device.old device.new (IsAsSynced (InPair (home_at blocks b)) (D.disk device.old)) }
     ensures passes { Passes D.SectorDevice device.old device.new result }
     ensures begins { BeginsAtMost D.SectorDevice device.old device.new 2 0 }
+    ensures reads { ReadsAtMost D.SectorDevice device.old device.new 2 }
 {
     let slot = slot_sector(b);
     let home = home_sector(blocks, b);
@@ -63,6 +65,7 @@ fn copy_if_listed<D: SectorDevice>(
         → StopsLeave D.SectorDevice device.old device.new (IsAsSynced (InHomeIfListed blocks bytes.now b) (D.disk device.old)) }
     ensures passes { Passes D.SectorDevice device.old device.new result }
     ensures begins { BeginsAtMost D.SectorDevice device.old device.new (if listed bytes.now b then 2 else 0) 0 }
+    ensures reads { ReadsAtMost D.SectorDevice device.old device.new (if listed bytes.now b then 2 else 0) }
 {
     if is_listed(bytes, b) {
         copy_home(device, blocks, b)
@@ -89,6 +92,7 @@ pub(crate) fn copy_homes<D: SectorDevice>(
         → StopsLeave D.SectorDevice device.old device.new (IsAsSynced (InListedHomes blocks bytes.now) (D.disk device.old)) }
     ensures passes { Passes D.SectorDevice device.old device.new result }
     ensures begins { BeginsAtMost D.SectorDevice device.old device.new (2 * count_listed bytes.now blocks) 0 }
+    ensures reads { ReadsAtMost D.SectorDevice device.old device.new (2 * count_listed bytes.now blocks) }
 {
     for b in 0..blocks {
         copy_if_listed(device, blocks, bytes, b)?;

@@ -1,7 +1,7 @@
 // Blocks of two sectors.
 ghost use Rattle.std.specs.Prelude.{◌≡◌, ◌<◌, ◌≤◌, ◌+◌, ◌^◌, ◌++◌, length, take, drop, IsTrue, OnOk, OnErr};
 ghost use Rattle.sector_disk.specs.Disk.{MayLeave, written};
-ghost use Rattle.journal.specs.Calls.{StopsLeave, BeginsAtMost, Passes};
+ghost use Rattle.journal.specs.Calls.{StopsLeave, BeginsAtMost, ReadsAtMost, Passes};
 ghost use Rattle.journal.specs.Images.{pair_at};
 ghost use Rattle.journal.specs.Layout.{InPair};
 ghost use Rattle.journal.specs.Steps.{WritesOnly, IsAsSynced};
@@ -25,6 +25,7 @@ pub(crate) fn read_pair<D: SectorDevice>(
         → StopsLeave D.SectorDevice device.old device.new (MayLeave (D.disk device.old)) }
     ensures passes { Passes D.SectorDevice device.old device.new result }
     ensures begins { BeginsAtMost D.SectorDevice device.old device.new 0 0 }
+    ensures reads { ReadsAtMost D.SectorDevice device.old device.new 2 }
 {
     let mut first = [0; 512];
     let mut second = [0; 512];
@@ -52,6 +53,7 @@ pub(crate) fn write_pair<D: SectorDevice>(
         → StopsLeave D.SectorDevice device.old device.new (IsAsSynced (InPair k) (D.disk device.old)) }
     ensures passes { Passes D.SectorDevice device.old device.new result }
     ensures begins { BeginsAtMost D.SectorDevice device.old device.new 2 0 }
+    ensures reads { ReadsAtMost D.SectorDevice device.old device.new 0 }
 {
     let (first, second) = bytes.split_at(512);
     device.write(k, &sector_of(first))?;

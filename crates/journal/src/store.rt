@@ -44,7 +44,7 @@ pub struct Store<D: SectorDevice> {
 }
 
 impl<D: SectorDevice> Store<D> {
-    ghost use Rattle.journal.specs.Store.{device_of, disk_of, blocks_of, closed_of, text_of, is_pending, pending_count, SamePending, HasRecordOf, StandsFor, Continues, DeviceFailed, DeviceWentWell, DeviceBegins, KeepsSaved, SavesAllOrNone, OpensGateWhole, AddsNothing};
+    ghost use Rattle.journal.specs.Store.{device_of, disk_of, blocks_of, closed_of, text_of, kept_of, is_pending, pending_count, SamePending, HasRecordOf, StandsFor, Continues, DeviceFailed, DeviceWentWell, DeviceBegins, DeviceReads, KeepsSaved, SavesAllOrNone, OpensGateWhole, AddsNothing};
 
     /// A store of `blocks` blocks, 32 to 3,840, over an image with a good label and a closed gate, of which nothing is
     /// unsynced. Makes no device call.
@@ -119,6 +119,7 @@ impl<D: SectorDevice> Store<D> {
         ensures continues { Continues self.old self.new }
         ensures pending { SamePending self.old self.new }
         ensures begins { DeviceBegins self.old self.new 0 0 }
+        ensures reads { DeviceReads self.old self.new 2 }
     {
         // The device of a closed store may hold a save half done, so it isn't read.
         if self.closed {
@@ -155,6 +156,10 @@ impl<D: SectorDevice> Store<D> {
         ensures continues { Continues self.old self.new }
         ensures pending { SamePending self.old self.new }
         ensures begins { DeviceBegins self.old self.new 0 0 }
+        ensures reads { DeviceReads self.old self.new 2 }
+        // A text that is kept is given with no call of the device.
+        ensures kept { kept_of self.old ≡ Some b → self.new ≡ self.old }
+        ensures keeps { OnOk result (kept_of self.new ≡ Some b) }
     {
         // The device of a closed store may hold a save half done, so what was read of it isn't given either.
         if self.closed {
@@ -208,6 +213,7 @@ impl<D: SectorDevice> Store<D> {
             (λ _. (a : ℕ) → is_pending self.new a ≡ ((a == b) || is_pending self.old a))
             (λ _. SamePending self.old self.new) }
         ensures begins { DeviceBegins self.old self.new 2 0 }
+        ensures reads { DeviceReads self.old self.new 0 }
     {
         // After a fault nothing more is written until the image is opened again.
         if self.closed {
@@ -258,6 +264,7 @@ impl<D: SectorDevice> Store<D> {
         ensures shut_gate { IsTrue (D.keeps_model (device_of self.old)) → pending_count self.old ≢ 0
             → OnOk result ((disk_of self.new).content 1 ≡ replicate 512 0) }
         ensures begins { DeviceBegins self.old self.new (2 * pending_count self.old + 3) 4 }
+        ensures reads { DeviceReads self.old self.new (4 * pending_count self.old) }
     {
         if self.closed {
             return Err(StoreFault::Closed); // even where nothing is pending

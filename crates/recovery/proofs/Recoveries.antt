@@ -1,13 +1,14 @@
 -- What a stop of a recovery leaves.
-use Rattle.std.proofs.Common.{◌≡◌, inl, ℕ, ◌-◌, ◌≤◌, Bool, true, false, cond, Some, None, refl, ◌∙◌, ap, arith}
+use Rattle.std.proofs.Common.{◌≡◌, inl, ℕ, ◌-◌, ◌+◌, ◌*◌, ◌≤◌, Bool, true, false, cond, Some, None, refl, ◌∙◌, ap, arith}
 use Rattle.sector_disk.specs.Disk.{Disk, Image, MayLeave}
 use Rattle.sector_disk.specs.declared.device.SectorDevice.{Ghosts}
-use Rattle.journal.specs.Calls.{BeginsAtMost}
+use Rattle.journal.specs.Calls.{BeginsAtMost, ReadsAtMost}
 use Rattle.journal.specs.Chain.{HasMeaning, Follows}
 use Rattle.journal.specs.Images.{is_damaged}
-use Rattle.journal.specs.Layout.{gate_open, sectors_for}
-use Rattle.recovery.specs.Opened.{damage_refusal, first_of, image_refusal, RecoveryLeaves, writes_for, syncs_for}
+use Rattle.journal.specs.Layout.{gate_open, sectors_for, count_listed}
+use Rattle.recovery.specs.Opened.{damage_refusal, first_of, image_refusal, RecoveryLeaves, writes_for, syncs_for, reads_for}
 use Rattle.recovery.specs.Label.{blocks_in}
+use Rattle.recovery.specs.Upgraded.{reads_for_1}
 use Rattle.recovery.specs.declared.fault.OpenFault.TheVariants.{Damaged}
 use Rattle.recovery.proofs.Labels.{good_passes}
 
@@ -48,3 +49,26 @@ begins_then device n image a b d one two = record {
   few_writes = omega (arith, one.few_writes, two.few_writes);
   few_syncs = omega (arith, one.few_syncs, two.few_syncs, one_at_least (gate_open (image 1)));
 }
+
+two_at_least : (is_open : Bool) (more : ℕ) → 2 ≤ cond is_open (more + 3) 2
+two_at_least true more = omega arith
+two_at_least false more = omega arith
+
+-- The label's reading is one of those that a recovery begins.
+pub reads_then : {D : Type 0} (device : Ghosts D) (n : ℕ) (image : Image) (a b d : D) → ReadsAtMost device a b 1
+    → ReadsAtMost device b d (reads_for n image - 1) → ReadsAtMost device a d (reads_for n image)
+reads_then device n image a b d one two = omega (arith, one, two, two_at_least (gate_open (image 1)) (4 * count_listed (image 2) n))
+
+-- And where nothing follows it is one of them too.
+pub reads_first : {D : Type 0} (device : Ghosts D) (n : ℕ) (image : Image) (a b : D) → ReadsAtMost device a b 1
+    → ReadsAtMost device a b (reads_for n image)
+reads_first device n image a b one = omega (arith, one, two_at_least (gate_open (image 1)) (4 * count_listed (image 2) n))
+
+-- the same by layout 1
+pub reads_then_1 : {D : Type 0} (device : Ghosts D) (n : ℕ) (image : Image) (a b d : D) → ReadsAtMost device a b 1
+    → ReadsAtMost device b d (reads_for_1 n image - 1) → ReadsAtMost device a d (reads_for_1 n image)
+reads_then_1 device n image a b d one two = omega (arith, one, two, two_at_least (gate_open (image 1)) (2 * count_listed (image 2) n))
+
+pub reads_first_1 : {D : Type 0} (device : Ghosts D) (n : ℕ) (image : Image) (a b : D) → ReadsAtMost device a b 1
+    → ReadsAtMost device a b (reads_for_1 n image)
+reads_first_1 device n image a b one = omega (arith, one, two_at_least (gate_open (image 1)) (2 * count_listed (image 2) n))

@@ -42,5 +42,10 @@ gate_after gate = if gate_open gate then replicate 512 0 else gate
 abbrev pub writes_for : ℕ → Image → ℕ
 writes_for n image = if gate_open (image 1) then 2 * count_listed (image 2) n + 1 else 0
 
+-- how many reads: of the label and the gate; and under an open gate of the record too, and of each listed slot twice, for
+-- the digest and for the home
+abbrev pub reads_for : ℕ → Image → ℕ
+reads_for n image = if gate_open (image 1) then 4 * count_listed (image 2) n + 3 else 2
+
 abbrev pub syncs_for : Image → ℕ
 syncs_for image = if gate_open (image 1) then 3 else 1

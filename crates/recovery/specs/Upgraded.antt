@@ -1,7 +1,7 @@
 -- What an upgrade refuses, and what a stop of it may leave of the old image. (Of the new one: MakingLeaves.)
-use Rattle.std.specs.Prelude.{◌≡◌, ◌⊎◌, ◌==◌, ℕ, not, if◌then◌else◌, List, length, Option, Some, None}
+use Rattle.std.specs.Prelude.{◌≡◌, ◌⊎◌, ◌==◌, ℕ, ◌+◌, ◌*◌, not, if◌then◌else◌, List, length, Option, Some, None}
 use Rattle.sector_disk.specs.Disk.{Disk, Image, MayLeave}
-use Rattle.journal.specs.Layout.{most_blocks_1}
+use Rattle.journal.specs.Layout.{most_blocks_1, gate_open, count_listed}
 use Rattle.journal.specs.Layout1.{HasGoodLabel1, Means1}
 use Rattle.recovery.specs.Label.{blocks_in, is_size_within, label_refusal_by}
 use Rattle.recovery.specs.Opened.{first_of}
@@ -34,3 +34,8 @@ pub record OldLeaves (n : ℕ) (disk : Disk) (image : Image) : Type 0 where
   pub from : Image
   pub may : MayLeave disk from
   pub means : MeansAsBefore n from image
+
+-- how many reads of an image of layout 1 a recovery begins at most: of the label and the gate; and under an open gate of the
+-- record too, and of each listed slot for its home
+abbrev pub reads_for_1 : ℕ → Image → ℕ
+reads_for_1 n image = if gate_open (image 1) then 2 * count_listed (image 2) n + 3 else 2

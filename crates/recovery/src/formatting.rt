@@ -3,7 +3,7 @@ ghost use Rattle.std.specs.Prelude.{◌≡◌, ◌≢◌, ◌⊎◌, ◌<◌, �
 ghost use Rattle.sector_disk.specs.Counting.{count_up};
 ghost use Rattle.sector_disk.specs.Disk.{Image, MayLeave, written, settled};
 ghost use Rattle.sector_disk.specs.Moments.{Elapses};
-ghost use Rattle.journal.specs.Calls.{StopsLeave, BeginsAtMost, Passes};
+ghost use Rattle.journal.specs.Calls.{StopsLeave, BeginsAtMost, ReadsAtMost, Passes};
 ghost use Rattle.journal.specs.Clean.{IsClean};
 ghost use Rattle.journal.specs.Images.{Means};
 ghost use Rattle.journal.specs.Layout.{fewest_blocks, most_blocks, sectors_for, label_of};
@@ -36,6 +36,7 @@ fn fill_homes<D: SectorDevice>(device: &mut D, blocks: u16) -> Result<(), Device
         → StopsLeave D.SectorDevice device.old device.new (IsAsSynced (λ k. 3 + 2 * blocks ≤ k) (D.disk device.old)) }
     ensures passes { Passes D.SectorDevice device.old device.new result }
     ensures begins { BeginsAtMost D.SectorDevice device.old device.new (2 * blocks) 0 }
+    ensures reads { ReadsAtMost D.SectorDevice device.old device.new 0 }
 {
     let blank = [b' '; 512];
     let first = home_sector(blocks, 0);
@@ -57,6 +58,7 @@ pub(crate) fn unlabel<D: SectorDevice>(device: &mut D, blocks: u16) -> Result<()
         → StopsLeave D.SectorDevice device.old device.new (TakenAway blocks (D.disk device.old)) }
     ensures passes { Passes D.SectorDevice device.old device.new result }
     ensures begins { BeginsAtMost D.SectorDevice device.old device.new 1 2 }
+    ensures reads { ReadsAtMost D.SectorDevice device.old device.new 1 }
 {
     let mut found = [0; 512];
     settle(device, &mut found)?;
@@ -78,6 +80,7 @@ pub(crate) fn fill_head<D: SectorDevice>(device: &mut D) -> Result<(), DeviceFau
         → StopsLeave D.SectorDevice device.old device.new (IsAsSynced (λ k. k ≢ 0) (D.disk device.old)) }
     ensures passes { Passes D.SectorDevice device.old device.new result }
     ensures begins { BeginsAtMost D.SectorDevice device.old device.new 2 0 }
+    ensures reads { ReadsAtMost D.SectorDevice device.old device.new 0 }
 {
     device.write(GATE, &[0; 512])?;
     device.write(RECORD, &[0; 512])
@@ -97,6 +100,7 @@ fn fill<D: SectorDevice>(device: &mut D, blocks: u16) -> Result<(), DeviceFault>
         → StopsLeave D.SectorDevice device.old device.new (IsAsSynced (λ k. k ≢ 0) (D.disk device.old)) }
     ensures passes { Passes D.SectorDevice device.old device.new result }
     ensures begins { BeginsAtMost D.SectorDevice device.old device.new (2 * blocks + 2) 0 }
+    ensures reads { ReadsAtMost D.SectorDevice device.old device.new 0 }
 {
     fill_head(device)?;
     fill_homes(device, blocks)
@@ -115,6 +119,7 @@ fn prepare<D: SectorDevice>(device: &mut D, blocks: u16) -> Result<(), DeviceFau
         → StopsLeave D.SectorDevice device.old device.new (λ c. c 0 ≢ label_of blocks) }
     ensures passes { Passes D.SectorDevice device.old device.new result }
     ensures begins { BeginsAtMost D.SectorDevice device.old device.new (2 * blocks + 2) 1 }
+    ensures reads { ReadsAtMost D.SectorDevice device.old device.new 0 }
 {
     fill(device, blocks)?;
     device.sync()
@@ -132,6 +137,7 @@ pub(crate) fn seal<D: SectorDevice>(device: &mut D, blocks: u16) -> Result<(), D
         → StopsLeave D.SectorDevice device.old device.new (Sealed blocks (D.disk device.old).content) }
     ensures passes { Passes D.SectorDevice device.old device.new result }
     ensures begins { BeginsAtMost D.SectorDevice device.old device.new 1 1 }
+    ensures reads { ReadsAtMost D.SectorDevice device.old device.new 0 }
 {
     write_through(device, LABEL, &label(blocks))
 }
@@ -149,6 +155,7 @@ fn make<D: SectorDevice>(device: &mut D, blocks: u16) -> Result<(), DeviceFault>
         → StopsLeave D.SectorDevice device.old device.new (FormatLeaves blocks (D.disk device.old)) }
     ensures passes { Passes D.SectorDevice device.old device.new result }
     ensures begins { BeginsAtMost D.SectorDevice device.old device.new (2 * blocks + 4) 4 }
+    ensures reads { ReadsAtMost D.SectorDevice device.old device.new 1 }
 {
     unlabel(device, blocks)?;
     prepare(device, blocks)?;
@@ -186,6 +193,8 @@ pub fn format<D: SectorDevice>(mut device: D, blocks: u16) -> Result<Store<D>, (
         → IfOk result (λ store. (image : Image) → MayLeave (disk_of store) image → Means (blank_blocks blocks) image) }
     // At most zeros over a label, gate, record, homes and label are written.
     ensures begins { BeginsAtMost D.SectorDevice device (end_of result) (2 * blocks + 4) 4 }
+    // The label is read.
+    ensures reads { ReadsAtMost D.SectorDevice device (end_of result) 1 }
     ensures time { Elapses D.time D.left_since device (end_of result) }
     ensures failures { D.failures device ≤ D.failures (end_of result) }
     ensures sectors { D.sector_count (end_of result) ≡ D.sector_count device }

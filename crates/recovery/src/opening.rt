@@ -3,7 +3,7 @@ ghost use Rattle.std.specs.Prelude.{◌≡◌, ◌≢◌, ◌⊎◌, ◌<◌, �
 ghost use Rattle.sector_disk.specs.Counting.{count_up};
 ghost use Rattle.sector_disk.specs.Disk.{Image, MayLeave, settled};
 ghost use Rattle.sector_disk.specs.Moments.{Elapses};
-ghost use Rattle.journal.specs.Calls.{StopsLeave, BeginsAtMost, Passes, Proceeds};
+ghost use Rattle.journal.specs.Calls.{StopsLeave, BeginsAtMost, ReadsAtMost, Passes, Proceeds};
 ghost use Rattle.journal.specs.Chain.{HasMeaning, Follows};
 ghost use Rattle.journal.specs.Clean.{IsClean};
 ghost use Rattle.journal.specs.Images.{meaning, is_true_record, is_damaged, Means};
@@ -12,7 +12,7 @@ ghost use Rattle.journal.specs.Maps.{fresh};
 ghost use Rattle.journal.specs.Steps.{HasRecovered};
 ghost use Rattle.journal.specs.Store.{device_of, disk_of, blocks_of, closed_of, is_pending, StandsFor};
 ghost use Rattle.recovery.specs.Label.{is_size, label_refusal};
-ghost use Rattle.recovery.specs.Opened.{damage_refusal, image_refusal, RecoveryLeaves, end_of, gate_after, writes_for, syncs_for};
+ghost use Rattle.recovery.specs.Opened.{damage_refusal, image_refusal, RecoveryLeaves, end_of, gate_after, writes_for, syncs_for, reads_for};
 ghost use Rattle.recovery.specs.declared.fault.OpenFault.{OpenFault};
 ghost use Rattle.recovery.specs.declared.fault.OpenFault.TheVariants.{BadSize, Device, Damaged};
 
@@ -46,6 +46,8 @@ fn read_record<D: SectorDevice>(
         → StopsLeave D.SectorDevice device.old device.new (MayLeave (D.disk device.old)) }
     ensures passes { Proceeds D.SectorDevice device.old device.new }
     ensures begins { BeginsAtMost D.SectorDevice device.old device.new 0 0 }
+    ensures reads { IsTrue (D.keeps_model device.old)
+        → ReadsAtMost D.SectorDevice device.old device.new (2 * count_listed ((D.disk device.old).content 2) blocks + 1) }
 {
     device.read(RECORD, bytes)?;
     if is_true_record(device, blocks, bytes)? {
@@ -82,6 +84,8 @@ fn redo<D: SectorDevice>(device: &mut D, blocks: u16) -> Result<(), OpenFault>
     ensures passes { Proceeds D.SectorDevice device.old device.new }
     ensures begins { IsTrue (D.keeps_model device.old)
         → BeginsAtMost D.SectorDevice device.old device.new (2 * count_listed ((D.disk device.old).content 2) blocks + 1) 2 }
+    ensures reads { IsTrue (D.keeps_model device.old)
+        → ReadsAtMost D.SectorDevice device.old device.new (4 * count_listed ((D.disk device.old).content 2) blocks + 1) }
 {
     let mut record = [0; 512];
     read_record(device, blocks, &mut record)?;
@@ -118,6 +122,8 @@ fn finish<D: SectorDevice>(device: &mut D, blocks: u16) -> Result<(), OpenFault>
     ensures begins { IsTrue (D.keeps_model device.old)
         → BeginsAtMost D.SectorDevice device.old device.new (writes_for blocks (D.disk device.old).content)
         (syncs_for (D.disk device.old).content - 1) }
+    ensures reads { IsTrue (D.keeps_model device.old)
+        → ReadsAtMost D.SectorDevice device.old device.new (reads_for blocks (D.disk device.old).content - 1) }
 {
     let mut gate = [0; 512];
     device.read(GATE, &mut gate)?;
@@ -155,6 +161,8 @@ fn recover<D: SectorDevice>(device: &mut D) -> Result<u16, OpenFault>
     ensures begins { IsTrue (D.keeps_model device.old) → (n : ℕ) → D.sector_count device.old ≡ sectors_for n
         → BeginsAtMost D.SectorDevice device.old device.new (writes_for n (D.disk device.old).content)
         (syncs_for (D.disk device.old).content) }
+    ensures reads { IsTrue (D.keeps_model device.old) → (n : ℕ) → D.sector_count device.old ≡ sectors_for n
+        → ReadsAtMost D.SectorDevice device.old device.new (reads_for n (D.disk device.old).content) }
 {
     let Some(blocks) = blocks_of_size(device.sectors(), MOST_BLOCKS) else {
         return Err(OpenFault::BadSize);
@@ -218,6 +226,8 @@ pub fn open<D: SectorDevice>(mut device: D) -> Result<Store<D>, (OpenFault, D)>
     ensures begins { IsTrue (D.keeps_model device) → (n : ℕ) → D.sector_count device ≡ sectors_for n
         → BeginsAtMost D.SectorDevice device (end_of result) (writes_for n (D.disk device).content)
         (syncs_for (D.disk device).content) }
+    ensures reads { IsTrue (D.keeps_model device) → (n : ℕ) → D.sector_count device ≡ sectors_for n
+        → ReadsAtMost D.SectorDevice device (end_of result) (reads_for n (D.disk device).content) }
 {
     match recover(&mut device) {
         Ok(blocks) => Ok(Store::adopt(device, blocks)),

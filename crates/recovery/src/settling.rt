@@ -1,8 +1,8 @@
 // The first steps on an image, whatever a stop left unsynced.
-ghost use Rattle.std.specs.Prelude.{◌≡◌, ◌≢◌, ◌⊎◌, ◌≤◌, None, Some, IsTrue, OnOk, IfErr, MatchResult};
+ghost use Rattle.std.specs.Prelude.{◌≡◌, ◌≢◌, ◌⊎◌, ◌≤◌, ◌+◌, None, Some, IsTrue, OnOk, IfErr, MatchResult};
 ghost use Rattle.sector_disk.specs.Counting.{count_up};
 ghost use Rattle.sector_disk.specs.Disk.{MayLeave, settled};
-ghost use Rattle.journal.specs.Calls.{StopsLeave, BeginsAtMost, Passes, Proceeds};
+ghost use Rattle.journal.specs.Calls.{StopsLeave, BeginsAtMost, ReadsAtMost, Passes, Proceeds};
 ghost use Rattle.journal.specs.Layout.{label_by};
 ghost use Rattle.recovery.specs.Label.{label_refusal_by};
 ghost use Rattle.recovery.specs.declared.fault.OpenFault.{OpenFault};
@@ -27,6 +27,7 @@ pub(crate) fn settle<D: SectorDevice>(
         → StopsLeave D.SectorDevice device.old device.new (MayLeave (D.disk device.old)) }
     ensures passes { Passes D.SectorDevice device.old device.new result }
     ensures begins { BeginsAtMost D.SectorDevice device.old device.new 0 1 }
+    ensures reads { ReadsAtMost D.SectorDevice device.old device.new 1 }
 {
     device.sync()?;
     device.read(LABEL, found)
@@ -55,6 +56,7 @@ pub(crate) fn start<D: SectorDevice>(
         → StopsLeave D.SectorDevice device.old device.new (MayLeave (D.disk device.old)) }
     ensures passes { Proceeds D.SectorDevice device.old device.new }
     ensures begins { BeginsAtMost D.SectorDevice device.old device.new 0 1 }
+    ensures reads { ReadsAtMost D.SectorDevice device.old device.new 1 }
 {
     let mut label = [0; 512];
     settle(device, &mut label)?;

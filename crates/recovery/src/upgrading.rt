@@ -2,7 +2,7 @@
 ghost use Rattle.std.specs.Prelude.{◌≡◌, ◌≢◌, ◌⊎◌, ◌<◌, ◌≤◌, ◌+◌, ◌-◌, ◌*◌, ℕ, true, false, Some, None, IsTrue, OnOk, IfOk, IfErr, MatchResult, replicate};
 ghost use Rattle.sector_disk.specs.Counting.{count_up};
 ghost use Rattle.sector_disk.specs.Disk.{Image, MayLeave, written};
-ghost use Rattle.journal.specs.Calls.{StopsLeave, BeginsAtMost, Passes, Proceeds};
+ghost use Rattle.journal.specs.Calls.{StopsLeave, BeginsAtMost, ReadsAtMost, Passes, Proceeds};
 ghost use Rattle.journal.specs.Chain.{MayRedo};
 ghost use Rattle.journal.specs.Images.{meaning, Means};
 ghost use Rattle.journal.specs.Layout.{fewest_blocks, most_blocks, most_blocks_1, sectors_for, label_of, label_1_of, gate_open, count_listed};
@@ -11,7 +11,7 @@ ghost use Rattle.recovery.specs.Formatted.{MakingLeaves, IsFilled, KeepsSlots};
 ghost use Rattle.recovery.specs.Label.{label_refusal_by};
 ghost use Rattle.recovery.specs.Opened.{gate_after, writes_for, syncs_for};
 ghost use Rattle.recovery.specs.Steps.{IsUnlabelled, IsPrepared, IsMade, TakenAway, CarriedLeaves, OnlyRead, WentWell, TellsFault};
-ghost use Rattle.recovery.specs.Upgraded.{size_refusal, upgrade_refusal, OldLeaves};
+ghost use Rattle.recovery.specs.Upgraded.{size_refusal, upgrade_refusal, OldLeaves, reads_for_1};
 ghost use Rattle.recovery.specs.declared.fault.OpenFault.{OpenFault};
 ghost use Rattle.recovery.specs.declared.fault.OpenFault.TheVariants.{BadSize, Device};
 ghost use Rattle.recovery.specs.declared.fault.UpgradeFault.{UpgradeFault};
@@ -58,6 +58,8 @@ fn redo<D: SectorDevice>(device: &mut D, blocks: u16) -> Result<(), DeviceFault>
     ensures passes { Passes D.SectorDevice device.old device.new result }
     ensures begins { IsTrue (D.keeps_model device.old)
         → BeginsAtMost D.SectorDevice device.old device.new (2 * count_listed ((D.disk device.old).content 2) blocks + 1) 2 }
+    ensures reads { IsTrue (D.keeps_model device.old)
+        → ReadsAtMost D.SectorDevice device.old device.new (2 * count_listed ((D.disk device.old).content 2) blocks + 1) }
 {
     let mut record = [0; 512];
     device.read(RECORD, &mut record)?;
@@ -80,6 +82,8 @@ fn finish<D: SectorDevice>(device: &mut D, blocks: u16) -> Result<(), DeviceFaul
     ensures begins { IsTrue (D.keeps_model device.old)
         → BeginsAtMost D.SectorDevice device.old device.new (writes_for blocks (D.disk device.old).content)
         (syncs_for (D.disk device.old).content - 1) }
+    ensures reads { IsTrue (D.keeps_model device.old)
+        → ReadsAtMost D.SectorDevice device.old device.new (reads_for_1 blocks (D.disk device.old).content - 1) }
 {
     let mut gate = [0; 512];
     device.read(GATE, &mut gate)?;
@@ -117,6 +121,8 @@ fn recover<D: SectorDevice>(device: &mut D, blocks: u16) -> Result<(), OpenFault
     ensures begins { IsTrue (D.keeps_model device.old)
         → BeginsAtMost D.SectorDevice device.old device.new (writes_for blocks (D.disk device.old).content)
         (syncs_for (D.disk device.old).content) }
+    ensures reads { IsTrue (D.keeps_model device.old)
+        → ReadsAtMost D.SectorDevice device.old device.new (reads_for_1 blocks (D.disk device.old).content) }
 {
     start(device, VERSION_1, blocks)?;
     match finish(device, blocks) {
@@ -144,6 +150,8 @@ fn carry_sector<A: SectorDevice, B: SectorDevice>(
     ensures source { OnlyRead A.SectorDevice source.old source.new }
     ensures passes { Proceeds B.SectorDevice target.old target.new }
     ensures begins { BeginsAtMost B.SectorDevice target.old target.new 1 0 }
+    ensures reads { ReadsAtMost A.SectorDevice source.old source.new 1 }
+    ensures target_reads { ReadsAtMost B.SectorDevice target.old target.new 0 }
 {
     let mut bytes = [0; 512];
     match source.read(k, &mut bytes) {
@@ -177,6 +185,8 @@ fn carry_homes<A: SectorDevice, B: SectorDevice>(
     ensures source { OnlyRead A.SectorDevice source.old source.new }
     ensures passes { Proceeds B.SectorDevice target.old target.new }
     ensures begins { BeginsAtMost B.SectorDevice target.old target.new (2 * blocks) 0 }
+    ensures reads { ReadsAtMost A.SectorDevice source.old source.new (2 * blocks) }
+    ensures target_reads { ReadsAtMost B.SectorDevice target.old target.new 0 }
 {
     let first = home_sector(blocks, 0);
     for k in first..first + 2 * blocks as u32 {
@@ -208,6 +218,8 @@ fn fill<A: SectorDevice, B: SectorDevice>(
     ensures source { OnlyRead A.SectorDevice source.old source.new }
     ensures passes { Proceeds B.SectorDevice target.old target.new }
     ensures begins { BeginsAtMost B.SectorDevice target.old target.new (2 * blocks + 2) 0 }
+    ensures reads { ReadsAtMost A.SectorDevice source.old source.new (2 * blocks) }
+    ensures target_reads { ReadsAtMost B.SectorDevice target.old target.new 0 }
 {
     match fill_head(target) {
         Ok(()) => carry_homes(source, target, blocks),
@@ -239,6 +251,8 @@ fn prepare<A: SectorDevice, B: SectorDevice>(
     ensures source { OnlyRead A.SectorDevice source.old source.new }
     ensures passes { Proceeds B.SectorDevice target.old target.new }
     ensures begins { BeginsAtMost B.SectorDevice target.old target.new (2 * blocks + 2) 1 }
+    ensures reads { ReadsAtMost A.SectorDevice source.old source.new (2 * blocks) }
+    ensures target_reads { ReadsAtMost B.SectorDevice target.old target.new 0 }
 {
     fill(source, target, blocks)?;
     match target.sync() {
@@ -269,6 +283,8 @@ fn write_image<A: SectorDevice, B: SectorDevice>(
     ensures source { OnlyRead A.SectorDevice source.old source.new }
     ensures passes { Proceeds B.SectorDevice target.old target.new }
     ensures begins { BeginsAtMost B.SectorDevice target.old target.new (2 * blocks + 3) 2 }
+    ensures reads { ReadsAtMost A.SectorDevice source.old source.new (2 * blocks) }
+    ensures target_reads { ReadsAtMost B.SectorDevice target.old target.new 0 }
 {
     prepare(source, target, blocks)?;
     match seal(target, blocks) {
@@ -299,6 +315,8 @@ fn carry<A: SectorDevice, B: SectorDevice>(
     ensures source { OnlyRead A.SectorDevice source.old source.new }
     ensures passes { Proceeds B.SectorDevice target.old target.new }
     ensures begins { BeginsAtMost B.SectorDevice target.old target.new (2 * blocks + 4) 4 }
+    ensures reads { ReadsAtMost A.SectorDevice source.old source.new (2 * blocks) }
+    ensures target_reads { ReadsAtMost B.SectorDevice target.old target.new 1 }
 {
     match unlabel(target, blocks) {
         Ok(()) => write_image(source, target, blocks),
@@ -360,8 +378,12 @@ pub fn upgrade<A: SectorDevice, B: SectorDevice>(
     ensures old_begins { IsTrue (A.keeps_model old.old) → (n : ℕ) → A.sector_count old.old ≡ sectors_for n
         → BeginsAtMost A.SectorDevice old.old old.new (writes_for n (A.disk old.old).content)
         (syncs_for (A.disk old.old).content) }
+    // What a recovery reads, and each home once.
+    ensures old_reads { IsTrue (A.keeps_model old.old) → (n : ℕ) → A.sector_count old.old ≡ sectors_for n
+        → ReadsAtMost A.SectorDevice old.old old.new (reads_for_1 n (A.disk old.old).content + 2 * n) }
     ensures new_begins { (n : ℕ) → B.sector_count new.old ≡ sectors_for n
         → BeginsAtMost B.SectorDevice new.old new.new (2 * n + 4) 4 }
+    ensures new_reads { ReadsAtMost B.SectorDevice new.old new.new 1 }
 {
     let blocks = blocks_of_both(old.sectors(), new.sectors())?;
     match recover(old, blocks) {

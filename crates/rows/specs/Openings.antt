@@ -1,8 +1,8 @@
--- Which images are refused, and how much a recovery writes and syncs at most.
+-- Which images are refused, and how much a recovery writes, syncs and reads at most.
 use Rattle.std.specs.Prelude.{◌≡◌, ℕ, List, [], ◌∷◌, ◌++◌, codes, map, replicate, Some, None, refl}
 use Rattle.journal.specs.Layout.{open_gate_bytes}
 use Rattle.recovery.specs.Label.{refusal, label_refusal_by}
-use Rattle.recovery.specs.Opened.{writes_for, syncs_for}
+use Rattle.recovery.specs.Opened.{writes_for, syncs_for, reads_for}
 use Rattle.recovery.specs.declared.fault.OpenFault.TheVariants.{BadSize, NoLabel, OtherVersion, WrongCount}
 use Rattle.recovery.specs.declared.fault.UpgradeFault.TheVariants.{Old, New}
 use Rattle.recovery.specs.Upgraded.{size_refusal}
@@ -48,3 +48,6 @@ writes = refl
 
 syncs : map syncs_for (image_with (replicate 512 0) a_record ∷ image_with open_gate_bytes a_record ∷ []) ≡ 1 ∷ 3 ∷ []
 syncs = refl
+
+reads : map (reads_for 32) (image_with (replicate 512 0) a_record ∷ image_with open_gate_bytes a_record ∷ image_with open_gate_bytes (replicate 512 255) ∷ []) ≡ 2 ∷ 15 ∷ 131 ∷ []
+reads = refl

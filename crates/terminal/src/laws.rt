@@ -16,7 +16,7 @@ pub fn one_session()
     ensures { HasOneSession }
 {}
 
-/// What a session tells line by line, of failures, writes and syncs of the device, it tells in all.
+/// What a session tells line by line, of failures and calls of the device, it tells in all.
 pub fn told_in_all<D: SectorDevice>()
     ensures { ToldInAll D.SectorDevice }
 {}

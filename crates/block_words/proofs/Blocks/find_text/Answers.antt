@@ -49,7 +49,7 @@ returns-in-Ok-clause-runs g c = λ m space stands.
       runs = source_read c.args.u m c.args.self.now.buffers space is none open_now c.read_text.new.self.text (c.in-Ok.ensures.ok m stands);
       stands = c.in-Ok.ensures.state m stands;
       kept = keeps_saved g.D.SectorDevice m.closed old.device c.read_text.new.self.device m.saved open_now (c.in-Ok.ensures.stops m stands open_now);
-      wears = c.in-Ok.ensures.begins;
+      wears = record { begins = c.in-Ok.ensures.begins; reads = c.in-Ok.ensures.reads };
       shuts = λ h. h;
       last = λ _. refl;
     }
@@ -64,7 +64,7 @@ returns-in-Err-clause-runs g c = λ m space stands.
     c.from.ensures g.met.D.SectorDevice.only_now stands (c.read_text.ensures.state m stands)
     (λ f. search rules) (λ f. search rules) (λ f. search rules)
     (source_closed c.args.u m b space is none) (source_failed c.args.u m b space is none)
-    (c.read_text.ensures.stops m stands) c.read_text.ensures.begins
+    (c.read_text.ensures.stops m stands) (record { begins = c.read_text.ensures.begins; reads = c.read_text.ensures.reads })
 
 pub returns-then-u-blocks-clause-asks : goal.returns-then-u-blocks-clause-asks
 returns-then-u-blocks-clause-asks g c =

@@ -6,7 +6,7 @@ use Rattle.block_words.specs.Calls.{CallRuns, save_begun}
 use Rattle.block_words.specs.Kept.{last_map}
 use Rattle.block_words.specs.declared.BlockFault.TheVariants.{Closed}
 use Rattle.block_words.proofs.Runs.{still_runs}
-use Rattle.block_words.proofs.Saves.{save_ok, save_uncommitted, save_unspilled, keeps_save, runs_open, saves_then, save_begins, unspilled_wears, committed_wears, saved_wears, continues_then, some_pending, none_left, device_fault}
+use Rattle.block_words.proofs.Saves.{save_ok, save_uncommitted, save_unspilled, keeps_save, runs_open, saves_then, save_begins, save_reads, unspilled_wears, committed_wears, saved_wears, continues_then, some_pending, none_left, device_fault}
 use Rattle.block_words.proofs.saving.save.Goals as goal
 
 pub returns-in-Err-clause-runs : goal.returns-in-Err-clause-runs
@@ -21,7 +21,7 @@ returns-in-Err-clause-runs g c = λ m change stands.
       stands = f.shut_so;
       kept = keeps_save g.D.SectorDevice m.closed c.args.store.now.device c.spill_updated.new.store.device m.saved (next_map b c.args.space.now m) false open_now
           (λ x since. inl (c.in-Err.ensures.stops m stands open_now x since)) (λ no. absurd (cc));
-      wears = unspilled_wears g.D.SectorDevice c.args.store.now.device c.spill_updated.new.store.device f.before f.begins;
+      wears = unspilled_wears g.D.SectorDevice c.args.store.now.device c.spill_updated.new.store.device f.before f.begins c.in-Err.ensures.reads;
       shuts = λ _. refl;
       last = λ no. absurd (cc);
     }
@@ -50,7 +50,7 @@ returns-in-Ok-commit-clause-runs g c = λ m change stands.
             omega arith,
             λ x since. c.in-Ok-commit.ensures.after all mid_stands x (g.met.D.SectorDevice.only_now new.device x since),
           ));
-      wears = saved_wears G old.device mid new b all mid_stands c.in-Ok.ensures.opened c.in-Ok.ensures.begins c.commit.ensures.begins
+      wears = saved_wears G old.device mid new b all mid_stands c.in-Ok.ensures.opened c.in-Ok.ensures.begins c.in-Ok.ensures.reads c.commit.ensures.begins c.commit.ensures.reads
           (λ none. (c.commit.ensures.nothing c.in-Ok.ensures.opened none).1);
       shuts = λ h. absurd (let no : true ≡ false = sym h ∙ open_now in cc);
       last = λ h. subst (λ t. (latest all) ≡ last_map m.saved (save_begun t (next_map b sp m) true)) (sym open_now) refl;
@@ -75,7 +75,7 @@ returns-in-Err-commit-clause-runs g c = λ m change stands.
       kept = keeps_save g.D.SectorDevice m.closed old.device new.device m.saved (next_map b sp m) false open_now
           (saves_then g.D.SectorDevice old mid new b sp c.in-Ok.ensures.continues c.commit.ensures.continues c.in-Ok.ensures.ok c.in-Ok.ensures.stops c.commit.ensures.stops m stands open_now)
           (λ no. absurd (cc));
-      wears = committed_wears g.D.SectorDevice old.device mid new b all mid_stands c.in-Ok.ensures.opened c.in-Ok.ensures.begins c.commit.ensures.begins;
+      wears = committed_wears g.D.SectorDevice old.device mid new b all mid_stands c.in-Ok.ensures.opened c.in-Ok.ensures.begins c.in-Ok.ensures.reads c.commit.ensures.begins c.commit.ensures.reads;
       shuts = λ _. refl;
       last = λ no. absurd (cc);
     }
@@ -98,6 +98,7 @@ returns-in-Ok-commit-clause-saves g c =
       continues = continues_then old mid new (g.met.D.SectorDevice.widens new.device) c.in-Ok.ensures.continues c.commit.ensures.continues;
       pending = c.in-Ok-commit.ensures.pending;
       begins = save_begins g.D.SectorDevice old mid new c.args.buffers.now c.in-Ok.ensures.continues c.in-Ok.ensures.pending c.in-Ok.ensures.begins c.commit.ensures.begins;
+      reads = save_reads g.D.SectorDevice old mid new c.args.buffers.now c.in-Ok.ensures.continues c.in-Ok.ensures.pending c.in-Ok.ensures.reads c.commit.ensures.reads;
       nothing = λ none none_pending.
           let first = c.spill_updated.ensures.nothing none in
           (c.commit.ensures.nothing c.in-Ok.ensures.opened (none_left old mid c.args.buffers.now none c.in-Ok.ensures.continues c.in-Ok.ensures.pending none_pending)).1 ∙ first.1;
@@ -121,6 +122,7 @@ returns-in-Err-commit-clause-saves g c =
       continues = continues_then old mid new (g.met.D.SectorDevice.widens new.device) c.in-Ok.ensures.continues c.commit.ensures.continues;
       pending = tt;
       begins = save_begins g.D.SectorDevice old mid new c.args.buffers.now c.in-Ok.ensures.continues c.in-Ok.ensures.pending c.in-Ok.ensures.begins c.commit.ensures.begins;
+      reads = save_reads g.D.SectorDevice old mid new c.args.buffers.now c.in-Ok.ensures.continues c.in-Ok.ensures.pending c.in-Ok.ensures.reads c.commit.ensures.reads;
       nothing = λ none none_pending.
           let first = c.spill_updated.ensures.nothing none in
           (c.commit.ensures.nothing c.in-Ok.ensures.opened (none_left old mid c.args.buffers.now none c.in-Ok.ensures.continues c.in-Ok.ensures.pending none_pending)).1 ∙ first.1;

@@ -76,5 +76,6 @@ loop-updated-preserved g c =
           (c.in-Ok.ensures.pending u ∙ ap (λ t. (u == x.block) || t) (c.loop-updated.invariant.pending u)
           ∙ among_more xs i x u (is_pending c.args.store.now u) (item_at xs i nothing c.loop-updated-test.true));
       begins = record { few_writes = omega (arith, c.loop-updated.invariant.begins.few_writes, c.spill.ensures.begins.few_writes); few_syncs = omega (arith, c.loop-updated.invariant.begins.few_syncs, c.spill.ensures.begins.few_syncs) };
+      reads = omega (arith, c.loop-updated.invariant.reads, c.spill.ensures.reads);
       unmoved = λ zero. absurd (omega (arith, zero));
     }

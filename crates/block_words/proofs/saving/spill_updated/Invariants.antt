@@ -1,7 +1,7 @@
 use Rattle.std.proofs.Common.{◌≡◌, ◌*◌, ℕ, false, take}
 use Rattle.std.specs.Prelude.{◌||◌}
 use Rattle.journal.specs.Maps.{Maps}
-use Rattle.journal.specs.Store.{StandsFor, Continues, DeviceWentWell, KeepsSaved, DeviceBegins, is_pending}
+use Rattle.journal.specs.Store.{StandsFor, Continues, DeviceWentWell, KeepsSaved, DeviceBegins, DeviceReads, is_pending}
 use Rattle.block_words.specs.Uses.{is_among}
 use Rattle.block_words.specs.Words.{all_spilled}
 use Rattle.block_words.proofs.saving.spill_updated.Given as goal
@@ -15,5 +15,6 @@ invariant-loop-updated g l = record {
   well : DeviceWentWell l.fn.store l.store;
   pending : (u : ℕ) → is_pending l.store u ≡ (is_among (take l.updated-index l.updated-items) u || is_pending l.fn.store u);
   begins : DeviceBegins l.fn.store l.store (2 * l.updated-index) 0;
+  reads : DeviceReads l.fn.store l.store 0;
   unmoved : l.updated-index ≡ 0 → l.store.device ≡ l.fn.store.device;
 }

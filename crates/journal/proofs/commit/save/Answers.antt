@@ -77,3 +77,8 @@ returns-clause-begins g c =
       few_writes = omega (arith, count, sign.few_writes, save.few_writes);
       few_syncs = omega (arith, sign.few_syncs, save.few_syncs);
     }
+
+pub returns-clause-reads : goal.returns-clause-reads
+returns-clause-reads g c =
+    let count = count_same c.in_ok-bytes.bytes c.args.bits.now c.in_ok-bytes.ensures.bits c.args.blocks c.requires.few in
+    omega (arith, count, c.sign.ensures.reads, c.save_listed.ensures.reads)

@@ -15,6 +15,10 @@ returns-in_err-copy_if_listed-clause-begins g c =
       few_syncs = omega (arith, so_far.few_syncs, step.few_syncs);
     }
 
+pub returns-in_err-copy_if_listed-clause-reads : goal.returns-in_err-copy_if_listed-clause-reads
+returns-in_err-copy_if_listed-clause-reads g c =
+    (step_writes c.args.bytes.now c.loop-b.b c.args.blocks _ _ _ c.loop-b-test.true c.loop-b.invariant.reads c.copy_if_listed.ensures.reads).1
+
 pub loop-b-preserved : goal.loop-b-preserved
 loop-b-preserved g c =
     let D = g.D.SectorDevice in
@@ -39,4 +43,5 @@ loop-b-preserved g c =
         few_writes = (step_writes bytes c.loop-b.b n _ _ _ below inv.begins.few_writes step.begins.few_writes).0;
         few_syncs = omega (arith, inv.begins.few_syncs, step.begins.few_syncs);
       };
+      reads = (step_writes bytes c.loop-b.b n _ _ _ below inv.reads step.reads).0;
     }

@@ -1,7 +1,7 @@
 use Rattle.std.proofs.Common.{◌≡◌, ℕ, ◌<◌, ◌*◌, true, IsTrue}
 use Rattle.std.specs.Prelude.{Ok}
 use Rattle.sector_disk.specs.declared.device.DeviceFault.{DeviceFault}
-use Rattle.journal.specs.Calls.{StopsLeave, BeginsAtMost, Passes}
+use Rattle.journal.specs.Calls.{StopsLeave, BeginsAtMost, ReadsAtMost, Passes}
 use Rattle.journal.specs.Layout.{listed, count_listed, InListedHomes}
 use Rattle.journal.specs.Steps.{WritesOnly, IsAsSynced, HasCopied}
 use Rattle.journal.proofs.homes.copy_homes.Given as goal
@@ -17,4 +17,5 @@ invariant-loop-b g l =
       stops : IsTrue (D.keeps_model old) → StopsLeave D old now (IsAsSynced (InListedHomes l.blocks l.bytes) (D.disk old));
       passes : Passes D {T = Unit {0}} {E = DeviceFault} old now (Ok tt);
       begins : BeginsAtMost D old now (2 * count_listed l.bytes l.b) 0;
+      reads : ReadsAtMost D old now (2 * count_listed l.bytes l.b);
     }

@@ -15,5 +15,6 @@ invariant-loop-k g l =
       stops : IsTrue (D.keeps_model old) → StopsLeave D old now (IsAsSynced (λ j. 3 + 2 * l.blocks ≤ j) (D.disk old));
       few_writes : (D.counts now).writes + l.first ≤ (D.counts old).writes + l.k;
       few_syncs : (D.counts now).syncs ≤ (D.counts old).syncs;
+      few_reads : (D.counts now).reads ≤ (D.counts old).reads;
       passes : Passes D {T = Unit {0}} {E = DeviceFault} old now (Ok tt);
     }

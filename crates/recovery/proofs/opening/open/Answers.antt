@@ -1,10 +1,10 @@
 use Rattle.std.proofs.Common.{◌≡◌, ⊎_elim, sym, subst, IsTrue}
-use Rattle.journal.specs.Calls.{BeginsAtMost}
+use Rattle.journal.specs.Calls.{BeginsAtMost, ReadsAtMost}
 use Rattle.journal.specs.Images.{block_of, meaning}
 use Rattle.journal.specs.Maps.{fresh}
 use Rattle.journal.specs.Store.{StandsFor}
 use Rattle.journal.proofs.Blocks.{same_below}
-use Rattle.recovery.specs.Opened.{writes_for, syncs_for}
+use Rattle.recovery.specs.Opened.{writes_for, syncs_for, reads_for}
 use Rattle.recovery.proofs.Recoveries.{passes_all}
 use Rattle.recovery.proofs.opening.open.Goals as goal
 
@@ -32,3 +32,8 @@ returns-in-Err-clause-good g c = λ keeps n size good.
     ⊎_elim (λ device. device)
     (λ refused. absurd (cc (refused, passes_all n _ _ size good)))
     (c.in-Err.ensures.exact keeps)
+
+pub returns-in-Ok-clause-reads : goal.returns-in-Ok-clause-reads
+returns-in-Ok-clause-reads g c = λ keeps n size.
+    let image = (g.D.SectorDevice.disk c.args.device).content in
+    subst (λ d. ReadsAtMost g.D.SectorDevice c.args.device d (reads_for n image)) (sym c.adopt.ensures.device) (c.recover.ensures.reads keeps n size)

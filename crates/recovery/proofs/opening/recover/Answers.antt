@@ -1,11 +1,11 @@
 use Rattle.std.proofs.Common.{◌≡◌, ◌-◌, sym, subst, ap, arith, IsTrue, None}
 use Rattle.sector_disk.specs.Disk.{Disk, Image, MayLeave}
 use Rattle.sector_disk.proofs.Moments.{leaves_then}
-use Rattle.journal.specs.Calls.{BeginsAtMost}
+use Rattle.journal.specs.Calls.{BeginsAtMost, ReadsAtMost}
 use Rattle.journal.specs.Chain.{Follows}
 use Rattle.journal.proofs.Calls.{proceeds_then}
-use Rattle.recovery.specs.Opened.{damage_refusal, RecoveryLeaves, writes_for, syncs_for}
-use Rattle.recovery.proofs.Recoveries.{not_damaged, recovers_now, recovers_later, begins_then}
+use Rattle.recovery.specs.Opened.{damage_refusal, RecoveryLeaves, writes_for, syncs_for, reads_for}
+use Rattle.recovery.proofs.Recoveries.{not_damaged, recovers_now, recovers_later, begins_then, reads_then, reads_first}
 use Rattle.recovery.proofs.opening.recover.Goals as goal
 
 pub returns-in_default-clause-stops : goal.returns-in_default-clause-stops
@@ -74,3 +74,29 @@ returns-clause-meaning g c = λ keeps.
       whole = not_damaged n (D.disk c.args.device.now).content
           (subst (λ (e : Disk). damage_refusal n e.content ≡ None) started.0 (c.in_ok-finish.ensures.exact honest));
     }
+
+pub returns-clause-reads : goal.returns-clause-reads
+returns-clause-reads g c = λ keeps n size.
+    let D = g.D.SectorDevice in
+    let old = c.args.device.now in
+    let one : c.in-Some.blocks ≡ n = omega (arith, size, c.in-Some.ensures.size, c.sectors.ensures) in
+    let honest : IsTrue (D.keeps_model c.start.new.device) = subst IsTrue (sym c.start.ensures.passes.model) keeps in
+    let within : (image : Image) → Type 0 = λ image. ReadsAtMost D c.start.new.device c.finish.new.device (reads_for c.in-Some.blocks image - 1) in
+    subst (λ m. ReadsAtMost D old c.finish.new.device (reads_for m (D.disk old).content)) one
+    (reads_then D c.in-Some.blocks (D.disk old).content old c.start.new.device c.finish.new.device c.start.ensures.reads
+    (subst within (ap (λ (e : Disk). e.content) (c.in_ok-start.ensures.ok keeps).0) (c.finish.ensures.reads honest)))
+
+pub returns-in_err-finish-clause-reads : goal.returns-in_err-finish-clause-reads
+returns-in_err-finish-clause-reads g c = λ keeps n size.
+    let D = g.D.SectorDevice in
+    let old = c.args.device.now in
+    let one : c.in-Some.blocks ≡ n = omega (arith, size, c.in-Some.ensures.size, c.sectors.ensures) in
+    let honest : IsTrue (D.keeps_model c.start.new.device) = subst IsTrue (sym c.start.ensures.passes.model) keeps in
+    let within : (image : Image) → Type 0 = λ image. ReadsAtMost D c.start.new.device c.finish.new.device (reads_for c.in-Some.blocks image - 1) in
+    subst (λ m. ReadsAtMost D old c.finish.new.device (reads_for m (D.disk old).content)) one
+    (reads_then D c.in-Some.blocks (D.disk old).content old c.start.new.device c.finish.new.device c.start.ensures.reads
+    (subst within (ap (λ (e : Disk). e.content) (c.in_ok-start.ensures.ok keeps).0) (c.finish.ensures.reads honest)))
+
+pub returns-in_err-start-clause-reads : goal.returns-in_err-start-clause-reads
+returns-in_err-start-clause-reads g c = λ keeps n size.
+    reads_first g.D.SectorDevice n (g.D.SectorDevice.disk c.args.device.now).content c.args.device.now c.start.new.device c.start.ensures.reads

@@ -17,6 +17,8 @@ invariant-loop-k g l =
       stops : IsTrue (B.keeps_model old) → StopsLeave B old now (IsAsSynced (λ j. 3 + 2 * l.blocks ≤ j) (B.disk old));
       few_writes : (B.counts now).writes + l.first ≤ (B.counts old).writes + l.k;
       few_syncs : (B.counts now).syncs ≤ (B.counts old).syncs;
+      few_reads : (A.counts l.source).reads + l.first ≤ (A.counts from).reads + l.k;
+      no_reads : (B.counts now).reads ≤ (B.counts old).reads;
       source : OnlyRead A from l.source;
       well : WentWell A B from l.source old now;
       passes : Proceeds B old now;

@@ -1,11 +1,12 @@
-use Rattle.std.proofs.Common.{◌≡◌, sym, subst, arith, IsTrue}
+use Rattle.std.proofs.Common.{◌≡◌, ◌+◌, ◌*◌, sym, subst, arith, IsTrue}
 use Rattle.std.proofs.lemmas.Result.{on_ok_weaker}
 use Rattle.sector_disk.specs.Disk.{MayLeave}
 use Rattle.sector_disk.proofs.Moments.{leaves_then}
+use Rattle.journal.specs.Calls.{ReadsAtMost}
 use Rattle.journal.specs.Images.{meaning, Means}
 use Rattle.journal.proofs.Calls.{proceeds_then}
 use Rattle.recovery.specs.Formatted.{MakingLeaves}
-use Rattle.recovery.specs.Upgraded.{OldLeaves}
+use Rattle.recovery.specs.Upgraded.{OldLeaves, reads_for_1}
 use Rattle.recovery.proofs.Formats.{half_now, making}
 use Rattle.recovery.proofs.Upgrades.{old_now, old_recovered, recovered_homes, carried_means, after_means}
 use Rattle.recovery.proofs.upgrading.upgrade.Goals as goal
@@ -77,3 +78,19 @@ pub returns-in-Ok-clause-old_passes : goal.returns-in-Ok-clause-old_passes
 returns-in-Ok-clause-old_passes g c =
     proceeds_then g.A.SectorDevice c.args.old.now c.recover.new.device c.carry.new.source g.met.A.SectorDevice.widens
     c.recover.ensures.passes c.carry.ensures.source.passes
+
+pub returns-in-Ok-clause-old_reads : goal.returns-in-Ok-clause-old_reads
+returns-in-Ok-clause-old_reads g c = λ keeps n size.
+    let A = g.A.SectorDevice in
+    let old = c.args.old.now in
+    let one : c.in_ok-blocks.blocks ≡ n = omega (arith, size, c.in_ok-blocks.ensures.size.0, c.sectors.ensures) in
+    subst (λ k. ReadsAtMost A old c.carry.new.source (reads_for_1 k (A.disk old).content + 2 * k)) one
+    (omega (arith, c.recover.ensures.reads keeps, c.carry.ensures.reads))
+
+pub returns-in-Err-clause-old_reads : goal.returns-in-Err-clause-old_reads
+returns-in-Err-clause-old_reads g c = λ keeps n size.
+    let A = g.A.SectorDevice in
+    let old = c.args.old.now in
+    let one : c.in_ok-blocks.blocks ≡ n = omega (arith, size, c.in_ok-blocks.ensures.size.0, c.sectors.ensures) in
+    subst (λ k. ReadsAtMost A old c.recover.new.device (reads_for_1 k (A.disk old).content + 2 * k)) one
+    (omega (arith, c.recover.ensures.reads keeps))
