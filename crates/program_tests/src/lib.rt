@@ -11,3 +11,5 @@ mod sessions;
 mod streams;
 #[cfg(test)]
 mod support;
+#[cfg(test)]
+mod systems;

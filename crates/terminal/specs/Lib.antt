@@ -9,3 +9,6 @@ pub mod CommandRows
 pub mod InMemory
 pub mod Failures
 pub mod Held
+pub mod Done
+pub mod Files
+pub mod Putting

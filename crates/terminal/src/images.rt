@@ -1,12 +1,21 @@
-//! The commands over an image.
-ghost use Rattle.std.specs.Prelude.{◌≡◌, ◌≢◌, ◌⊎◌, ◌<◌, ◌≤◌, ◌+◌, ◌*◌, ◌↔◌, ℕ, List, length, true, false, Some, None, OnOk, IfOk, IfErr, IsErrOf};
+//! The commands over an image on any device.
+ghost use Rattle.std.specs.Prelude.{◌≡◌, ◌≢◌, ◌⊎◌, ◌<◌, ◌≤◌, ◌+◌, ◌*◌, ◌↔◌, ℕ, List, length, true, false, Some, None};
+ghost use Rattle.std.specs.Prelude.{IsTrue, OnOk, IfOk, IfErr, IsErrOf, MatchBool, MatchResult, option_map};
 ghost use Rattle.std.specs.Io.KnownBytes.{Appends, Consumes, IsAtEnd};
 ghost use Rattle.arrayvec.specs.ArrayVec.{array_vec_len};
 ghost use Rattle.sector_disk.specs.Disk.{Image, MayLeave};
-ghost use Rattle.journal.specs.Calls.{StopsLeave};
+ghost use Rattle.journal.specs.Calls.{BeginsAtMost, StopsLeave};
 ghost use Rattle.journal.specs.Images.{Means};
-ghost use Rattle.journal.specs.Maps.{Maps, contents, latest, spilled, committed, shut};
-ghost use Rattle.journal.specs.Store.{blocks_of, closed_of, device_of, disk_of, pending_count, StandsFor, DeviceBegins, KeepsSaved};
+ghost use Rattle.journal.specs.Maps.{Maps, contents, fresh, latest, spilled, committed, shut};
+ghost use Rattle.journal.specs.Store.{blocks_of, closed_of, device_of, disk_of, pending_count, StandsFor, DeviceBegins};
+ghost use Rattle.journal.specs.Store.{Continues, DeviceFailed, KeepsSaved};
+ghost use Rattle.recovery.specs.Formatted.{blank_blocks};
+ghost use Rattle.recovery.specs.Label.{is_size, is_size_for};
+ghost use Rattle.recovery.specs.Opened.{image_refusal};
+ghost use Rattle.terminal.specs.Done.{MakesBlank};
+ghost use Rattle.terminal.specs.Failures.{of_image};
+ghost use Rattle.terminal.specs.Files.{OpensAs};
+ghost use Rattle.terminal.specs.Putting.{PutsSome, LeavesSome};
 ghost use Rattle.terminal.specs.Screen.{screen_of, listing};
 
 use super::failure::Failure;
@@ -14,45 +23,47 @@ use super::screen::{BLOCK, listing, screen_of};
 use super::streams::{flush, read_byte, write_bytes};
 use arrayvec::ArrayVec;
 use interpreter::IoFault;
-use journal::layout::MOST_BLOCKS_1;
 use journal::{Store, StoreFault};
-use recovery::{blocks_of_size, format, open, upgrade};
-use sector_disk::{FileDisk, SectorDevice};
-use std::fs::{File, Files};
-use std::io::{BufReader, Read, Write};
+use recovery::{format, open};
+use sector_disk::SectorDevice;
+use std::io::{Read, Write};
 
 /// One byte more than the longest text of a screen: each of its 16 lines has 64 bytes, a carriage return and a line feed.
 const TEXT_ROOM: usize = 1057;
 
-/// Makes a file that is an image of blank blocks. Whatever has that name already stays as it is.
-pub fn make_image(rt: &impl Files<File = File>, path: &str, blocks: u16) -> Result<(), Failure>
-    requires many { 32 ≤ blocks }
-    requires few { blocks ≤ 3840 }
+/// Makes a device an image of blank blocks.
+pub fn make_over<D: SectorDevice + Drop>(device: D, blocks: u16) -> Result<Store<D>, Failure>
+    ensures made { IfOk result (λ store. MakesBlank D.SectorDevice blocks device (device_of store)) }
+    ensures stands { IsTrue (D.keeps_model device) → IfOk result (λ store. StandsFor store (fresh (blank_blocks blocks))) }
+    // Ok only where no call failed.
+    ensures well { IfOk result (λ store. D.failures (device_of store) ≡ D.failures device) }
+    ensures begins { IfOk result (λ store. BeginsAtMost D.SectorDevice device (device_of store) (2 * blocks + 4) 4) }
+    ensures refusal { IfErr result (λ e. MatchBool (is_size_for blocks (D.sector_count device))
+        (e ≡ Failure.Device) (e ≡ Failure.BadSize)) }
 {
-    let disk = FileDisk::create(rt, path, 3 + 4 * blocks as u32)?;
-    match format(disk, blocks) {
-        Ok(_) => Ok(()),
+    match format(device, blocks) {
+        Ok(store) => Ok(store),
         Err((fault, _)) => Err(Failure::from(fault)),
     }
 }
 
-/// Opens an image.
-pub fn open_image(rt: &impl Files<File = File>, path: &str) -> Result<Store<FileDisk>, Failure> {
-    let disk = FileDisk::open(rt, path)?;
-    open(disk).map_err(|(fault, _)| Failure::from(fault))
-}
-
-/// Makes an image of layout 2, in a new file, of the blocks of one of layout 1. Nothing is made where the old one has the size of
-/// no such image, and whatever has the new name already stays as it is.
-pub fn upgrade_image(rt: &impl Files<File = File>, old: &str, new: &str) -> Result<(), Failure> {
-    let mut source = FileDisk::open(rt, old)?;
-    let sectors = source.sectors();
-    if blocks_of_size(sectors, MOST_BLOCKS_1).is_none() {
-        return Err(Failure::BadSize);
+/// Opens the image on a device: what a stop has left is recovered first.
+pub fn open_over<D: SectorDevice + Drop>(device: D) -> Result<Store<D>, Failure>
+    ensures opened { IfOk result (λ store. OpensAs D.SectorDevice device store) }
+    // Ok only where no call failed.
+    ensures well { IfOk result (λ store. D.failures (device_of store) ≡ D.failures device) }
+    // Each refusal tells the first test that the image fails.
+    ensures exact { IsTrue (D.keeps_model device) → MatchResult result
+        (λ _. image_refusal (D.sector_count device) (D.disk device).content ≡ None)
+        (λ e. (e ≡ Failure.Device) ⊎ (Some e ≡ option_map of_image
+        (image_refusal (D.sector_count device) (D.disk device).content))) }
+    ensures bad_size { IfErr result (λ e. MatchBool (is_size (D.sector_count device))
+        (e ≢ Failure.BadSize) (e ≡ Failure.BadSize)) }
+{
+    match open(device) {
+        Ok(store) => Ok(store),
+        Err((fault, _)) => Err(Failure::from(fault)),
     }
-    let mut target = FileDisk::create(rt, new, sectors)?;
-    upgrade(&mut source, &mut target)?;
-    Ok(())
 }
 
 /// Prints a block as the lines of a screen.
@@ -64,9 +75,11 @@ pub fn list_block<D: SectorDevice, W: Write>(
     ensures ok { (m : Maps) → StandsFor store.old m → OnOk result (Appends
         (W.contents output.old) (W.contents output.new) (listing (contents m block))) }
     ensures no_block { IsErrOf result Failure.NoBlock ↔ (blocks_of store.old ≤ block) }
+    ensures device { IsErrOf result Failure.Device → (closed_of store.old ≡ true) ⊎ DeviceFailed store.old store.new }
     ensures unwritten { IfErr result (λ e. e ≢ Failure.CannotWrite → output.new ≡ output.old) }
     ensures state { (m : Maps) → StandsFor store.old m → StandsFor store.new m }
     ensures stops { KeepsSaved store.old store.new }
+    ensures continues { Continues store.old store.new }
     ensures begins { DeviceBegins store.old store.new 0 0 }
 {
     if block >= store.blocks() {
@@ -88,25 +101,8 @@ fn print<W: Write>(bytes: &[u8], output: &mut W) -> Result<(), Failure>
     flush(output).map_err(|_| Failure::CannotWrite)
 }
 
-/// Makes the lines of a file a block, in one save. The file isn't opened where there is no such block.
-pub fn put_file<D: SectorDevice>(
-    rt: &(impl Files<File = File> + AllocGlobal),
-    store: &mut Store<D>,
-    block: u16,
-    path: &str,
-) -> Result<(), Failure>
-    ensures no_block { IsErrOf result Failure.NoBlock ↔ (blocks_of store.old ≤ block) }
-{
-    if block >= store.blocks() {
-        return Err(Failure::NoBlock);
-    }
-    let file = File::open(rt, path).map_err(|_| Failure::CannotRead)?;
-    let mut reader = BufReader::new(rt.alloc(), file).map_err(|_| Failure::NoMemory)?;
-    put_text(store, block, &mut reader)
-}
-
 /// Makes the lines of a text a block, in one save.
-fn put_text<D: SectorDevice, R: Read>(
+pub fn put_text<D: SectorDevice, R: Read>(
     store: &mut Store<D>,
     block: u16,
     text: &mut R,
@@ -118,12 +114,18 @@ fn put_text<D: SectorDevice, R: Read>(
         × ((image : Image) → MayLeave (disk_of store.new) image → Means (latest (spilled m block bytes)) image)) }
     ensures refused { IfErr result (λ e. e ≡ Failure.NotAScreen → (store.new ≡ store.old)
         × ((input : List ℕ) → R.remaining text.old ≡ Some input → screen_of input ≡ None)) }
-    ensures unread { IfErr result (λ e. e ≡ Failure.CannotRead → store.new ≡ store.old) }
+    ensures unread { IfErr result (λ e. e ≢ Failure.Device → store.new ≡ store.old) }
     ensures others { IfErr result (λ e. e ≢ Failure.NoBlock) }
     ensures stops { (m : Maps) (input : List ℕ) → StandsFor store.old m → m.closed ≡ false → R.remaining text.old ≡ Some input
         → StopsLeave D.SectorDevice (device_of store.old) (device_of store.new) (λ image. Means m.saved image
         ⊎ ((bytes : List ℕ) × (screen_of input ≡ Some bytes) × Means (latest (spilled m block bytes)) image)) }
+    // Whatever the text is, it is one save of one block.
+    ensures some { OnOk result (PutsSome store.old store.new block) }
+    ensures kept { LeavesSome store.old store.new block }
+    ensures continues { Continues store.old store.new }
     ensures begins { DeviceBegins store.old store.new (2 * pending_count store.old + 7) 4 }
+    ensures device { IfErr result (λ e. e ≡ Failure.Device
+        → (closed_of store.old ≡ true) ⊎ DeviceFailed store.old store.new) }
 {
     match read_text(text) {
         Ok(text) => match screen_of(text.as_slice()) {
@@ -168,7 +170,10 @@ fn put_block<D: SectorDevice>(
     ensures stops { (m : Maps) → StandsFor store.old m → m.closed ≡ false
         → StopsLeave D.SectorDevice (device_of store.old) (device_of store.new)
         (λ image. Means m.saved image ⊎ Means (latest (spilled m block bytes.now)) image) }
+    ensures continues { Continues store.old store.new }
     ensures begins { DeviceBegins store.old store.new (2 * pending_count store.old + 7) 4 }
+    ensures closed { IsErrOf result StoreFault.Closed ↔ (closed_of store.old ≡ true) }
+    ensures device { IsErrOf result StoreFault.Device → DeviceFailed store.old store.new }
 {
     match store.spill(block, bytes) {
         Ok(()) => store.commit(),

@@ -2,7 +2,7 @@
 #![tactic(auto)]
 
 pub use failure::Failure;
-pub use program::command;
+pub use program::{command, command_over};
 pub use reading::order;
 pub use run_fault::RunFault;
 pub use serving::run_over;
@@ -12,6 +12,7 @@ pub use starting::start;
 mod byte_reader;
 mod cut;
 mod failure;
+mod files;
 mod images;
 pub mod laws;
 mod program;

@@ -1,18 +1,21 @@
 //! The program: words, streams and files to an exit status.
-ghost use Rattle.std.specs.Prelude.{◌≡◌, ◌≢◌, ◌<◌, List, [], map, IsOk, IsErr, IfErr, OnOk};
-ghost use Rattle.clap.specs.Words.{kind_of};
+ghost use Rattle.std.specs.Prelude.{◌≡◌, ◌≢◌, ◌⊎◌, ◌<◌, List, [], map, Err, IsOk, IsErr, IfOk, IfErr, IsErrOf, MatchResult, OnOk};
+ghost use Rattle.clap.specs.Words.{fault_of, kind_of};
 ghost use Rattle.journal.specs.Maps.{Maps};
 ghost use Rattle.journal.specs.Store.{StandsFor, device_of};
 ghost use Rattle.block_words.specs.Words.{Save};
 ghost use Rattle.interpreter.specs.State.{Forth as Abstract};
 ghost use Rattle.interpreter.specs.Lines.{new_forth};
 ghost use Rattle.terminal.specs.declared.run_fault.RunFault.{RunFault as AbstractFault};
-ghost use Rattle.terminal.specs.Commands.{IsInRange};
+ghost use Rattle.terminal.specs.Commands.{IsInRange, forth83};
+ghost use Rattle.terminal.specs.Done.{Becomes, IsDone, OrderIsDone, RunsFrom};
+ghost use Rattle.terminal.specs.Failures.{status_of};
+ghost use Rattle.terminal.specs.Files.{IsMade, IsOpened};
 ghost use Rattle.terminal.specs.InMemory.{AsksForNothing, IsForMemory, CompletesInMemory, BreaksInMemory, IsHelp};
-ghost use Rattle.terminal.specs.Sessions.{Completes, BreaksOff};
+ghost use Rattle.terminal.specs.Sessions.{BreaksOff};
 
 use super::failure::Failure;
-use super::images::{list_block, make_image, open_image, put_file, upgrade_image};
+use super::files::{list_image, make_image, put_into_image, run_image, upgrade_image};
 use super::reading::order;
 use super::serving::run_over;
 use super::words::Order;
@@ -21,7 +24,7 @@ use clap::error::ErrorKind;
 use interpreter::promise::Lines;
 use journal::Store;
 use recovery::format;
-use sector_disk::{FileDisk, MemoryDisk, SectorDevice};
+use sector_disk::{FileDisk, HostFile, HostFiles, MemoryDisk, SectorDevice, SectorFile, StdFiles};
 use std::alloc::Global;
 use std::convert::AsStr;
 use std::fs::{File, Files};
@@ -50,15 +53,59 @@ pub fn command<F: Lines<FileDisk>, M: Lines<MemoryDisk>, S: AsStr, R: Read, W: W
     ensures broken { AsksForNothing (map S.text words.now) → result ≡ 4 → BreaksInMemory ⟦<MemoryDisk as SectorDevice>⟧
         (R.remaining input.old) (R.remaining input.new) (W.contents output.old) (W.contents output.new) }
 {
+    let files = StdFiles::new(rt);
+    command_over::<_, _, F, M, S, R, W, E>(rt, &files, words, input, output, errors)
+}
+
+/// The same over the images of any system of files. The text for `put` is a file of this one.
+pub fn command_over<
+    H: HostFile + Drop,
+    O: HostFiles<H>,
+    F: Lines<SectorFile<H>>,
+    M: Lines<MemoryDisk>,
+    S: AsStr,
+    R: Read,
+    W: Write,
+    E: Write,
+>(
+    rt: &(impl Files<File = File> + AllocGlobal),
+    files: &O,
+    words: &[S],
+    input: &mut R,
+    output: &mut W,
+    errors: &mut E,
+) -> u8
+    ensures well { AsksForNothing (map S.text words.now) → result ≡ 0 → CompletesInMemory ⟦<MemoryDisk as SectorDevice>⟧
+        (R.remaining input.old) (R.remaining input.new) (W.contents output.old) (W.contents output.new) }
+    ensures broken { AsksForNothing (map S.text words.now) → result ≡ 4 → BreaksInMemory ⟦<MemoryDisk as SectorDevice>⟧
+        (R.remaining input.old) (R.remaining input.new) (W.contents output.old) (W.contents output.new) }
+    // Of words that are refused nothing, status 0 comes only where what they order was done: a command over an image on the
+    // file that the system opened, or made, under that name.
+    ensures done { fault_of forth83 (map S.text words.now) ≡ [] → result ≡ 0
+        → OrderIsDone ⟦<SectorFile<H> as SectorDevice>⟧ (map S.text words.now)
+        (λ path. IsOpened H.HostFile (O.opens files.now path)) (λ path. IsMade H.HostFile (O.makes files.now path))
+        (R.remaining input.old) (R.remaining input.new) (W.contents output.old) (W.contents output.new) }
+{
     match order(rt.alloc(), words) {
-        Ok(asked) => told(perform::<F, M, R, W>(rt, asked, input, output), errors),
+        Ok(asked) => {
+            let outcome = perform::<H, O, F, M, R, W>(rt, files, asked, input, output);
+            told(outcome, errors)
+        }
         Err(error) => explain(&error, output, errors),
     }
 }
 
 /// Does what is asked.
-fn perform<F: Lines<FileDisk>, M: Lines<MemoryDisk>, R: Read, W: Write>(
+fn perform<
+    H: HostFile + Drop,
+    O: HostFiles<H>,
+    F: Lines<SectorFile<H>>,
+    M: Lines<MemoryDisk>,
+    R: Read,
+    W: Write,
+>(
     rt: &(impl Files<File = File> + AllocGlobal),
+    files: &O,
     asked: Order<'_>,
     input: &mut R,
     output: &mut W,
@@ -69,16 +116,36 @@ fn perform<F: Lines<FileDisk>, M: Lines<MemoryDisk>, R: Read, W: Write>(
     ensures broken { IsForMemory asked.entry
         → IfErr result (λ e. e ≢ Failure.NoMemory → BreaksInMemory ⟦<MemoryDisk as SectorDevice>⟧
         (R.remaining input.old) (R.remaining input.new) (W.contents output.old) (W.contents output.new)) }
+    ensures done { OnOk result (IsDone ⟦<SectorFile<H> as SectorDevice>⟧
+        (λ path. IsOpened H.HostFile (O.opens files.now path)) (λ path. IsMade H.HostFile (O.makes files.now path)) asked.entry
+        (R.remaining input.old) (R.remaining input.new) (W.contents output.old) (W.contents output.new)) }
 {
     match asked {
         Order::Memory => run_in_memory::<M, R, W>(rt, input, output),
-        Order::New(path, blocks) => make_image(rt, path, blocks),
-        Order::Run(path, steps) => {
-            serve::<FileDisk, F, R, W>(rt.alloc(), open_image(rt, path)?, steps, input, output)
+        Order::New(path, blocks) => closed(make_image::<H, O>(files, path, blocks)),
+        Order::Run(path, steps) => closed(run_image::<H, O, F, R, W>(
+            rt.alloc(),
+            files,
+            path,
+            steps,
+            input,
+            output,
+        )),
+        Order::List(path, block) => closed(list_image::<H, O, W>(files, path, block, output)),
+        Order::Put(path, block, text) => {
+            closed(put_into_image::<H, O>(rt, files, path, block, text))
         }
-        Order::List(path, block) => list_block(&mut open_image(rt, path)?, block, output),
-        Order::Put(path, block, file) => put_file(rt, &mut open_image(rt, path)?, block, file),
-        Order::Upgrade(old, new) => upgrade_image(rt, old, new),
+        Order::Upgrade(old, new) => closed(upgrade_image::<H, O>(files, old, new)),
+    }
+}
+
+/// Closes what a command gave back.
+fn closed<T: Drop>(outcome: Result<T, Failure>) -> Result<(), Failure>
+    ensures { MatchResult outcome (λ _. IsOk result) (λ failure. result ≡ Err failure) }
+{
+    match outcome {
+        Ok(_) => Ok(()),
+        Err(failure) => Err(failure),
     }
 }
 
@@ -95,32 +162,41 @@ fn run_in_memory<M: Lines<MemoryDisk>, R: Read, W: Write>(
 {
     match MemoryDisk::new(rt.alloc(), 3 + 4 * BLOCKS as u32) {
         Ok(disk) => match format(disk, BLOCKS) {
-            Ok(store) => serve::<MemoryDisk, M, R, W>(rt.alloc(), store, STEPS, input, output),
+            Ok(store) => closed(serve::<MemoryDisk, M, R, W>(
+                rt.alloc(),
+                store,
+                STEPS,
+                input,
+                output,
+            )),
             Err((fault, _)) => Err(Failure::from(fault)),
         },
         Err(_) => Err(Failure::NoMemory),
     }
 }
 
-/// Runs the input over a store.
-fn serve<D: SectorDevice + Drop, F: Lines<D>, R: Read, W: Write>(
+/// Runs the input over a store, and gives the store back: what was changed and not saved is given up.
+pub(crate) fn serve<D: SectorDevice + Drop, F: Lines<D>, R: Read, W: Write>(
     alloc: Global,
     store: Store<D>,
     steps: u32,
     input: &mut R,
     output: &mut W,
-) -> Result<(), Failure>
+) -> Result<Store<D>, Failure>
     requires { 0 < steps }
-    ensures well { (m : Maps) → StandsFor store m → OnOk result ((closing : Abstract) × (made : List Save) × (after : D)
-        × Completes D.SectorDevice (new_forth steps m) closing (R.remaining input.old) (R.remaining input.new)
-        (W.contents output.old) (W.contents output.new) (device_of store) after made) }
+    ensures well { (m : Maps) → StandsFor store m → IfOk result (λ end.
+        RunsFrom D.SectorDevice (new_forth steps m) (R.remaining input.old) (R.remaining input.new)
+        (W.contents output.old) (W.contents output.new) (device_of store) (device_of end)) }
+    ensures goes { IfOk result (λ end. Becomes D.SectorDevice (device_of store) (device_of end)) }
     ensures broken { (m : Maps) → StandsFor store m → IfErr result (λ e. e ≢ Failure.NoMemory
         → (fault : AbstractFault) × (closing : Abstract) × (made : List Save) × (after : D)
         × BreaksOff D.SectorDevice fault (new_forth steps m) closing (R.remaining input.old) (R.remaining input.new)
         (W.contents output.old) (W.contents output.new) (device_of store) after made) }
+    // Memory is refused before the session begins.
+    ensures unbegun { IsErrOf result Failure.NoMemory → (input.new ≡ input.old) × (output.new ≡ output.old) }
 {
     match run_over::<D, F, R, W>(alloc, store, steps, input, output) {
-        Ok((_, Ok(()))) => Ok(()),
+        Ok((store, Ok(()))) => Ok(store),
         Ok((_, Err(fault))) => Err(Failure::from(fault)),
         Err(_) => Err(Failure::NoMemory),
     }
@@ -130,6 +206,7 @@ fn serve<D: SectorDevice + Drop, F: Lines<D>, R: Read, W: Write>(
 fn told<E: Write>(outcome: Result<(), Failure>, errors: &mut E) -> u8
     ensures well { result ≡ 0 → IsOk outcome }
     ensures broken { result ≡ 4 → IsErr outcome × IfErr outcome (λ e. e ≢ Failure.NoMemory) }
+    ensures status { MatchResult outcome (λ _. result ≡ 0) (λ e. result ≡ status_of e) }
 {
     match outcome {
         Ok(()) => 0,
@@ -144,6 +221,7 @@ fn told<E: Write>(outcome: Result<(), Failure>, errors: &mut E) -> u8
 fn explain<W: Write, E: Write>(error: &Error, output: &mut W, errors: &mut E) -> u8
     ensures shown { result ≡ 0 → IsHelp (kind_of error.now) }
     ensures unshown { result ≡ 4 → IsHelp (kind_of error.now) }
+    ensures refused { (result ≡ 2) ⊎ (result ≡ 5) ⊎ IsHelp (kind_of error.now) }
 {
     match error.kind() {
         ErrorKind::OutOfMemory => told(Err(Failure::NoMemory), errors),

@@ -1,11 +1,12 @@
 //! A session over a store, between two streams.
-ghost use Rattle.std.specs.Prelude.{◌≡◌, ◌<◌, List, [], IfOk, IfErr, OnOk};
+ghost use Rattle.std.specs.Prelude.{◌≡◌, ◌<◌, List, [], IfOk, IfErr, OnOk, OnErr};
 ghost use Rattle.journal.specs.Maps.{Maps};
 ghost use Rattle.journal.specs.Store.{StandsFor, device_of};
 ghost use Rattle.block_words.specs.Words.{Save};
 ghost use Rattle.interpreter.specs.State.{Forth as Abstract};
 ghost use Rattle.interpreter.specs.Lines.{new_forth};
 ghost use Rattle.interpreter.specs.Promise.{Keeps};
+ghost use Rattle.terminal.specs.Done.{Becomes};
 ghost use Rattle.terminal.specs.Sessions.{Completes, BreaksOff};
 
 use super::run_fault::RunFault;
@@ -38,6 +39,10 @@ pub fn run_over<D: SectorDevice + Drop, F: Lines<D>, R: Read, W: Write>(
         (R.remaining reader.old) (R.remaining reader.new)
         (W.contents writer.old) (W.contents writer.new)
         (device_of store) (device_of end.0) made)) }
+    // Over any device: it is the same device, later.
+    ensures goes { IfOk result (λ end. Becomes D.SectorDevice (device_of store) (device_of end.0)) }
+    // Memory is refused before a line is read.
+    ensures unbegun { OnErr result ((reader.new ≡ reader.old) × (writer.new ≡ writer.old)) }
 {
     match F::new(alloc, store, steps) {
         Ok(mut forth) => {

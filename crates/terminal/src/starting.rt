@@ -1,4 +1,6 @@
 //! The program as it is started: its words, its streams, its status.
+ghost use Rattle.std.specs.Prelude.{◌↔◌, ◌≤ℤ◌, pos, IsTrue};
+
 use super::byte_reader::ByteReader;
 use super::program::command;
 use interpreter::promise::Lines;
@@ -57,10 +59,17 @@ fn serve<F: Lines<FileDisk>, M: Lines<MemoryDisk>, R: Read + Drop, W: Write + Dr
 /// What is taken can be neither read nor written.
 fn taken_stream(rt: &impl Files<File = File>) -> io::Result<Option<File>> {
     let folder = open_folder(rt)?;
-    if folder.as_raw_fd() > LAST_STREAM {
-        return Ok(None);
+    if is_standard(folder.as_raw_fd()) {
+        return Ok(Some(folder));
     }
-    Ok(Some(folder))
+    Ok(None)
+}
+
+/// Whether this is the number of a standard stream.
+fn is_standard(number: i32) -> bool
+    ensures { IsTrue result ↔ (number ≤ℤ pos 2) }
+{
+    number <= LAST_STREAM
 }
 
 /// Opens a folder, for its number alone: the root, or where that can't be read the current one.

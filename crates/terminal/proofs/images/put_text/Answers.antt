@@ -36,3 +36,24 @@ returns-in-None-clause-refused g c = λ same. (
       sym (same_screen input c.in-Ok.text.items (g.R.Read.remaining c.read_text.new.reader) given c.in-Ok.ensures.whole)
       ∙ ap screen_of (sym c.as_slice.ensures.value) ∙ sym c.in-None.ensures,
 )
+
+pub returns-in-Ok-put_block-clause-some : goal.returns-in-Ok-put_block-clause-some
+returns-in-Ok-put_block-clause-some g c = record {
+  saved = λ m stands. (
+    c.as_slice-in-Some.result.now,
+    c.in-Ok-put_block.ensures.ok m stands,
+    c.in-Ok-put_block.ensures.after m stands,
+  );
+}
+
+pub returns-in-Ok-put_block-clause-kept : goal.returns-in-Ok-put_block-clause-kept
+returns-in-Ok-put_block-clause-kept g c = record {
+  left = λ m stands live image left.
+      ⊎_elim (λ old. inl old) (λ new. inr (c.as_slice-in-Some.result.now, new)) (c.in-Ok-put_block.ensures.stops m stands live image left);
+}
+
+pub returns-in-Err-put_block-clause-kept : goal.returns-in-Err-put_block-clause-kept
+returns-in-Err-put_block-clause-kept g c = record {
+  left = λ m stands live image left.
+      ⊎_elim (λ old. inl old) (λ new. inr (c.as_slice-in-Some.result.now, new)) (c.in-Err-put_block.ensures.stops m stands live image left);
+}

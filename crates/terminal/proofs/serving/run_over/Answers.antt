@@ -5,16 +5,25 @@ use Rattle.terminal.proofs.EachStore.{own_maps, stands_for_own}
 use Rattle.terminal.proofs.Ended.{ended}
 use Rattle.terminal.proofs.serving.run_over.Goals as goal
 
-pub returns-in-Ok : goal.returns-in-Ok
-returns-in-Ok g c =
+pub returns-in-Ok-clause-ok : goal.returns-in-Ok-clause-ok
+returns-in-Ok-clause-ok g c =
     let before : g.F.Lines.device c.in-Ok.forth ≡ device_of c.args.store =
     c.in-Ok.ensures.device (device_of c.args.store) (λ held is. ap device_of is) in
     let after : g.F.Lines.device c.run-end.new.forth ≡ device_of c.into_store.result = sym c.into_store.ensures.device in
     let ok = rw (before, after) at c.run-end.ensures.ok in
     let err = rw (before, after) at c.run-end.ensures.err in
+    λ m stands. ended c.run-end.result _ _ _ _ _ _ c.into_store.ensures.maps (new_forth c.args.steps m)
+    (c.in-Ok.ensures.opens m (λ held is. subst (λ s. StandsFor s m) (sym is) stands)) ok err
+
+pub returns-in-Ok-clause-goes : goal.returns-in-Ok-clause-goes
+returns-in-Ok-clause-goes g c =
+    let before : g.F.Lines.device c.in-Ok.forth ≡ device_of c.args.store =
+    c.in-Ok.ensures.device (device_of c.args.store) (λ held is. ap device_of is) in
+    let after : g.F.Lines.device c.run-end.new.forth ≡ device_of c.into_store.result = sym c.into_store.ensures.device in
     record {
-      ok = λ m stands. ended c.run-end.result _ _ _ _ _ _ c.into_store.ensures.maps (new_forth c.args.steps m)
-          (c.in-Ok.ensures.opens m (λ held is. subst (λ s. StandsFor s m) (sym is) stands)) ok err;
+      model = rw (before, after) at c.run-end.ensures.model;
+      time = rw (before, after) at c.run-end.ensures.time;
+      failures = rw (before, after) at c.run-end.ensures.failures;
     }
 
 pub run-end-requires : goal.run-end-requires

@@ -1,0 +1,359 @@
+//! The program over images that are files in memory, whose calls are short, interrupted or fail.
+use super::support::transcript;
+use interpreter::Forth;
+use sector_disk::{
+    FileFault, HostFault, HostFile, HostFiles, MemoryDisk, MemoryFile, Script, SectorFile,
+};
+use std::cell::{Cell, RefCell};
+use std::fs::File;
+use std::process::Abort;
+use std::rt::Files;
+use std::test::Fail;
+
+/// How many sectors an image of 32 blocks has.
+const SECTORS: u32 = 131;
+
+/// What the calls of a system's files do, and how many there were.
+#[derive(Drop)]
+struct Calls {
+    most: Cell<usize>,
+    interrupted: Cell<u64>,
+    fails_at: Cell<u64>,
+    made: Cell<u64>,
+    writes: Cell<u64>,
+    openings: Cell<u64>,
+}
+
+impl Calls {
+    fn new() -> Calls {
+        Calls {
+            most: Cell::new(usize::MAX),
+            interrupted: Cell::new(0),
+            fails_at: Cell::new(u64::MAX),
+            made: Cell::new(0),
+            writes: Cell::new(0),
+            openings: Cell::new(0),
+        }
+    }
+
+    /// Counts anew, and fails the call of this number, counted from 0.
+    fn begin(&self, fails_at: u64) {
+        self.made.set(0);
+        self.writes.set(0);
+        self.openings.set(0);
+        self.fails_at.set(fails_at);
+    }
+
+    fn next(&self) -> Result<(), HostFault> {
+        let made = self.made.get();
+        self.made.set(made.saturating_add(1));
+        if made == self.fails_at.get() {
+            return Err(HostFault::Failed);
+        }
+        Ok(())
+    }
+
+    /// A read or a write, which may be interrupted.
+    fn next_moved(&self) -> Result<(), HostFault> {
+        let each = self.interrupted.get();
+        if each != 0 && self.made.get() % each == 0 {
+            self.made.set(self.made.get().saturating_add(1));
+            return Err(HostFault::Interrupted);
+        }
+        self.next()
+    }
+}
+
+/// A file in memory that was opened.
+#[derive(Drop)]
+struct Opened<'a> {
+    file: &'a RefCell<MemoryFile>,
+    calls: &'a Calls,
+}
+
+impl HostFile for Opened<'_> {
+    ghost use Rattle.std.specs.Prelude.{false, true};
+
+    ghost keeps_model = { λ f. false };
+
+    ghost bytes = { λ f. record { content = λ _. 0; synced = λ _. 0; unsynced = λ _. true } };
+
+    ghost extent = { λ f. 0 };
+
+    ghost syncs_settle = { λ f. true };
+
+    ghost time = { λ f. 0 };
+
+    ghost left_since = { λ f t c. Unit {0} };
+
+    ghost present = { λ f keeps k synced. Prim.cc };
+
+    ghost counts_now = { λ f t c le now. tt };
+
+    ghost only_now = { λ f c since k synced. Prim.cc };
+
+    ghost widens = { λ f s t c le since. since };
+
+    fn len(&self) -> Result<u64, HostFault> {
+        match self.file.try_borrow() {
+            Ok(file) => file.len(),
+            Err(_) => Err(HostFault::Failed),
+        }
+    }
+
+    fn read_at(&mut self, position: u64, buffer: &mut [u8]) -> Result<usize, HostFault> {
+        self.calls.next_moved()?;
+        let n = buffer.len().min(self.calls.most.get());
+        let (first, _) = buffer.split_at_mut(n);
+        match self.file.try_borrow_mut() {
+            Ok(mut file) => file.read_at(position, first),
+            Err(_) => Err(HostFault::Failed),
+        }
+    }
+
+    fn write_at(&mut self, position: u64, buffer: &[u8]) -> Result<usize, HostFault> {
+        self.calls
+            .writes
+            .set(self.calls.writes.get().saturating_add(1));
+        self.calls.next_moved()?;
+        let n = buffer.len().min(self.calls.most.get());
+        let (first, _) = buffer.split_at(n);
+        match self.file.try_borrow_mut() {
+            Ok(mut file) => file.write_at(position, first),
+            Err(_) => Err(HostFault::Failed),
+        }
+    }
+
+    fn sync(&mut self) -> Result<(), HostFault> {
+        self.calls.next()?;
+        match self.file.try_borrow_mut() {
+            Ok(mut file) => file.sync(),
+            Err(_) => Err(HostFault::Failed),
+        }
+    }
+}
+
+/// A system of one file, of the name `A`, which is there once it was made.
+#[derive(Drop)]
+struct OneFile<'a> {
+    file: &'a RefCell<MemoryFile>,
+    calls: &'a Calls,
+    is_there: Cell<bool>,
+}
+
+impl<'a> HostFiles<Opened<'a>> for OneFile<'a> {
+    ghost opens = { λ files path file. Unit {0} };
+
+    ghost makes = { λ files path file. Unit {0} };
+
+    fn open(&self, path: &str) -> Result<Opened<'a>, FileFault> {
+        self.calls
+            .openings
+            .set(self.calls.openings.get().saturating_add(1));
+        if path != "A" || !self.is_there.get() {
+            return Err(FileFault::Cannot);
+        }
+        Ok(Opened {
+            file: self.file,
+            calls: self.calls,
+        })
+    }
+
+    fn make(&self, path: &str) -> Result<Opened<'a>, FileFault> {
+        if path != "A" {
+            return Err(FileFault::Cannot);
+        }
+        if self.is_there.replace(true) {
+            return Err(FileFault::Exists);
+        }
+        Ok(Opened {
+            file: self.file,
+            calls: self.calls,
+        })
+    }
+
+    fn keep_name(&self, _path: &str) -> Result<(), HostFault> {
+        self.calls.next()
+    }
+}
+
+/// A file of zeros for an image of 32 blocks.
+fn empty(rt: &impl AllocGlobal) -> Result<RefCell<MemoryFile>, Fail> {
+    let script = Script {
+        most: usize::MAX,
+        interrupted: 0,
+        fails_after: u64::MAX,
+        calls: 0,
+    };
+    match MemoryFile::new(rt.alloc(), SECTORS, script) {
+        Ok(file) => Ok(RefCell::new(file)),
+        Err(_) => Err("no memory")?,
+    }
+}
+
+/// Calls the program over the files, and gives its status with what it printed and told.
+fn call<'a>(
+    rt: &(impl Files<File = File> + AllocGlobal),
+    files: &OneFile<'a>,
+    words: &[&str],
+    input: &[u8],
+) -> (u8, Vec<u8>, Vec<u8>) {
+    let mut input = input;
+    let mut output: Vec<u8> = Vec::new(rt.alloc());
+    let mut errors: Vec<u8> = Vec::new(rt.alloc());
+    let status = terminal::command_over::<
+        _,
+        _,
+        Forth<SectorFile<Opened<'a>>>,
+        Forth<MemoryDisk>,
+        _,
+        _,
+        _,
+        _,
+    >(rt, files, words, &mut input, &mut output, &mut errors);
+    (status, output, errors)
+}
+
+/// Makes the image.
+fn made(rt: &(impl Files<File = File> + AllocGlobal + Abort), files: &OneFile<'_>) {
+    let (status, _, errors) = call(rt, files, &["forth83", "new", "A", "--blocks", "32"], b"");
+    assert_eq!(rt; (status, errors.as_slice()), (0, b"".as_slice()));
+}
+
+/// Runs a transcript over the image.
+fn runs(
+    rt: &(impl Files<File = File> + AllocGlobal + Abort),
+    files: &OneFile<'_>,
+    text: &str,
+) -> Result<(), Fail> {
+    let (input, wanted) = transcript(rt, text)?;
+    let (status, output, errors) = call(rt, files, &["forth83", "run", "A"], input.as_slice());
+    assert_eq!(rt; (status, errors.as_slice()), (0, b"".as_slice()), "{text}");
+    assert_eq!(rt; output.as_slice(), wanted.as_slice(), "{text}");
+    Ok(())
+}
+
+const SAVED: &str = "\
+> : PUT ( n block -- )  BLOCK ! UPDATE ;
+ ok
+> : GET ( block -- )  BLOCK @ . ;
+ ok
+> 7 1 PUT 7 2 PUT SAVE-BUFFERS
+ ok
+> 1 GET 2 GET
+7 7  ok
+";
+
+/// What a session saves is there, whatever number of bytes a call moves, and where each third one is interrupted.
+#[test]
+fn sessions_over_short_calls(rt: HostRuntime) -> Result<(), Fail> {
+    for most in [1, 7, 100, 511, 512] {
+        let file = empty(&rt)?;
+        let calls = Calls::new();
+        let files = OneFile {
+            file: &file,
+            calls: &calls,
+            is_there: Cell::new(false),
+        };
+        calls.most.set(most);
+        calls.interrupted.set(3);
+        made(&rt, &files);
+        runs(&rt, &files, SAVED)?;
+        runs(&rt, &files, "> 1 BLOCK @ . 2 BLOCK @ .\n7 7  ok\n")?;
+    }
+    Ok(())
+}
+
+/// Each call of a session fails once: it is opened once and no more, and afterwards both blocks are as before, or both as saved.
+#[test]
+fn sessions_whose_calls_fail(rt: HostRuntime) -> Result<(), Fail> {
+    for k in 0..60 {
+        let file = empty(&rt)?;
+        let calls = Calls::new();
+        let files = OneFile {
+            file: &file,
+            calls: &calls,
+            is_there: Cell::new(false),
+        };
+        made(&rt, &files);
+        calls.begin(k);
+        let (input, _) = transcript(&rt, SAVED)?;
+        let _ = call(&rt, &files, &["forth83", "run", "A"], input.as_slice());
+        assert_eq!(rt; calls.openings.get(), 1, "at {k}");
+        calls.begin(u64::MAX);
+        let (_, output, _) = call(
+            &rt,
+            &files,
+            &["forth83", "run", "A"],
+            b"1 BLOCK @ . 2 BLOCK @ .\n",
+        );
+        let is_so = output.as_slice() == b"8224 8224  ok\n".as_slice()
+            || output.as_slice() == b"7 7  ok\n".as_slice();
+        assert!(rt; is_so, "at {k}");
+    }
+    Ok(())
+}
+
+/// Each sixteenth call of `new` fails once, the last one too: it is told, and the file stays.
+#[test]
+fn images_whose_making_fails(rt: HostRuntime) -> Result<(), Fail> {
+    let file = empty(&rt)?;
+    let calls = Calls::new();
+    let files = OneFile {
+        file: &file,
+        calls: &calls,
+        is_there: Cell::new(false),
+    };
+    made(&rt, &files);
+    let all = calls.made.get();
+    for k in (0..all).rev().step_by(16) {
+        let file = empty(&rt)?;
+        let calls = Calls::new();
+        let files = OneFile {
+            file: &file,
+            calls: &calls,
+            is_there: Cell::new(false),
+        };
+        calls.begin(k);
+        let (status, output, _) = call(
+            &rt,
+            &files,
+            &["forth83", "new", "A", "--blocks", "32"],
+            b"",
+        );
+        assert_eq!(rt; (status, output.is_empty()), (3, true), "at {k}");
+        let (status, _, errors) = call(
+            &rt,
+            &files,
+            &["forth83", "new", "A", "--blocks", "32"],
+            b"",
+        );
+        assert_eq!(rt;
+            (status, errors.as_slice()),
+            (3, b"forth83: image: exists\n".as_slice()),
+            "at {k}"
+        );
+    }
+    Ok(())
+}
+
+/// A block that was put aside for a fifth one and never saved is given up; and what only reads writes nothing.
+#[test]
+fn what_is_put_aside_is_given_up(rt: HostRuntime) -> Result<(), Fail> {
+    let file = empty(&rt)?;
+    let calls = Calls::new();
+    let files = OneFile {
+        file: &file,
+        calls: &calls,
+        is_there: Cell::new(false),
+    };
+    made(&rt, &files);
+    runs(&rt, &files, SAVED)?;
+    let aside = "> 9 1 BLOCK ! UPDATE 3 BLOCK 4 BLOCK 5 BLOCK 6 BLOCK 1 BLOCK @ .\n9  ok\n";
+    runs(&rt, &files, aside)?;
+    calls.begin(u64::MAX);
+    runs(&rt, &files, "> 1 BLOCK @ . 2 BLOCK @ .\n7 7  ok\n")?;
+    let (status, _, _) = call(&rt, &files, &["forth83", "list", "A", "1"], b"");
+    assert_eq!(rt; (status, calls.writes.get()), (0, 0));
+    runs(&rt, &files, "> 1 BLOCK @ . 2 BLOCK @ .\n7 7  ok\n")
+}

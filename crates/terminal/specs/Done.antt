@@ -1,0 +1,130 @@
+-- What a command over images does, on any device: from the device that it opens or makes to what that has become.
+use Rattle.std.specs.Prelude.{◌≡◌, ◌+◌, ◌≤◌, ℕ, false, IsTrue, List, Option, ⊤}
+use Rattle.std.specs.Io.KnownBytes.{Appends}
+use Rattle.clap.specs.Words.{Text}
+use Rattle.sector_disk.specs.Disk.{Image, MayLeave}
+use Rattle.sector_disk.specs.Moments.{Elapses}
+use Rattle.sector_disk.specs.declared.device.SectorDevice.{Ghosts}
+use Rattle.journal.specs.Calls.{BeginsAtMost, StopsLeave}
+use Rattle.journal.specs.Images.{Means, meaning}
+use Rattle.journal.specs.Layout.{sectors_for}
+use Rattle.journal.specs.Maps.{Maps, contents, fresh, latest, spilled}
+use Rattle.block_words.specs.Words.{Save}
+use Rattle.recovery.specs.Formatted.{blank_blocks}
+use Rattle.recovery.specs.Label.{blocks_in}
+use Rattle.recovery.specs.Opened.{syncs_for, writes_for}
+use Rattle.recovery.specs.Upgraded.{OldLeaves}
+use Rattle.interpreter.specs.State.{Forth}
+use Rattle.interpreter.specs.Lines.{new_forth}
+use Rattle.interpreter.specs.Promise.{Keeps}
+use Rattle.terminal.specs.declared.words.Order.{Order}
+use Rattle.terminal.specs.declared.words.Order.TheVariants.{Memory, New, Run, List as ListBlock, Put, Upgrade}
+use Rattle.terminal.specs.Commands.{IsOrderOf}
+use Rattle.terminal.specs.Screen.{listing}
+use Rattle.terminal.specs.Sessions.{Completes}
+
+module _ {D : Type 0} (G : Ghosts D) where
+  -- The new device is what the old one became by calls of it.
+  pub record Becomes (old new : D) : Type 0 where
+    pub model : G.keeps_model new ≡ G.keeps_model old
+    pub time : Elapses G.time G.left_since old new
+    pub failures : G.failures old ≤ G.failures new
+
+  -- A stop now leaves these blocks.
+  abbrev pub LeavesBlocks : D → List (List ℕ) → Type 0
+  LeavesBlocks device blocks = (image : Image) → MayLeave (G.disk device) image → Means blocks image
+
+  -- how many blocks an image on the device has
+  abbrev pub blocks_on : D → ℕ
+  blocks_on device = blocks_in (G.sector_count device)
+
+  -- the blocks that the image on the device means
+  abbrev pub meant_by : D → List (List ℕ)
+  meant_by device = meaning (blocks_on device) (G.disk device).content
+
+  -- A store that is opened on the device has these maps.
+  abbrev pub maps_on : D → Maps
+  maps_on device = fresh (meant_by device)
+
+  -- No more was written and synced than a recovery of the image on the device does, and this much after it.
+  abbrev pub RecoversAnd : (device after : D) (writes syncs : ℕ) → Type 0
+  RecoversAnd device after writes syncs =
+      let image = (G.disk device).content in
+      BeginsAtMost G device after (writes_for (blocks_on device) image + writes) (syncs_for image + syncs)
+
+  -- `new`: the device has become an image of n blank blocks.
+  pub record MakesBlank (n : ℕ) (device after : D) : Type 0 where
+    pub goes : Becomes device after
+    pub blank : IsTrue (G.keeps_model device) → LeavesBlocks after (blank_blocks n)
+
+  -- A session from the opening state on: the input was read to its end, and the output is its replies. What a stop may have
+  -- left are blocks as they were saved, and at the end those that were saved last.
+  pub record RunsFrom (opening : Forth) (left left' written written' : Option (List ℕ)) (old new : D) : Type 0 where
+    pub closing : Forth
+    pub made : List Save
+    pub completes : Completes G opening closing left left' written written' old new made
+    pub keeps : Keeps G opening closing old new made
+    pub saved : closing.world.maps.closed ≡ false → LeavesBlocks new closing.world.maps.saved
+
+  -- `run`: a session over the blocks of the image, which was recovered first.
+  pub record RunsSession (steps : ℕ) (left left' written written' : Option (List ℕ)) (device after : D) : Type 0 where
+    pub begun : D
+    pub recovered : Becomes device begun
+    pub goes : Becomes begun after
+    pub begins : IsTrue (G.keeps_model device) → RecoversAnd device begun 0 0
+    pub runs : IsTrue (G.keeps_model device)
+        → RunsFrom (new_forth steps (maps_on device)) left left' written written' begun after
+
+  -- `list`: the listing of a block was printed. Nothing was written but by a recovery, so the blocks are as they were.
+  pub record ListsBlock (b : ℕ) (written written' : Option (List ℕ)) (device after : D) : Type 0 where
+    pub goes : Becomes device after
+    pub listed : IsTrue (G.keeps_model device) → Appends written written' (listing (contents (maps_on device) b))
+    pub same : IsTrue (G.keeps_model device) → LeavesBlocks after (meant_by device)
+    pub begins : IsTrue (G.keeps_model device) → RecoversAnd device after 0 0
+
+  -- `put`: some bytes were made this block, and no other block was changed, in one save of one block.
+  pub record PutsBlock (b : ℕ) (device after : D) : Type 0 where
+    pub goes : Becomes device after
+    pub put : IsTrue (G.keeps_model device) → (bytes : List ℕ) × LeavesBlocks after (latest (spilled (maps_on device) b bytes))
+    pub begins : IsTrue (G.keeps_model device) → RecoversAnd device after 7 4
+
+  -- `upgrade`: the one device has become an image of the blocks that the image of layout 1 on the other means. That one was
+  -- recovered, and means the same.
+  pub record Upgrades (source source' device after : D) : Type 0 where
+    pub reads : Becomes source source'
+    pub old : IsTrue (G.keeps_model source) → StopsLeave G source source' (OldLeaves (blocks_on source) (G.disk source))
+    pub goes : Becomes device after
+    pub new : IsTrue (G.keeps_model source) → IsTrue (G.keeps_model device) → LeavesBlocks after (meant_by source)
+
+  -- The device was such a one, and has become this by what P says.
+  abbrev pub Comes : (first : D → Type 0) (P : D → D → Type 0) (after : D) → Type 0
+  Comes first P after = (device : D) × first device × P device after
+
+  -- On such a device was done what P says.
+  abbrev pub DoneOn : (first : D → Type 0) (P : D → D → Type 0) → Type 0
+  DoneOn first P = (after : D) × Comes first P after
+
+  -- From a device that was opened an image was made on a device of as many sectors.
+  abbrev pub Upgraded : (opened : D → Type 0) (made : ℕ → D → Type 0) (source' after : D) → Type 0
+  Upgraded opened made source' after =
+      (source : D) × opened source × (device : D) × made (G.sector_count source) device × Upgrades source source' device after
+
+  abbrev pub UpgradeDone : (opened : D → Type 0) (made : ℕ → D → Type 0) → Type 0
+  UpgradeDone opened made = (source' : D) × (after : D) × Upgraded opened made source' after
+
+  -- The order was done, on devices that were opened and made under its names.
+  abbrev pub IsDone : (opened : List ℕ → D → Type 0) (made : List ℕ → ℕ → D → Type 0) → Order
+      → (left left' written written' : Option (List ℕ)) → Type 0
+  IsDone opened made Memory left left' written written' = ⊤
+  IsDone opened made (New path n) left left' written written' = DoneOn (made path.now (sectors_for n)) (MakesBlank n)
+  IsDone opened made (Run path steps) left left' written written' =
+      DoneOn (opened path.now) (RunsSession steps left left' written written')
+  IsDone opened made (ListBlock path b) left left' written written' = DoneOn (opened path.now) (ListsBlock b written written')
+  IsDone opened made (Put path b text) left left' written written' = DoneOn (opened path.now) (PutsBlock b)
+  IsDone opened made (Upgrade old new) left left' written written' = UpgradeDone (opened old.now) (made new.now)
+
+  -- What the words order was done.
+  abbrev pub OrderIsDone : (words : List Text) (opened : List ℕ → D → Type 0) (made : List ℕ → ℕ → D → Type 0)
+      → (left left' written written' : Option (List ℕ)) → Type 0
+  OrderIsDone words opened made left left' written written' =
+      (order : Order) × IsOrderOf words order × IsDone opened made order left left' written written'

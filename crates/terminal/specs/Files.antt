@@ -1,0 +1,36 @@
+-- Devices over files that a system opened or made under a name, and stores that were opened over a device.
+use Rattle.std.specs.Prelude.{◌≡◌, ℕ, IsTrue}
+use Rattle.sector_disk.specs.declared.device.SectorDevice as device
+use Rattle.journal.specs.declared.store.Store.{Store}
+use Rattle.journal.specs.Store.{StandsFor, blocks_of, device_of, pending_count}
+use Rattle.sector_disk.specs.Opening.{AreZeros, KeepsGoing, sectors_in}
+use Rattle.sector_disk.specs.SectorFile.{file_of, sectors_of}
+use Rattle.sector_disk.specs.declared.file.SectorFile.{SectorFile}
+use Rattle.sector_disk.specs.declared.host.HostFile.{Ghosts}
+use Rattle.terminal.specs.Done.{Becomes, RecoversAnd, blocks_on, maps_on}
+
+module _ {H : Type 0} (G : Ghosts H) where
+  -- The device is a file as it was opened, with the sectors that it has.
+  pub record IsOpened (opens : H → Type 0) (device : SectorFile H G) : Type 0 where
+    pub file : opens (file_of device)
+    pub sectors : IsTrue (G.keeps_model (file_of device)) → sectors_of device ≡ sectors_in (G.extent (file_of device))
+
+  -- The device is a file that was made and then filled with so many sectors of zeros, all of them synced.
+  pub record IsMade (makes : H → Type 0) (sectors : ℕ) (device : SectorFile H G) : Type 0 where
+    pub file : H
+    pub made : makes file
+    pub goes : KeepsGoing G file (file_of device)
+    pub sectors_are : sectors_of device ≡ sectors
+    pub zeros : IsTrue (G.keeps_model (file_of device)) → AreZeros sectors (G.bytes (file_of device))
+
+-- The store was opened on the device: it has the blocks that the image there meant, and nothing is pending.
+pub record OpensAs {D : Type 0} (G : device.Ghosts D) (opened : D) (store : Store D G) : Type 0 where
+  pub goes : Becomes G opened (device_of store)
+  pub size : blocks_of store ≡ blocks_on G opened
+  pub stands : IsTrue (G.keeps_model opened) → StandsFor store (maps_on G opened)
+  pub pending : pending_count store ≡ 0
+  pub begins : IsTrue (G.keeps_model opened) → RecoversAnd G opened (device_of store) 0 0
+
+-- The store was opened on such a device.
+abbrev pub OpensOn : {D : Type 0} (G : device.Ghosts D) → (first : D → Type 0) → Store D G → Type 0
+OpensOn {D} G first store = (device : D) × first device × OpensAs G device store

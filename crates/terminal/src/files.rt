@@ -1,0 +1,158 @@
+//! The commands over images that are files of a system: each gives back what it has opened or made.
+ghost use Rattle.std.specs.Prelude.{◌≡◌, ◌≢◌, ◌⊎◌, ◌<◌, ◌≤◌, ◌+◌, ◌*◌, ◌↔◌, true, OnOk, IfOk, IfErr, IsErrOf};
+ghost use Rattle.journal.specs.Layout.{sectors_for};
+ghost use Rattle.journal.specs.Store.{Continues, DeviceBegins, DeviceFailed, blocks_of, closed_of, device_of, pending_count};
+ghost use Rattle.terminal.specs.Done.{Comes, ListsBlock, MakesBlank, PutsBlock, RunsSession, Upgraded};
+ghost use Rattle.terminal.specs.Files.{IsMade, IsOpened, OpensOn};
+ghost use Rattle.terminal.specs.Putting.{LeavesSome, PutsSome};
+
+use super::failure::Failure;
+use super::images::{list_block, make_over, open_over, put_text};
+use super::program::serve;
+use interpreter::promise::Lines;
+use journal::Store;
+use journal::layout::MOST_BLOCKS_1;
+use recovery::{blocks_of_size, upgrade};
+use sector_disk::{HostFile, HostFiles, SectorDevice, SectorFile, create_disk, open_disk};
+use std::alloc::Global;
+use std::fs::{File, Files};
+use std::io::{BufReader, Read, Write};
+
+/// Makes a file that is an image of blank blocks. Whatever has that name already stays as it is.
+pub fn make_image<H: HostFile + Drop, O: HostFiles<H>>(
+    files: &O,
+    path: &str,
+    blocks: u16,
+) -> Result<Store<SectorFile<H>>, Failure>
+    requires many { 32 ≤ blocks }
+    requires few { blocks ≤ 3840 }
+    // Ok only where the file was made under this name, and became an image of blank blocks.
+    ensures made { IfOk result (λ store. Comes ⟦<SectorFile<H> as SectorDevice>⟧
+        (IsMade H.HostFile (O.makes files.now path.now) (sectors_for blocks))
+        (MakesBlank ⟦<SectorFile<H> as SectorDevice>⟧ blocks) (device_of store)) }
+    // No call of it failed.
+    ensures well { IfOk result (λ store. ⟦<SectorFile<H> as SectorDevice>⟧.failures (device_of store) ≡ 0) }
+{
+    let disk = create_disk(files, path, 3 + 4 * blocks as u32)?;
+    make_over(disk, blocks)
+}
+
+/// Opens an image.
+pub fn open_image<H: HostFile + Drop, O: HostFiles<H>>(
+    files: &O,
+    path: &str,
+) -> Result<Store<SectorFile<H>>, Failure>
+    // The store has the blocks that the file under this name meant.
+    ensures opened { IfOk result (λ store. OpensOn ⟦<SectorFile<H> as SectorDevice>⟧
+        (IsOpened H.HostFile (O.opens files.now path.now)) store) }
+    ensures well { IfOk result (λ store. ⟦<SectorFile<H> as SectorDevice>⟧.failures (device_of store) ≡ 0) }
+{
+    let disk = open_disk(files, path)?;
+    open_over(disk)
+}
+
+/// Runs the input over an image, with at most `steps` steps a line.
+pub fn run_image<H: HostFile + Drop, O: HostFiles<H>, F: Lines<SectorFile<H>>, R: Read, W: Write>(
+    alloc: Global,
+    files: &O,
+    path: &str,
+    steps: u32,
+    input: &mut R,
+    output: &mut W,
+) -> Result<Store<SectorFile<H>>, Failure>
+    requires { 0 < steps }
+    ensures ran { IfOk result (λ store. Comes ⟦<SectorFile<H> as SectorDevice>⟧
+        (IsOpened H.HostFile (O.opens files.now path.now))
+        (RunsSession ⟦<SectorFile<H> as SectorDevice>⟧ steps (R.remaining input.old) (R.remaining input.new)
+        (W.contents output.old) (W.contents output.new)) (device_of store)) }
+{
+    let store = open_image(files, path)?;
+    serve::<SectorFile<H>, F, R, W>(alloc, store, steps, input, output)
+}
+
+/// Prints a block of an image. Nothing is written to the image, but by its recovery.
+pub fn list_image<H: HostFile + Drop, O: HostFiles<H>, W: Write>(
+    files: &O,
+    path: &str,
+    block: u16,
+    output: &mut W,
+) -> Result<Store<SectorFile<H>>, Failure>
+    ensures listed { IfOk result (λ store. Comes ⟦<SectorFile<H> as SectorDevice>⟧
+        (IsOpened H.HostFile (O.opens files.now path.now))
+        (ListsBlock ⟦<SectorFile<H> as SectorDevice>⟧ block (W.contents output.old) (W.contents output.new)) (device_of store)) }
+{
+    let mut store = open_image(files, path)?;
+    match list_block(&mut store, block, output) {
+        Ok(()) => Ok(store),
+        Err(failure) => Err(failure),
+    }
+}
+
+/// Makes the lines of a text file a block of an image, in one save.
+pub fn put_into_image<H: HostFile + Drop, O: HostFiles<H>>(
+    rt: &(impl Files<File = File> + AllocGlobal),
+    files: &O,
+    path: &str,
+    block: u16,
+    text: &str,
+) -> Result<Store<SectorFile<H>>, Failure>
+    ensures put { IfOk result (λ store. Comes ⟦<SectorFile<H> as SectorDevice>⟧
+        (IsOpened H.HostFile (O.opens files.now path.now))
+        (PutsBlock ⟦<SectorFile<H> as SectorDevice>⟧ block) (device_of store)) }
+{
+    let mut store = open_image(files, path)?;
+    match put_file(rt, &mut store, block, text) {
+        Ok(()) => Ok(store),
+        Err(failure) => Err(failure),
+    }
+}
+
+/// Makes an image of layout 2, in a new file, of the blocks of one of layout 1, and gives both files. Nothing is made where
+/// the old one has the size of no such image, and whatever has the new name already stays as it is.
+pub fn upgrade_image<H: HostFile + Drop, O: HostFiles<H>>(
+    files: &O,
+    old: &str,
+    new: &str,
+) -> Result<(SectorFile<H>, SectorFile<H>), Failure>
+    // Ok only where the new file was made and became an image of the blocks that the old one meant.
+    ensures made { IfOk result (λ both. Upgraded ⟦<SectorFile<H> as SectorDevice>⟧
+        (IsOpened H.HostFile (O.opens files.now old.now)) (IsMade H.HostFile (O.makes files.now new.now)) both.0 both.1) }
+    // No call of either failed.
+    ensures well { IfOk result (λ both. (⟦<SectorFile<H> as SectorDevice>⟧.failures both.0 ≡ 0)
+        × (⟦<SectorFile<H> as SectorDevice>⟧.failures both.1 ≡ 0)) }
+{
+    let mut source = open_disk(files, old)?;
+    let sectors = source.sectors();
+    let Some(_) = blocks_of_size(sectors, MOST_BLOCKS_1) else {
+        return Err(Failure::BadSize);
+    };
+    let mut target = create_disk(files, new, sectors)?;
+    match upgrade(&mut source, &mut target) {
+        Ok(()) => Ok((source, target)),
+        Err(fault) => Err(Failure::from(fault)),
+    }
+}
+
+/// Makes the lines of a text file a block, in one save. The file isn't opened where there is no such block.
+fn put_file<D: SectorDevice>(
+    rt: &(impl Files<File = File> + AllocGlobal),
+    store: &mut Store<D>,
+    block: u16,
+    path: &str,
+) -> Result<(), Failure>
+    ensures no_block { IsErrOf result Failure.NoBlock ↔ (blocks_of store.old ≤ block) }
+    ensures some { OnOk result (PutsSome store.old store.new block) }
+    ensures kept { block + 1 ≤ blocks_of store.old → LeavesSome store.old store.new block }
+    ensures begins { DeviceBegins store.old store.new (2 * pending_count store.old + 7) 4 }
+    ensures unread { IfErr result (λ e. e ≢ Failure.Device → store.new ≡ store.old) }
+    ensures device { IfErr result (λ e. e ≡ Failure.Device
+        → (closed_of store.old ≡ true) ⊎ DeviceFailed store.old store.new) }
+    ensures continues { Continues store.old store.new }
+{
+    if block >= store.blocks() {
+        return Err(Failure::NoBlock);
+    }
+    let file = File::open(rt, path).map_err(|_| Failure::CannotRead)?;
+    let mut reader = BufReader::new(rt.alloc(), file).map_err(|_| Failure::NoMemory)?;
+    put_text(store, block, &mut reader)
+}
