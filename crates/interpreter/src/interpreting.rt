@@ -11,7 +11,7 @@ use lexicon::laws::services;
 use sector_disk::SectorDevice;
 
 /// What a round of the loop leaves to do.
-#[derive(Clone, Copy, Debug, PartialEq, Eq)]
+#[derive(Clone, Copy)]
 pub enum Round {
     /// What the machine's place and the return stack say, and then the text.
     GoesOn,

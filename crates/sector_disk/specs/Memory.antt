@@ -1,5 +1,5 @@
 -- What a disk in memory holds.
-use Rattle.std.specs.Prelude.{ℕ, List, [], slice_index_or, None, unwrap_or, is_some}
+use Rattle.std.specs.Prelude.{ℕ, List, [], replicate, slice_index_or, None, unwrap_or, is_some}
 use Rattle.sector_disk.specs.Disk.{Disk}
 use Rattle.sector_disk.specs.Stop.{stopped}
 use Rattle.sector_disk.specs.declared.memory.Sector.{Sector}
@@ -8,6 +8,9 @@ use Rattle.sector_disk.specs.declared.memory.Fate.{Fate}
 -- past the end
 abbrev pub blank : Sector
 blank = record { synced = []; unsynced = None }
+
+abbrev pub zeros : Sector
+zeros = record { synced = replicate 512 0; unsynced = None }
 
 abbrev pub sector_at : List Sector → ℕ → Sector
 sector_at sectors k = slice_index_or sectors k blank

@@ -8,7 +8,7 @@ use crate::device::count_failure;
 use crate::{Counts, DeviceFault, SectorDevice};
 
 /// Which calls fail.
-#[derive(Clone, Copy, Debug, PartialEq, Eq)]
+#[derive(Clone, Copy)]
 pub(crate) enum Fuse {
     // So many calls pass, the next one fails, and all after it pass.
     Once(u64),

@@ -2,7 +2,7 @@
 ghost use Rattle.std.specs.Prelude.{◌≡◌, ◌⊎◌, ℕ, ◌<◌, ◌≤◌, ◌^◌, Bool, true, false, IsTrue, IsOk, OnOk, OnErr, IfOk, length, replicate};
 ghost use Rattle.std.proofs.Common.{inl, inr};
 ghost use Rattle.sector_disk.specs.Disk.{Disk, Image, MayLeave};
-ghost use Rattle.sector_disk.specs.Memory.{sector_at, settled_sector, stopped_sector, disk_of};
+ghost use Rattle.sector_disk.specs.Memory.{zeros, sector_at, settled_sector, stopped_sector, disk_of};
 ghost use Rattle.sector_disk.specs.Stop.{stopped, IsSector, CanLeave};
 
 use crate::{Counts, DeviceFault, SectorDevice};
@@ -50,11 +50,7 @@ impl MemoryDisk {
         ensures counts { IfOk result (λ d. begun d ≡ record { reads = 0; writes = 0; syncs = 0 }) }
         ensures failures { IfOk result (λ d. ⟦<MemoryDisk as SectorDevice>⟧.failures d ≡ 0) }
     {
-        let blank = Sector {
-            synced: [0; 512],
-            unsynced: None,
-        };
-        let sectors = vec![in alloc; blank; sectors as usize].map_err(|_| NoMemory)?;
+        let sectors = sectors_of_zeros(alloc, sectors as usize).map_err(|_| NoMemory)?;
         Ok(MemoryDisk {
             sectors,
             counts: Counts::default(),
@@ -98,6 +94,21 @@ impl MemoryDisk {
         meet_fates(&mut self.sectors, fates);
         self
     }
+}
+
+// So many sectors of zeros, all of them synced. Each is made in its place and not copied, so that of what isn't written yet
+// nothing is filled.
+fn sectors_of_zeros(alloc: Global, count: usize) -> Result<Vec<Sector>, AllocError>
+    ensures { IfOk result (λ made. made.items ≡ replicate count zeros) }
+{
+    let mut made = Vec::with_capacity(alloc, count)?;
+    for _ in 0..count {
+        made.push(Sector {
+            synced: [0; 512],
+            unsynced: None,
+        })?;
+    }
+    Ok(made)
 }
 
 // Gives the unsynced sectors their fates.

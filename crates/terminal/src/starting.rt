@@ -46,7 +46,7 @@ fn serve<F: Lines<FileDisk>, M: Lines<MemoryDisk>, R: Read + Drop, W: Write + Dr
     output: W,
     errors: &mut E,
 ) -> io::Result<u8> {
-    let _taken = [taken_stream(rt)?, taken_stream(rt)?, taken_stream(rt)?];
+    let _taken = taken_streams(rt)?;
     let words: Vec<String> = env::args(rt)?.collect(rt.alloc())?;
     let mut input = ByteReader::new(input);
     let mut output = BufWriter::new(rt.alloc(), output)?;
@@ -54,9 +54,18 @@ fn serve<F: Lines<FileDisk>, M: Lines<MemoryDisk>, R: Read + Drop, W: Write + Dr
     Ok(status)
 }
 
-/// Takes the number of a standard stream that was closed when the program began, if there is one. A file that is opened gets
-/// the lowest free number: without this an image would be what is read as the input, or what the replies are written over.
-/// What is taken can be neither read nor written.
+/// Takes the numbers of the standard streams that were closed when the program began. A file that is opened gets the lowest
+/// free number: without this an image would be what is read as the input, or what the replies are written over. What is
+/// taken can be neither read nor written. Where one number is free no more, none is: so mostly one folder is opened.
+fn taken_streams(rt: &impl Files<File = File>) -> io::Result<[Option<File>; 3]> {
+    let first = taken_stream(rt)?;
+    if first.is_none() {
+        return Ok([None, None, None]);
+    }
+    Ok([first, taken_stream(rt)?, taken_stream(rt)?])
+}
+
+/// Takes the number of a standard stream that was closed, if there is one left.
 fn taken_stream(rt: &impl Files<File = File>) -> io::Result<Option<File>> {
     let folder = open_folder(rt)?;
     if is_standard(folder.as_raw_fd()) {

@@ -24,7 +24,7 @@ fn line_of(space: &DataSpace) -> &[u8]
 }
 
 /// How a text ends at its delimiter.
-#[derive(Clone, Copy, Debug, PartialEq, Eq)]
+#[derive(Clone, Copy)]
 pub(crate) enum Cut {
     /// A word: the delimiters before it are skipped.
     Word,
@@ -60,7 +60,7 @@ fn keep(cut: Cut, text: &[u8], to_in: u16, delimiter: u8, kept: &mut [u8; 1024])
 }
 
 /// A word or a text that stands in the stream; its bytes are at the front of the system's `text`.
-#[derive(Clone, Copy, Debug, PartialEq, Eq)]
+#[derive(Clone, Copy)]
 pub(crate) struct Look {
     /// How many bytes it has: none at the end of the stream.
     pub(crate) count: usize,

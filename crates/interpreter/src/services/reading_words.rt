@@ -9,7 +9,7 @@ use crate::terminal::{IoFault, Terminal};
 use sector_disk::SectorDevice;
 
 /// A reading: how many bytes were stored, and how many more may be.
-#[derive(Clone, Copy, Debug, PartialEq, Eq)]
+#[derive(Clone, Copy)]
 pub(crate) struct Room {
     count: u16,
     left: u16,

@@ -6,7 +6,7 @@ ghost use Rattle.interpreter.specs.Services.{asked_of};
 use lexicon::Structure;
 
 /// A word that reaches neither device nor terminal.
-#[derive(Clone, Copy, Debug, PartialEq, Eq)]
+#[derive(Clone, Copy)]
 pub enum QuietWord {
     BeginPicture,
     FinishPicture,
@@ -30,7 +30,7 @@ pub enum QuietWord {
 }
 
 /// A word that may reach the device: it takes text from the stream, or is about blocks.
-#[derive(Clone, Copy, Debug, PartialEq, Eq)]
+#[derive(Clone, Copy)]
 pub enum DeviceWord {
     ParseWord,
     Comment,
@@ -53,7 +53,7 @@ pub enum DeviceWord {
 }
 
 /// A word that prints, or reads the input after the line.
-#[derive(Clone, Copy, Debug, PartialEq, Eq)]
+#[derive(Clone, Copy)]
 pub enum TerminalWord {
     Emit,
     NewLine,
@@ -68,7 +68,7 @@ pub enum TerminalWord {
 }
 
 /// What a system word asks for that the machine doesn't do by itself.
-#[derive(Clone, Copy, Debug, PartialEq, Eq)]
+#[derive(Clone, Copy)]
 pub enum Service {
     Quiet(QuietWord),
     OnDevice(DeviceWord),
