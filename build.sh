@@ -22,7 +22,7 @@ prove 2 stacks data_space cell_machine compiler &
 machine=$!
 prove 1 sector_disk journal recovery &
 disk=$!
-prove 1 number_io block_buffers dictionary &
+prove 1 number_io block_buffers system_words dictionary &
 parts=$!
 failed=0
 for lane in $machine $disk $parts; do

@@ -13,16 +13,16 @@ trap 'rm -rf "$work"' EXIT
 # The proved machine and the lexicon, in a repository of their own: the crates that they stand on, and a static library
 # over each. What their checks left in out/ is taken along, so that little is checked anew.
 mkdir -p "$work/crates/bench_machine/src" "$work/crates/bench_lexicon/src"
-for crate in stacks data_space cell_machine dictionary compiler lexicon; do
+for crate in stacks data_space cell_machine system_words dictionary compiler lexicon; do
     cp -R "$root/crates/$crate" "$work/crates/"
 done
 cp "$here/machine/lib.rt.txt" "$work/crates/bench_machine/src/lib.rt"
 cp "$here/lexicon/lib.rt.txt" "$work/crates/bench_lexicon/src/lib.rt"
 cp "$root/HANDLES" "$work/"
 {
-    grep -E '^(stacks|data_space|cell_machine|dictionary|compiler|lexicon):' "$root/crates.txt"
+    grep -E '^(stacks|data_space|cell_machine|system_words|dictionary|compiler|lexicon):' "$root/crates.txt"
     echo 'bench_machine staticlib: cell_machine stacks data_space'
-    echo 'bench_lexicon staticlib: cell_machine stacks data_space dictionary lexicon'
+    echo 'bench_lexicon staticlib: cell_machine stacks data_space system_words dictionary lexicon'
 } > "$work/crates.txt"
 for crate in bench_machine bench_lexicon; do
     (cd "$work/crates/$crate" && rt lib --jobs 1 > "$work/log" 2>&1) || {

@@ -3,7 +3,7 @@ use Rattle.std.proofs.Common.{◌≡◌, ℕ, true, false, List, [], length, cod
 use Rattle.dictionary.specs.declared.Kind.TheVariants as given
 use Rattle.dictionary.specs.declared.DictionaryFault.TheVariants.{Protected, NotCreated, NameLength}
 use Rattle.dictionary.specs.Words.{find, forth_token}
-use Rattle.dictionary.specs.Names.{compile_only_token}
+use Rattle.dictionary.specs.System.{compile_only_token}
 use Rattle.dictionary.specs.Dictionary.{Dictionary, first_dictionary, with_word, add_refusal, immediate_refusal, does_refusal, forget_refusal, forgotten}
 
 -- ' DUP is 36, ' ; is 107, and the first word that a user defines is 133

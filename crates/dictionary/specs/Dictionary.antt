@@ -6,7 +6,7 @@ use Rattle.dictionary.specs.declared.Kind.TheVariants as given
 use Rattle.dictionary.specs.declared.DictionaryFault.{DictionaryFault}
 use Rattle.dictionary.specs.declared.DictionaryFault.TheVariants.{NameLength, Full, Protected, NotCreated}
 use Rattle.dictionary.specs.Words.{Kind, Word, Primitive, Colon, Created, Constant, Vocabulary, is_name, most_words, system_count, forth_token, older, kept, with_part}
-use Rattle.dictionary.specs.Names.{first_words}
+use Rattle.dictionary.specs.System.{first_words}
 
 -- a body and a part are named by their places
 abbrev pub Named : Type 0

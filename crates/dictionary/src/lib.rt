@@ -20,8 +20,8 @@ mod system;
 use chains::Chains;
 use std::alloc::{AllocError, Global};
 use std::marker::Model;
+use system::first_words;
 pub use system::is_compile_only;
-use system::system_words;
 
 /// Memory for the dictionary was refused.
 pub type NoMemory = AllocError;
@@ -39,7 +39,7 @@ pub const WORD_LIMIT: usize = 4096;
 pub const NAME_LIMIT: usize = 31;
 
 /// The number of system words, which is the token of the last one.
-pub const SYSTEM_WORD_COUNT: usize = 132;
+pub const SYSTEM_WORD_COUNT: usize = system_words::COUNT as usize;
 
 /// The token of the word `FORTH`, whose vocabulary holds the system words.
 pub const FORTH: Token = 91;
@@ -113,7 +113,7 @@ impl Dictionary {
         ensures { IfOk result (λ dictionary. dictionary ≡ first_dictionary) }
     {
         Ok(Dictionary {
-            words: system_words(alloc)?,
+            words: first_words(alloc)?,
             context: FORTH,
             current: FORTH,
         })

@@ -15,7 +15,7 @@ use Rattle.interpreter.specs.declared.forth.Forth.{Forth}
 use Rattle.lexicon.specs.Language.{Language}
 use Rattle.lexicon.specs.Stands.{IsLeft, owner_in}
 use Rattle.std.proofs.lemmas.Bool.{lt-ltb, le-ltb, lt-leb, le-leb}
-use Rattle.dictionary.specs.Names.{compile_only_token}
+use Rattle.dictionary.specs.System.{compile_only_token}
 use Rattle.interpreter.specs.Text.{may_execute}
 use Rattle.interpreter.specs.State.{World, Run, with_run}
 use Rattle.std.proofs.KnownBytes.{Appends-nil}

@@ -7,7 +7,8 @@ use Rattle.dictionary.specs.declared.Kind.{Kind as GivenKind}
 use Rattle.dictionary.specs.declared.DictionaryFault.{DictionaryFault}
 use Rattle.dictionary.specs.declared.DictionaryFault.TheVariants as found
 use Rattle.dictionary.specs.Words.{Kind, is_name, most_words, system_count, forth_token, with_immediate}
-use Rattle.dictionary.specs.Names.{Header, system_word, headers, first_words}
+use Rattle.system_words.specs.Rows.{Row, rows}
+use Rattle.dictionary.specs.System.{system_word, first_words}
 use Rattle.dictionary.specs.Dictionary.{Dictionary, kind_of, add_refusal, immediate_refusal, with_word as dictionary_with, may_be_vocabulary, is_token, first_dictionary}
 use Rattle.compiler.specs.declared.Compiler.{Compiler}
 use Rattle.compiler.specs.declared.Refusal.{Refusal as CompileRefusal}
@@ -229,27 +230,27 @@ system_here = record { from = omega arith; most = omega arith }
 system_first : (k : ℕ) → k ≤ system_count → true ≡ nat_le k system_count
 system_first k h = grind (arith, nat_tests)
 
-system_stand : (code : List ℕ) (owner_at : ℕ → ℕ) (k p : ℕ) (hs : List Header) → k + length hs ≤ suc system_count → WordsStand code owner_at k p (map system_word hs) (map system_word hs)
+system_stand : (code : List ℕ) (owner_at : ℕ → ℕ) (k p : ℕ) (hs : List Row) → k + length hs ≤ suc system_count → WordsStand code owner_at k p (map system_word hs) (map system_word hs)
 system_stand code owner_at k p [] h = tt
 system_stand code owner_at k p (g ∷ hs) h = (
   record { name = refl; vocabulary = refl; immediate = refl; here = refl; in_space = system_here; system = system_first k (omega arith); kind = tt },
   system_stand code owner_at (suc k) (p + 0) hs (omega arith),
 )
 
-no_cells : (hs : List Header) → used_cells (map system_word hs) ≡ 0
+no_cells : (hs : List Row) → used_cells (map system_word hs) ≡ 0
 no_cells [] = refl
 no_cells (g ∷ hs) = let r = no_cells hs in omega (arith, r)
 
 pub begins_new : (dictionary : Dictionary) (code : List ℕ) (compiler : Compiler) → dictionary ≡ first_dictionary → IsClosed compiler → used compiler ≡ 0 → Stands (record { dictionary = dictionary; code = code; compiler = compiler; here = 1280; begun_at = 1280 }) new_language
 begins_new dictionary code compiler is c u = record {
-  words = subst (λ (d : Dictionary). WordsStand code (owner_in first_words) 1 0 d.words first_words) (sym is) (system_stand code (owner_in first_words) 1 0 headers (search rules));
+  words = subst (λ (d : Dictionary). WordsStand code (owner_in first_words) 1 0 d.words first_words) (sym is) (system_stand code (owner_in first_words) 1 0 rows (search rules));
   system = search rules;
   room = search rules;
   first = ap (λ (d : Dictionary). d.context) is;
   current = ap (λ (d : Dictionary). d.current) is;
   here = refl;
   in_space = system_here;
-  cells = u ∙ sym (no_cells headers);
+  cells = u ∙ sym (no_cells rows);
   definition = c;
   begun = tt;
 }

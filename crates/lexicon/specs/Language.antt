@@ -4,7 +4,7 @@ use Rattle.std.specs.Prelude.{ℕ, ◌+◌, Bool, true, false, not, ◌&&◌, na
 use Rattle.cell_machine.specs.Fault.{Token, Name, Protected, DictionaryFull, DefinitionOpen}
 use Rattle.cell_machine.specs.Tree.{Trees}
 use Rattle.dictionary.specs.Words.{Word, Kind, Colon, forth_token, system_count, most_words, is_name, entry, older, kept, with_immediate, with_part}
-use Rattle.dictionary.specs.Names.{first_words}
+use Rattle.dictionary.specs.System.{first_words}
 use Rattle.compiler.specs.Definition.{Body, Definition, Adding, Adds, Refuses, opened, body_of, end_definition}
 use Rattle.compiler.specs.Promise.{on_open}
 

@@ -1,7 +1,7 @@
 -- The limits of dictionary, code and structures, from systems that are almost full.
 use Rattle.std.specs.Prelude.{ℕ, zero, suc, false, List, [], ◌∷◌, ◌++◌, codes, replicate, refl}
 use Rattle.dictionary.specs.Words.{Colon, forth_token}
-use Rattle.dictionary.specs.Names.{first_words}
+use Rattle.dictionary.specs.System.{first_words}
 use Rattle.cell_machine.specs.Tree.{End}
 use Rattle.interpreter.specs.State.{Forth, ForthWord}
 use Rattle.rows.specs.Playing.{◌⇒◌, Replies, Plays, image, over}

@@ -1,7 +1,7 @@
 use Rattle.std.proofs.Common.{◌≡◌, true, false, Ok, refl, sym, ap, ◌∙◌, arith}
 use Rattle.std.specs.Prelude.{not}
 use Rattle.cell_machine.specs.Value.{and_then}
-use Rattle.dictionary.specs.Names.{compile_only_token}
+use Rattle.dictionary.specs.System.{compile_only_token}
 use Rattle.interpreter.specs.Law.{left}
 use Rattle.interpreter.specs.Standing.{core}
 use Rattle.interpreter.proofs.Altering.{refused}

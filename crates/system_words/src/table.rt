@@ -1,0 +1,295 @@
+//! The rows, in the order of the tokens.
+
+ghost use Rattle.std.specs.Prelude.{◌≡◌, map, length};
+ghost use Rattle.system_words.specs.Rows.{row_of, rows};
+
+use crate::Row;
+use crate::words::Binary::Add;
+use crate::words::Binary::And;
+use crate::words::Binary::Equal;
+use crate::words::Binary::Greater;
+use crate::words::Binary::Greatest;
+use crate::words::Binary::Least;
+use crate::words::Binary::Less;
+use crate::words::Binary::Multiply;
+use crate::words::Binary::Or;
+use crate::words::Binary::Subtract;
+use crate::words::Binary::UnsignedLess;
+use crate::words::Binary::Xor;
+use crate::words::BlockWord::Block;
+use crate::words::BlockWord::Buffer;
+use crate::words::BlockWord::Flush;
+use crate::words::BlockWord::SaveBuffers;
+use crate::words::BlockWord::Update;
+use crate::words::DefinitionWord::Build;
+use crate::words::DefinitionWord::Literal;
+use crate::words::DefinitionWord::Semicolon;
+use crate::words::Divide::Both;
+use crate::words::Divide::Quotient;
+use crate::words::Divide::Remainder;
+use crate::words::Divide::Scaled;
+use crate::words::Divide::ScaledBoth;
+use crate::words::Divide::UnsignedDouble;
+use crate::words::LexiconWord::Allot;
+use crate::words::LexiconWord::Comma;
+use crate::words::LexiconWord::Definitions;
+use crate::words::LexiconWord::Find;
+use crate::words::LexiconWord::Forth;
+use crate::words::LexiconWord::Here;
+use crate::words::LexiconWord::MakeImmediate;
+use crate::words::LexiconWord::Pad;
+use crate::words::LexiconWord::ToBody;
+use crate::words::Mark::CompileOnly;
+use crate::words::Mark::Immediate;
+use crate::words::Mark::ImmediateOnly;
+use crate::words::Mark::Plain;
+use crate::words::Meaning::Asks;
+use crate::words::Meaning::Exits;
+use crate::words::Meaning::Marks;
+use crate::words::Meaning::Runs;
+use crate::words::NameWord::BracketCompile;
+use crate::words::NameWord::Colon;
+use crate::words::NameWord::CompileTick;
+use crate::words::NameWord::Create;
+use crate::words::NameWord::Forget;
+use crate::words::NameWord::MakeConstant;
+use crate::words::NameWord::MakeVocabulary;
+use crate::words::NameWord::Tick;
+use crate::words::NameWord::Variable;
+use crate::words::Own::Abort;
+use crate::words::Own::Constant;
+use crate::words::Own::Division;
+use crate::words::Own::Double;
+use crate::words::Own::Nothing;
+use crate::words::Own::OnList;
+use crate::words::Own::One;
+use crate::words::Own::Quit;
+use crate::words::Own::SetCell;
+use crate::words::Own::Space;
+use crate::words::Own::Stack;
+use crate::words::Own::Two;
+use crate::words::PictureWord::BeginPicture;
+use crate::words::PictureWord::Convert;
+use crate::words::PictureWord::Digit;
+use crate::words::PictureWord::Digits;
+use crate::words::PictureWord::FinishPicture;
+use crate::words::PictureWord::HoldByte;
+use crate::words::PictureWord::Sign;
+use crate::words::Return::CopyReturn;
+use crate::words::Return::FromReturn;
+use crate::words::Return::Index;
+use crate::words::Return::OuterIndex;
+use crate::words::Return::ToReturn;
+use crate::words::Service::Execute;
+use crate::words::Service::Load;
+use crate::words::Service::OnBlocks;
+use crate::words::Service::OnDefinition;
+use crate::words::Service::OnLexicon;
+use crate::words::Service::OnName;
+use crate::words::Service::OnPicture;
+use crate::words::Service::OnTerminal;
+use crate::words::Service::OnText;
+use crate::words::Shuffle::Depth;
+use crate::words::Shuffle::Drop;
+use crate::words::Shuffle::Dup;
+use crate::words::Shuffle::DupNonzero;
+use crate::words::Shuffle::Over;
+use crate::words::Shuffle::Pick;
+use crate::words::Shuffle::Roll;
+use crate::words::Shuffle::Rotate;
+use crate::words::Shuffle::Swap;
+use crate::words::Store::AddTo;
+use crate::words::Store::Count;
+use crate::words::Store::Fetch;
+use crate::words::Store::FetchByte;
+use crate::words::Store::Fill;
+use crate::words::Store::MoveDown;
+use crate::words::Store::MoveUp;
+use crate::words::Store::Set;
+use crate::words::Store::SetByte;
+use crate::words::Store::Trailing;
+use crate::words::Structure::Begin;
+use crate::words::Structure::Do;
+use crate::words::Structure::Does;
+use crate::words::Structure::Else;
+use crate::words::Structure::If;
+use crate::words::Structure::Leave;
+use crate::words::Structure::Loop;
+use crate::words::Structure::PlusLoop;
+use crate::words::Structure::Repeat;
+use crate::words::Structure::Then;
+use crate::words::Structure::Until;
+use crate::words::Structure::While;
+use crate::words::TerminalWord::Blank;
+use crate::words::TerminalWord::Blanks;
+use crate::words::TerminalWord::Dot;
+use crate::words::TerminalWord::Emit;
+use crate::words::TerminalWord::Expect;
+use crate::words::TerminalWord::Key;
+use crate::words::TerminalWord::NewLine;
+use crate::words::TerminalWord::PrintText;
+use crate::words::TerminalWord::TypeText;
+use crate::words::TerminalWord::UnsignedDot;
+use crate::words::TextWord::AbortQuote;
+use crate::words::TextWord::Comment;
+use crate::words::TextWord::DotQuote;
+use crate::words::TextWord::ParseWord;
+use crate::words::Unary::Above;
+use crate::words::Unary::Absolute;
+use crate::words::Unary::Below;
+use crate::words::Unary::Half;
+use crate::words::Unary::Invert;
+use crate::words::Unary::Negate;
+use crate::words::Unary::OneLess;
+use crate::words::Unary::OneMore;
+use crate::words::Unary::TwoLess;
+use crate::words::Unary::TwoMore;
+use crate::words::Unary::Zero;
+use crate::words::Wide::WideAdd;
+use crate::words::Wide::WideLess;
+use crate::words::Wide::WideNegate;
+use crate::words::Wide::WideProduct;
+
+/// All words, in the order of their tokens, which count from 1.
+#[inline]
+pub fn all() -> &'static [Row]
+    ensures rows { map (λ row. row_of row.0.now row.1 row.2) result.now ≡ rows }
+    ensures count { length result.now ≡ 132 }
+{
+    &ROWS
+}
+
+static ROWS: [Row; 132] = [
+    (b"!", Plain, Runs(Space(Set))),
+    (b"*", Plain, Runs(Two(Multiply))),
+    (b"*/", Plain, Runs(Division(Scaled))),
+    (b"*/MOD", Plain, Runs(Division(ScaledBoth))),
+    (b"+", Plain, Runs(Two(Add))),
+    (b"+!", Plain, Runs(Space(AddTo))),
+    (b"-", Plain, Runs(Two(Subtract))),
+    (b"/", Plain, Runs(Division(Quotient))),
+    (b"/MOD", Plain, Runs(Division(Both))),
+    (b"0<", Plain, Runs(One(Below))),
+    (b"0=", Plain, Runs(One(Zero))),
+    (b"0>", Plain, Runs(One(Above))),
+    (b"1+", Plain, Runs(One(OneMore))),
+    (b"1-", Plain, Runs(One(OneLess))),
+    (b"2+", Plain, Runs(One(TwoMore))),
+    (b"2-", Plain, Runs(One(TwoLess))),
+    (b"2/", Plain, Runs(One(Half))),
+    (b"<", Plain, Runs(Two(Less))),
+    (b"=", Plain, Runs(Two(Equal))),
+    (b">", Plain, Runs(Two(Greater))),
+    (b">R", CompileOnly, Runs(OnList(ToReturn))),
+    (b"?DUP", Plain, Runs(Stack(DupNonzero))),
+    (b"@", Plain, Runs(Space(Fetch))),
+    (b"ABS", Plain, Runs(One(Absolute))),
+    (b"AND", Plain, Runs(Two(And))),
+    (b"C!", Plain, Runs(Space(SetByte))),
+    (b"C@", Plain, Runs(Space(FetchByte))),
+    (b"CMOVE", Plain, Runs(Space(MoveUp))),
+    (b"CMOVE>", Plain, Runs(Space(MoveDown))),
+    (b"COUNT", Plain, Runs(Space(Count))),
+    (b"D+", Plain, Runs(Double(WideAdd))),
+    (b"D<", Plain, Runs(Double(WideLess))),
+    (b"DEPTH", Plain, Runs(Stack(Depth))),
+    (b"DNEGATE", Plain, Runs(Double(WideNegate))),
+    (b"DROP", Plain, Runs(Stack(Drop))),
+    (b"DUP", Plain, Runs(Stack(Dup))),
+    (b"EXECUTE", Plain, Asks(Execute)),
+    (b"EXIT", CompileOnly, Exits),
+    (b"FILL", Plain, Runs(Space(Fill))),
+    (b"I", CompileOnly, Runs(OnList(Index))),
+    (b"J", CompileOnly, Runs(OnList(OuterIndex))),
+    (b"MAX", Plain, Runs(Two(Greatest))),
+    (b"MIN", Plain, Runs(Two(Least))),
+    (b"MOD", Plain, Runs(Division(Remainder))),
+    (b"NEGATE", Plain, Runs(One(Negate))),
+    (b"NOT", Plain, Runs(One(Invert))),
+    (b"OR", Plain, Runs(Two(Or))),
+    (b"OVER", Plain, Runs(Stack(Over))),
+    (b"PICK", Plain, Runs(Stack(Pick))),
+    (b"R>", CompileOnly, Runs(OnList(FromReturn))),
+    (b"R@", CompileOnly, Runs(OnList(CopyReturn))),
+    (b"ROLL", Plain, Runs(Stack(Roll))),
+    (b"ROT", Plain, Runs(Stack(Rotate))),
+    (b"SWAP", Plain, Runs(Stack(Swap))),
+    (b"U<", Plain, Runs(Two(UnsignedLess))),
+    (b"UM*", Plain, Runs(Double(WideProduct))),
+    (b"UM/MOD", Plain, Runs(Division(UnsignedDouble))),
+    (b"XOR", Plain, Runs(Two(Xor))),
+    (b"BLOCK", Plain, Asks(OnBlocks(Block))),
+    (b"BUFFER", Plain, Asks(OnBlocks(Buffer))),
+    (b"CR", Plain, Asks(OnTerminal(NewLine))),
+    (b"EMIT", Plain, Asks(OnTerminal(Emit))),
+    (b"EXPECT", Plain, Asks(OnTerminal(Expect))),
+    (b"FLUSH", Plain, Asks(OnBlocks(Flush))),
+    (b"KEY", Plain, Asks(OnTerminal(Key))),
+    (b"SAVE-BUFFERS", Plain, Asks(OnBlocks(SaveBuffers))),
+    (b"SPACE", Plain, Asks(OnTerminal(Blank))),
+    (b"SPACES", Plain, Asks(OnTerminal(Blanks))),
+    (b"TYPE", Plain, Asks(OnTerminal(TypeText))),
+    (b"UPDATE", Plain, Asks(OnBlocks(Update))),
+    (b"#", Plain, Asks(OnPicture(Digit))),
+    (b"#>", Plain, Asks(OnPicture(FinishPicture))),
+    (b"#S", Plain, Asks(OnPicture(Digits))),
+    (b"#TIB", Plain, Runs(Constant(24))),
+    (b"'", Plain, Asks(OnName(Tick))),
+    (b"(", Immediate, Asks(OnText(Comment))),
+    (b"-TRAILING", Plain, Runs(Space(Trailing))),
+    (b".", Plain, Asks(OnTerminal(Dot))),
+    (b".(", Immediate, Asks(OnTerminal(PrintText))),
+    (b"<#", Plain, Asks(OnPicture(BeginPicture))),
+    (b">BODY", Plain, Asks(OnLexicon(ToBody))),
+    (b">IN", Plain, Runs(Constant(20))),
+    (b"ABORT", Plain, Runs(Abort)),
+    (b"BASE", Plain, Runs(Constant(16))),
+    (b"BLK", Plain, Runs(Constant(22))),
+    (b"CONVERT", Plain, Asks(OnPicture(Convert))),
+    (b"DECIMAL", Plain, Runs(SetCell(16, 10))),
+    (b"DEFINITIONS", Plain, Asks(OnLexicon(Definitions))),
+    (b"FIND", Plain, Asks(OnLexicon(Find))),
+    (b"FORGET", Plain, Asks(OnName(Forget))),
+    (b"FORTH", Plain, Asks(OnLexicon(Forth))),
+    (b"FORTH-83", Plain, Runs(Nothing)),
+    (b"HERE", Plain, Asks(OnLexicon(Here))),
+    (b"HOLD", Plain, Asks(OnPicture(HoldByte))),
+    (b"LOAD", Plain, Asks(Load)),
+    (b"PAD", Plain, Asks(OnLexicon(Pad))),
+    (b"QUIT", Plain, Runs(Quit)),
+    (b"SIGN", Plain, Asks(OnPicture(Sign))),
+    (b"SPAN", Plain, Runs(Constant(26))),
+    (b"TIB", Plain, Runs(Constant(256))),
+    (b"U.", Plain, Asks(OnTerminal(UnsignedDot))),
+    (b"WORD", Plain, Asks(OnText(ParseWord))),
+    (b"+LOOP", ImmediateOnly, Asks(OnDefinition(Build(PlusLoop)))),
+    (b",", Plain, Asks(OnLexicon(Comma))),
+    (b".\"", ImmediateOnly, Asks(OnText(DotQuote))),
+    (b":", Plain, Asks(OnName(Colon))),
+    (b";", ImmediateOnly, Asks(OnDefinition(Semicolon))),
+    (b"ABORT\"", ImmediateOnly, Asks(OnText(AbortQuote))),
+    (b"ALLOT", Plain, Asks(OnLexicon(Allot))),
+    (b"BEGIN", ImmediateOnly, Asks(OnDefinition(Build(Begin)))),
+    (b"COMPILE", CompileOnly, Marks),
+    (b"CONSTANT", Plain, Asks(OnName(MakeConstant))),
+    (b"CREATE", Plain, Asks(OnName(Create))),
+    (b"DO", ImmediateOnly, Asks(OnDefinition(Build(Do)))),
+    (b"DOES>", ImmediateOnly, Asks(OnDefinition(Build(Does)))),
+    (b"ELSE", ImmediateOnly, Asks(OnDefinition(Build(Else)))),
+    (b"IF", ImmediateOnly, Asks(OnDefinition(Build(If)))),
+    (b"IMMEDIATE", Plain, Asks(OnLexicon(MakeImmediate))),
+    (b"LEAVE", ImmediateOnly, Asks(OnDefinition(Build(Leave)))),
+    (b"LITERAL", ImmediateOnly, Asks(OnDefinition(Literal))),
+    (b"LOOP", ImmediateOnly, Asks(OnDefinition(Build(Loop)))),
+    (b"REPEAT", ImmediateOnly, Asks(OnDefinition(Build(Repeat)))),
+    (b"STATE", Plain, Runs(Constant(18))),
+    (b"THEN", ImmediateOnly, Asks(OnDefinition(Build(Then)))),
+    (b"UNTIL", ImmediateOnly, Asks(OnDefinition(Build(Until)))),
+    (b"VARIABLE", Plain, Asks(OnName(Variable))),
+    (b"VOCABULARY", Plain, Asks(OnName(MakeVocabulary))),
+    (b"WHILE", ImmediateOnly, Asks(OnDefinition(Build(While)))),
+    (b"[", Immediate, Runs(SetCell(18, 0))),
+    (b"[']", ImmediateOnly, Asks(OnName(CompileTick))),
+    (b"[COMPILE]", ImmediateOnly, Asks(OnName(BracketCompile))),
+    (b"]", Plain, Runs(SetCell(18, 65535))),
+];
