@@ -82,6 +82,19 @@ pub fn head(alloc: Global, text: &[u8], lines: usize) -> Result<Vec<u8>, AllocEr
     Ok(head)
 }
 
+/// The last lines of a text.
+pub fn tail(alloc: Global, text: &[u8], lines: usize) -> Result<Vec<u8>, AllocError> {
+    let all = text.split_inclusive(|byte| *byte == b'\n').count();
+    let mut tail: Vec<u8> = Vec::new(alloc);
+    for line in text
+        .split_inclusive(|byte| *byte == b'\n')
+        .skip(all.saturating_sub(lines))
+    {
+        tail.extend_from_slice(line)?;
+    }
+    Ok(tail)
+}
+
 /// With how many lines two texts begin alike, and what follows these in each.
 pub fn past_same_lines<'a, 'b>(one: &'a [u8], other: &'b [u8]) -> (usize, &'a [u8], &'b [u8]) {
     let mut lines = 0usize;

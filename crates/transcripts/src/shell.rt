@@ -1,8 +1,9 @@
 //! What a page shows of the shell: few commands, in few forms. All others are refused.
 use crate::dialogue::{Keyboard, Screen, is_next};
-use crate::report::head;
+use crate::report::{head, tail};
 use interpreter::Forth;
 use sector_disk::{FileDisk, MemoryDisk};
+use std::alloc::{AllocError, Global};
 use std::cell::Cell;
 use std::fs::{File, Files};
 use std::io::{Error, ErrorKind, Read, Write};
@@ -13,8 +14,8 @@ use terminal::command;
 enum Command<'a> {
     /// `echo $?`: the status of the last call of the program.
     Status,
-    /// `cat FILE`: a file that the reader is to write.
-    Cat(&'a str),
+    /// `cat > FILE <<'END'`: a file of the lines after it, up to one that is `END`.
+    Write(&'a str),
     /// `forth83 ..`: the program at the terminal.
     Talk(&'a str),
     /// Stages that are joined by ` | `, and after ` > ` the file that what they write goes into, if there is one.
@@ -26,8 +27,8 @@ impl<'a> Command<'a> {
         if text == "echo $?" {
             return Command::Status;
         }
-        if let Some(path) = text.strip_prefix("cat ") {
-            return Command::Cat(path);
+        if let Some(path) = written(text) {
+            return Command::Write(path);
         }
         match text.split_once(" > ") {
             Some((stages, path)) => Command::Pipe(stages, Some(path)),
@@ -37,14 +38,27 @@ impl<'a> Command<'a> {
     }
 }
 
+/// The file that the lines after a command are written to.
+fn written(text: &str) -> Option<&str> {
+    text.strip_prefix("cat > ")?.strip_suffix(" <<'END'")
+}
+
 /// What a stage of a pipe does.
 enum Stage<'a> {
     /// `echo 'TEXT'`
     Echo(&'a str),
     /// `printf 'TEXT'`, in which `\n` is a line feed.
     Printf(&'a str),
+    /// `cat FILE..`: files one after another, where `-` is what comes.
+    Cat(&'a str),
+    /// `sed 's/^/~/'`: a `~` before each line.
+    Marked,
+    /// `tr a-z A-Z`: capitals.
+    Capitals,
     /// `head -N`
     Head(usize),
+    /// `tail -N`
+    Tail(usize),
     /// `forth83 ..`
     Program(&'a str),
 }
@@ -54,11 +68,20 @@ impl<'a> Stage<'a> {
         match text.split_once(" ") {
             Some(("echo", text)) => Some(Stage::Echo(unquoted(text)?)),
             Some(("printf", text)) => Some(Stage::Printf(unquoted(text)?)),
-            Some(("head", count)) => Some(Stage::Head(count.strip_prefix("-")?.parse().ok()?)),
+            Some(("cat", paths)) => Some(Stage::Cat(paths)),
+            Some(("sed", "'s/^/~/'")) => Some(Stage::Marked),
+            Some(("tr", "a-z A-Z")) => Some(Stage::Capitals),
+            Some(("head", count)) => Some(Stage::Head(lines(count)?)),
+            Some(("tail", count)) => Some(Stage::Tail(lines(count)?)),
             Some(("forth83", _)) => Some(Stage::Program(text)),
             _ => None,
         }
     }
+}
+
+/// A number of lines, as `-5`.
+fn lines(count: &str) -> Option<usize> {
+    count.strip_prefix("-")?.parse().ok()
 }
 
 /// A text without the quotes around it.
@@ -102,11 +125,7 @@ impl Shell {
     ) -> io::Result<Vec<u8>> {
         match command {
             Command::Status => Ok(format!(in rt.alloc(); "{}\n", self.status)?.into_bytes()),
-            Command::Cat(path) => {
-                fs::write(rt, path, shown.get())?;
-                shown.set(b"");
-                Ok(Vec::new(rt.alloc()))
-            }
+            Command::Write(path) => write_lines(rt, path, shown),
             Command::Talk(words) => self.talk(rt, words, shown),
             Command::Pipe(stages, None) => self.pipe(rt, stages),
             Command::Pipe(stages, Some(path)) => {
@@ -190,8 +209,55 @@ impl Shell {
         match stage {
             Stage::Echo(text) => Ok(format!(in rt.alloc(); "{text}\n")?.into_bytes()),
             Stage::Printf(text) => Ok(text.replace(rt.alloc(), "\\n", "\n")?.into_bytes()),
+            Stage::Cat(paths) => joined(rt, paths, input),
+            Stage::Marked => Ok(marked(rt.alloc(), input)?),
+            Stage::Capitals => Ok(input.to_ascii_uppercase(rt.alloc())?),
             Stage::Head(lines) => Ok(head(rt.alloc(), input, lines)?),
+            Stage::Tail(lines) => Ok(tail(rt.alloc(), input, lines)?),
             Stage::Program(words) => self.run(rt, words, input),
         }
     }
+}
+
+/// Writes a file of the lines that are shown next, up to `END`.
+fn write_lines(
+    rt: &(impl Files<File = File> + AllocGlobal),
+    path: &str,
+    shown: &Cell<&[u8]>,
+) -> io::Result<Vec<u8>> {
+    match shown.get().strip_suffix(b"END\n") {
+        Some(text) => {
+            fs::write(rt, path, text)?;
+            shown.set(b"");
+            Ok(Vec::new(rt.alloc()))
+        }
+        None => Err(Error::from(ErrorKind::InvalidInput)),
+    }
+}
+
+/// What the files hold, one after another.
+fn joined(
+    rt: &(impl Files<File = File> + AllocGlobal),
+    paths: &str,
+    input: &[u8],
+) -> io::Result<Vec<u8>> {
+    let mut all: Vec<u8> = Vec::new(rt.alloc());
+    for path in paths.split_whitespace() {
+        if path == "-" {
+            all.extend_from_slice(input)?;
+        } else {
+            all.extend_from_slice(fs::read_to_string(rt, path)?.as_bytes())?;
+        }
+    }
+    Ok(all)
+}
+
+/// The lines, each behind a `~`.
+fn marked(alloc: Global, input: &[u8]) -> Result<Vec<u8>, AllocError> {
+    let mut all: Vec<u8> = Vec::new(alloc);
+    for line in input.split_inclusive(|byte| *byte == b'\n') {
+        all.push(b'~')?;
+        all.extend_from_slice(line)?;
+    }
+    Ok(all)
 }
