@@ -1,3 +1,4 @@
 pub mod Links
 pub mod Kept
 pub mod Rows
+pub mod Mixed

@@ -5,9 +5,11 @@
 //! a search reads few headers, the newest first, however many words there are. Contracts see a list of words, oldest first.
 ghost use Rattle.std.specs.Prelude.{◌≡◌, ◌+◌, ◌-◌, ◌<◌, ◌≤◌, ◌==◌, ◌&&◌, [], ◌∷◌, ◌++◌, length, take, option_map, is_some, IfOk, IfSome, IsTrue};
 ghost use Rattle.std.specs.Bool.{OnTrue, OnFalse};
+ghost use Rattle.std.specs.Int.{from_le_bytes, Width};
+ghost use Rattle.std.specs.Int.Width.{w32};
 ghost use Rattle.dictionary.specs.Words.{same_text, is_name, find_in, entry, with_immediate, with_part};
 ghost use Rattle.dictionary.specs.Dictionary.{word_of, kind_of, body_of, cell_of, body_of_word, cell_of_word};
-ghost use Rattle.dictionary.specs.Chains.{strand};
+ghost use Rattle.dictionary.specs.Chains.{joined, mixed, strand_at, strand};
 
 use crate::{Kind, NAME_LIMIT, NoMemory, Place, Token, WORD_LIMIT, Word};
 use std::alloc::Global;
@@ -16,16 +18,57 @@ use std::marker::Model;
 /// How many strands there are.
 const STRANDS: usize = 4096;
 
+/// The number after the piece has joined it, in 32 bits. The multiplier (2 to the 32nd over the golden ratio) spreads what is alike.
+#[inline]
+fn joined(mix: u32, piece: u32) -> u32
+    ensures { result ≡ joined mix piece }
+{
+    mix.wrapping_add(piece).wrapping_mul(2_654_435_769)
+}
+
+/// The last bytes of a name, fewer than four, as one piece.
+#[inline]
+fn last_piece(bytes: &[u8]) -> u32
+    requires { length bytes.now < 4 }
+    ensures { result ≡ from_le_bytes w32 bytes.now }
+{
+    match bytes {
+        [a, b, c] => u32::from_le_bytes([*a, *b, *c, 0]),
+        [a, b] => u32::from_le_bytes([*a, *b, 0, 0]),
+        [a] => u32::from(*a),
+        _ => 0,
+    }
+}
+
+/// The name as one number, four bytes at a time.
+#[inline]
+pub(crate) fn mixed(name: &[u8]) -> u32
+    ensures { result ≡ mixed name.now }
+{
+    let mut mix = 0;
+    let mut rest = name;
+    while let [a, b, c, d, after @ ..] = rest {
+        mix = joined(mix, u32::from_le_bytes([*a, *b, *c, *d]));
+        rest = after;
+    }
+    joined(mix, last_piece(rest))
+}
+
+/// The strand of the words in the vocabulary whose name is mixed to this number.
+#[inline]
+fn strand_at(vocabulary: Token, mix: u32) -> usize
+    ensures strand { result ≡ strand_at vocabulary mix }
+    ensures below { result < 4096 }
+{
+    (joined(mix, u32::from(vocabulary)) / 1_048_576) as usize
+}
+
 /// The strand of the words of this name in the vocabulary.
 fn strand(vocabulary: Token, name: &[u8]) -> usize
     ensures strand { result ≡ strand vocabulary name.now }
     ensures below { result < 4096 }
 {
-    let mut mix = vocabulary;
-    for byte in name {
-        mix = mix.wrapping_mul(109).wrapping_add(u16::from(*byte));
-    }
-    mix as usize % STRANDS
+    strand_at(vocabulary, mixed(name))
 }
 
 /// What is kept of a word. What a search reads of each word comes first.
@@ -180,13 +223,15 @@ impl Chains {
         }
     }
 
-    /// The token of the last word of the name in the vocabulary.
-    pub(crate) fn find_in(&self, vocabulary: Token, name: &[u8]) -> Option<Token>
+    /// The token of the last word of the name in the vocabulary. `mix` is the name, mixed: who looks in two vocabularies mixes it once.
+    #[inline(always)]
+    pub(crate) fn find_in(&self, vocabulary: Token, name: &[u8], mix: u32) -> Option<Token>
+        requires mixed { mix ≡ mixed name.now }
         ensures found { result ≡ find_in self.now vocabulary name.now }
         ensures token { IfSome result (λ token. (0 < token)) }
         ensures within { IfSome result (λ token. token ≤ length self.now) }
     {
-        let mut token = self.newest[strand(vocabulary, name)];
+        let mut token = self.newest[strand_at(vocabulary, mix)];
         while token != 0 {
             let header = &self.headers[token as usize - 1];
             if header.is_of(vocabulary, name) {

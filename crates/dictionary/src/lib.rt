@@ -17,7 +17,7 @@ ghost use Rattle.dictionary.specs.Dictionary.{first_dictionary, word_of, body_of
 mod chains;
 mod system;
 
-use chains::Chains;
+use chains::{Chains, mixed};
 use std::alloc::{AllocError, Global};
 use std::marker::Model;
 use system::first_words;
@@ -169,8 +169,9 @@ impl Dictionary {
         ensures found { result ≡ find self.now.words self.now.context name.now }
         ensures token { IfSome result (λ token. IsTrue (is_token self.now token)) }
     {
-        match self.words.find_in(self.context, name) {
-            None if self.context != FORTH => self.words.find_in(FORTH, name),
+        let mix = mixed(name);
+        match self.words.find_in(self.context, name, mix) {
+            None if self.context != FORTH => self.words.find_in(FORTH, name, mix),
             found => found,
         }
     }
@@ -180,7 +181,7 @@ impl Dictionary {
         ensures found { result ≡ find_in self.now.words vocabulary name.now }
         ensures token { IfSome result (λ token. IsTrue (is_token self.now token)) }
     {
-        self.words.find_in(vocabulary, name)
+        self.words.find_in(vocabulary, name, mixed(name))
     }
 
     /// The word with the token, or None where no word has it.
