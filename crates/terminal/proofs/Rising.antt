@@ -1,12 +1,11 @@
 -- What is told line by line: of lines one after another, and in all.
-use Rattle.std.proofs.Common.{◌≡◌, List, [], ◌∷◌, ◌++◌, refl, sym, ap, subst}
+use Rattle.std.proofs.Common.{List, [], ◌∷◌, ◌++◌, refl, sym, ap, subst}
 use Rattle.sector_disk.specs.declared.device.SectorDevice.{Ghosts}
 use Rattle.block_words.specs.Words.{no_wear}
 use Rattle.block_words.specs.Calls.{WearsAtMost}
 use Rattle.block_words.proofs.Counted.{risen_then}
 use Rattle.block_words.proofs.Worn.{wears_none, wears_then}
 use Rattle.interpreter.specs.Lines.{Turn}
-use Rattle.interpreter.specs.Promise.{HasRisenBy}
 use Rattle.terminal.specs.Sessions.{LineTold, Told, ToldInAll, failures_of, wear_of}
 
 module _ {D : Type 0} (G : Ghosts D) where

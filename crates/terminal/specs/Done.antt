@@ -1,18 +1,18 @@
 -- What a command over images does, on any device: from the device that it opens or makes to what that has become.
-use Rattle.std.specs.Prelude.{◌≡◌, ◌+◌, ◌≤◌, ℕ, false, IsTrue, List, Option, ⊤}
+use Rattle.std.specs.Prelude.{◌≡◌, ◌⊎◌, ◌+◌, ◌*◌, ◌<◌, ◌≤◌, ℕ, false, IsTrue, List, Option, Some, ⊤}
 use Rattle.std.specs.Io.KnownBytes.{Appends}
 use Rattle.clap.specs.Words.{Text}
 use Rattle.sector_disk.specs.Disk.{Image, MayLeave}
 use Rattle.sector_disk.specs.Moments.{Elapses}
 use Rattle.sector_disk.specs.declared.device.SectorDevice.{Ghosts}
-use Rattle.journal.specs.Calls.{BeginsAtMost, StopsLeave}
+use Rattle.journal.specs.Calls.{BeginsAtMost, ReadsAtMost, StopsLeave}
 use Rattle.journal.specs.Images.{Means, meaning}
 use Rattle.journal.specs.Layout.{sectors_for}
 use Rattle.journal.specs.Maps.{Maps, contents, fresh, latest, spilled}
 use Rattle.block_words.specs.Words.{Save}
-use Rattle.recovery.specs.Formatted.{blank_blocks}
+use Rattle.recovery.specs.Formatted.{FormatLeaves, MakingLeaves, blank_blocks}
 use Rattle.recovery.specs.Label.{blocks_in}
-use Rattle.recovery.specs.Opened.{syncs_for, writes_for}
+use Rattle.recovery.specs.Opened.{RecoveryLeaves, reads_for, syncs_for, writes_for}
 use Rattle.recovery.specs.Upgraded.{OldLeaves}
 use Rattle.interpreter.specs.State.{Forth}
 use Rattle.interpreter.specs.Lines.{new_forth}
@@ -20,11 +20,11 @@ use Rattle.interpreter.specs.Promise.{Keeps}
 use Rattle.terminal.specs.declared.words.Order.{Order}
 use Rattle.terminal.specs.declared.words.Order.TheVariants.{Memory, New, Run, List as ListBlock, Put, Upgrade}
 use Rattle.terminal.specs.Commands.{IsOrderOf}
-use Rattle.terminal.specs.Screen.{listing}
+use Rattle.terminal.specs.Screen.{listing, screen_of}
 use Rattle.terminal.specs.Sessions.{Completes}
 
 module _ {D : Type 0} (G : Ghosts D) where
-  -- The new device is what the old one became by calls of it.
+  -- The new device is the old one later: the same model, time gone on, and no fewer failures.
   pub record Becomes (old new : D) : Type 0 where
     pub model : G.keeps_model new ≡ G.keeps_model old
     pub time : Elapses G.time G.left_since old new
@@ -46,16 +46,23 @@ module _ {D : Type 0} (G : Ghosts D) where
   abbrev pub maps_on : D → Maps
   maps_on device = fresh (meant_by device)
 
-  -- No more was written and synced than a recovery of the image on the device does, and this much after it.
-  abbrev pub RecoversAnd : (device after : D) (writes syncs : ℕ) → Type 0
-  RecoversAnd device after writes syncs =
-      let image = (G.disk device).content in
-      BeginsAtMost G device after (writes_for (blocks_on device) image + writes) (syncs_for image + syncs)
+  -- A recovery of the image on the device. A stop at any moment of it leaves an image that follows one which could be left
+  -- before, and no more writes, syncs and reads are begun than this image asks for.
+  pub record Recovers (device begun : D) : Type 0 where
+    pub goes : Becomes device begun
+    pub stops : IsTrue (G.keeps_model device) → StopsLeave G device begun (RecoveryLeaves (blocks_on device) (G.disk device))
+    pub begins : IsTrue (G.keeps_model device)
+        → BeginsAtMost G device begun (writes_for (blocks_on device) (G.disk device).content) (syncs_for (G.disk device).content)
+    pub reads : IsTrue (G.keeps_model device)
+        → ReadsAtMost G device begun (reads_for (blocks_on device) (G.disk device).content)
 
-  -- `new`: the device has become an image of n blank blocks.
+  -- `new`: the device was formatted, and has become an image of n blank blocks.
   pub record MakesBlank (n : ℕ) (device after : D) : Type 0 where
     pub goes : Becomes device after
+    pub stops : IsTrue (G.keeps_model device) → StopsLeave G device after (FormatLeaves n (G.disk device))
     pub blank : IsTrue (G.keeps_model device) → LeavesBlocks after (blank_blocks n)
+    pub begins : BeginsAtMost G device after (2 * n + 4) 4
+    pub reads : ReadsAtMost G device after 1
 
   -- A session from the opening state on: the input was read to its end, and the output is its replies. What a stop may have
   -- left are blocks as they were saved, and at the end those that were saved last.
@@ -66,27 +73,46 @@ module _ {D : Type 0} (G : Ghosts D) where
     pub keeps : Keeps G opening closing old new made
     pub saved : closing.world.maps.closed ≡ false → LeavesBlocks new closing.world.maps.saved
 
-  -- `run`: a session over the blocks of the image, which was recovered first.
+  -- `run`: a recovery, and a session over the blocks of the image.
   pub record RunsSession (steps : ℕ) (left left' written written' : Option (List ℕ)) (device after : D) : Type 0 where
     pub begun : D
-    pub recovered : Becomes device begun
+    pub recovers : Recovers device begun
     pub goes : Becomes begun after
-    pub begins : IsTrue (G.keeps_model device) → RecoversAnd device begun 0 0
     pub runs : IsTrue (G.keeps_model device)
         → RunsFrom (new_forth steps (maps_on device)) left left' written written' begun after
 
-  -- `list`: the listing of a block was printed. Nothing was written but by a recovery, so the blocks are as they were.
+  -- `list`: a recovery, and the listing of a block that is there was printed. Nothing was written for it, and the block was
+  -- read once, so a stop at any moment after the recovery, and at the end, leaves the blocks as they were.
   pub record ListsBlock (b : ℕ) (written written' : Option (List ℕ)) (device after : D) : Type 0 where
-    pub goes : Becomes device after
+    pub begun : D
+    pub recovers : Recovers device begun
+    pub goes : Becomes begun after
+    pub there : b < blocks_on device
     pub listed : IsTrue (G.keeps_model device) → Appends written written' (listing (contents (maps_on device) b))
+    pub stops : IsTrue (G.keeps_model device) → StopsLeave G begun after (Means (meant_by device))
     pub same : IsTrue (G.keeps_model device) → LeavesBlocks after (meant_by device)
-    pub begins : IsTrue (G.keeps_model device) → RecoversAnd device after 0 0
+    pub begins : BeginsAtMost G begun after 0 0
+    pub reads : ReadsAtMost G begun after 2
 
-  -- `put`: some bytes were made this block, and no other block was changed, in one save of one block.
+  -- From one device to the other these bytes were made a block of these maps, in one save: a stop at any moment of it leaves
+  -- the saved blocks, or these with the bytes in that block, and once it has returned the latter.
+  pub record SavesBlock (m : Maps) (b : ℕ) (bytes : List ℕ) (old new : D) : Type 0 where
+    pub stops : StopsLeave G old new (λ image. Means m.saved image ⊎ Means (latest (spilled m b bytes)) image)
+    pub after : LeavesBlocks new (latest (spilled m b bytes))
+
+  -- The same of the lines of some text.
+  abbrev pub SavesText : Maps → ℕ → (old new : D) → Type 0
+  SavesText m b old new = (text : List ℕ) × (bytes : List ℕ) × (screen_of text ≡ Some bytes) × SavesBlock m b bytes old new
+
+  -- `put`: a recovery, and the lines of some text were made a block that is there, in one save, and no other block was changed.
   pub record PutsBlock (b : ℕ) (device after : D) : Type 0 where
-    pub goes : Becomes device after
-    pub put : IsTrue (G.keeps_model device) → (bytes : List ℕ) × LeavesBlocks after (latest (spilled (maps_on device) b bytes))
-    pub begins : IsTrue (G.keeps_model device) → RecoversAnd device after 7 4
+    pub begun : D
+    pub recovers : Recovers device begun
+    pub goes : Becomes begun after
+    pub there : b < blocks_on device
+    pub saves : IsTrue (G.keeps_model device) → SavesText (maps_on device) b begun after
+    pub begins : BeginsAtMost G begun after 7 4
+    pub reads : ReadsAtMost G begun after 4
 
   -- `upgrade`: the one device has become an image of the blocks that the image of layout 1 on the other means. That one was
   -- recovered, and means the same.
@@ -94,6 +120,8 @@ module _ {D : Type 0} (G : Ghosts D) where
     pub reads : Becomes source source'
     pub old : IsTrue (G.keeps_model source) → StopsLeave G source source' (OldLeaves (blocks_on source) (G.disk source))
     pub goes : Becomes device after
+    pub stops : IsTrue (G.keeps_model source) → IsTrue (G.keeps_model device)
+        → StopsLeave G device after (MakingLeaves (blocks_on source) (meant_by source) (G.disk device))
     pub new : IsTrue (G.keeps_model source) → IsTrue (G.keeps_model device) → LeavesBlocks after (meant_by source)
 
   -- The device was such a one, and has become this by what P says.

@@ -1,13 +1,13 @@
 -- Devices over files that a system opened or made under a name, and stores that were opened over a device.
-use Rattle.std.specs.Prelude.{◌≡◌, ℕ, IsTrue}
+use Rattle.std.specs.Prelude.{◌≡◌, ℕ, false, IsTrue}
 use Rattle.sector_disk.specs.declared.device.SectorDevice as device
 use Rattle.journal.specs.declared.store.Store.{Store}
-use Rattle.journal.specs.Store.{StandsFor, blocks_of, device_of, pending_count}
+use Rattle.journal.specs.Store.{StandsFor, blocks_of, closed_of, device_of, pending_count}
 use Rattle.sector_disk.specs.Opening.{AreZeros, KeepsGoing, sectors_in}
 use Rattle.sector_disk.specs.SectorFile.{file_of, sectors_of}
 use Rattle.sector_disk.specs.declared.file.SectorFile.{SectorFile}
 use Rattle.sector_disk.specs.declared.host.HostFile.{Ghosts}
-use Rattle.terminal.specs.Done.{Becomes, RecoversAnd, blocks_on, maps_on}
+use Rattle.terminal.specs.Done.{Recovers, blocks_on, maps_on}
 
 module _ {H : Type 0} (G : Ghosts H) where
   -- The device is a file as it was opened, with the sectors that it has.
@@ -23,13 +23,13 @@ module _ {H : Type 0} (G : Ghosts H) where
     pub sectors_are : sectors_of device ≡ sectors
     pub zeros : IsTrue (G.keeps_model (file_of device)) → AreZeros sectors (G.bytes (file_of device))
 
--- The store was opened on the device: it has the blocks that the image there meant, and nothing is pending.
+-- The store was opened on the device: it has the blocks that the image there meant, nothing is pending, and it isn't closed.
 pub record OpensAs {D : Type 0} (G : device.Ghosts D) (opened : D) (store : Store D G) : Type 0 where
-  pub goes : Becomes G opened (device_of store)
+  pub recovers : Recovers G opened (device_of store)
   pub size : blocks_of store ≡ blocks_on G opened
   pub stands : IsTrue (G.keeps_model opened) → StandsFor store (maps_on G opened)
   pub pending : pending_count store ≡ 0
-  pub begins : IsTrue (G.keeps_model opened) → RecoversAnd G opened (device_of store) 0 0
+  pub closed : closed_of store ≡ false
 
 -- The store was opened on such a device.
 abbrev pub OpensOn : {D : Type 0} (G : device.Ghosts D) → (first : D → Type 0) → Store D G → Type 0

@@ -1,18 +1,19 @@
--- A text that was made a block, whatever its bytes are.
-use Rattle.std.specs.Prelude.{◌≡◌, ◌⊎◌, ℕ, false, List}
-use Rattle.sector_disk.specs.Disk.{Image, MayLeave}
+-- A text that was made a block of a store, whatever its bytes are.
+use Rattle.std.specs.Prelude.{◌≡◌, ◌⊎◌, ℕ, false, List, Some}
 use Rattle.sector_disk.specs.declared.device.SectorDevice.{Ghosts}
 use Rattle.journal.specs.declared.store.Store.{Store}
 use Rattle.journal.specs.Calls.{StopsLeave}
 use Rattle.journal.specs.Images.{Means}
 use Rattle.journal.specs.Maps.{Maps, committed, latest, spilled}
-use Rattle.journal.specs.Store.{StandsFor, device_of, disk_of}
+use Rattle.journal.specs.Store.{StandsFor, device_of}
+use Rattle.terminal.specs.Done.{SavesBlock}
+use Rattle.terminal.specs.Screen.{screen_of}
 
 module _ {D : Type 0} {G : Ghosts D} where
-  -- Some bytes were made this block and saved, and no other block was changed.
+  -- The lines of some text were made this block, in one save, and no other block was changed.
   pub record PutsSome (old new : Store D G) (block : ℕ) : Type 0 where
-    pub saved : (m : Maps) → StandsFor old m → (bytes : List ℕ) × StandsFor new (committed (spilled m block bytes))
-        × ((image : Image) → MayLeave (disk_of new) image → Means (latest (spilled m block bytes)) image)
+    pub saved : (m : Maps) → StandsFor old m → (text : List ℕ) × (bytes : List ℕ) × (screen_of text ≡ Some bytes)
+        × StandsFor new (committed (spilled m block bytes)) × SavesBlock G m block bytes (device_of old) (device_of new)
 
   -- A stop of an open store at any moment leaves the saved blocks, or these with some bytes in this block.
   pub record LeavesSome (old new : Store D G) (block : ℕ) : Type 0 where

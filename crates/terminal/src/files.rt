@@ -1,7 +1,7 @@
 //! The commands over images that are files of a system: each gives back what it has opened or made.
 ghost use Rattle.std.specs.Prelude.{◌≡◌, ◌≢◌, ◌⊎◌, ◌<◌, ◌≤◌, ◌+◌, ◌*◌, ◌↔◌, true, OnOk, IfOk, IfErr, IsErrOf};
 ghost use Rattle.journal.specs.Layout.{sectors_for};
-ghost use Rattle.journal.specs.Store.{Continues, DeviceBegins, DeviceFailed, blocks_of, closed_of, device_of, pending_count};
+ghost use Rattle.journal.specs.Store.{Continues, DeviceBegins, DeviceFailed, DeviceReads, blocks_of, closed_of, device_of, pending_count};
 ghost use Rattle.terminal.specs.Done.{Comes, ListsBlock, MakesBlank, PutsBlock, RunsSession, Upgraded};
 ghost use Rattle.terminal.specs.Files.{IsMade, IsOpened, OpensOn};
 ghost use Rattle.terminal.specs.Putting.{LeavesSome, PutsSome};
@@ -34,7 +34,10 @@ pub fn make_image<H: HostFile + Drop, O: HostFiles<H>>(
     ensures well { IfOk result (λ store. ⟦<SectorFile<H> as SectorDevice>⟧.failures (device_of store) ≡ 0) }
 {
     let disk = create_disk(files, path, 3 + 4 * blocks as u32)?;
-    make_over(disk, blocks)
+    match make_over(disk, blocks) {
+        Ok(store) => Ok(store),
+        Err((failure, _)) => Err(failure),
+    }
 }
 
 /// Opens an image.
@@ -48,7 +51,10 @@ pub fn open_image<H: HostFile + Drop, O: HostFiles<H>>(
     ensures well { IfOk result (λ store. ⟦<SectorFile<H> as SectorDevice>⟧.failures (device_of store) ≡ 0) }
 {
     let disk = open_disk(files, path)?;
-    open_over(disk)
+    match open_over(disk) {
+        Ok(store) => Ok(store),
+        Err((failure, _)) => Err(failure),
+    }
 }
 
 /// Runs the input over an image, with at most `steps` steps a line.
@@ -141,9 +147,11 @@ fn put_file<D: SectorDevice>(
     path: &str,
 ) -> Result<(), Failure>
     ensures no_block { IsErrOf result Failure.NoBlock ↔ (blocks_of store.old ≤ block) }
+    ensures there { OnOk result (block < blocks_of store.old) }
     ensures some { OnOk result (PutsSome store.old store.new block) }
     ensures kept { block + 1 ≤ blocks_of store.old → LeavesSome store.old store.new block }
     ensures begins { DeviceBegins store.old store.new (2 * pending_count store.old + 7) 4 }
+    ensures reads { DeviceReads store.old store.new (4 * pending_count store.old + 4) }
     ensures unread { IfErr result (λ e. e ≢ Failure.Device → store.new ≡ store.old) }
     ensures device { IfErr result (λ e. e ≡ Failure.Device
         → (closed_of store.old ≡ true) ⊎ DeviceFailed store.old store.new) }

@@ -4,10 +4,11 @@ ghost use Rattle.std.specs.Prelude.{IsTrue, OnOk, IfOk, IfErr, IsErrOf, MatchBoo
 ghost use Rattle.std.specs.Io.KnownBytes.{Appends, Consumes, IsAtEnd};
 ghost use Rattle.arrayvec.specs.ArrayVec.{array_vec_len};
 ghost use Rattle.sector_disk.specs.Disk.{Image, MayLeave};
-ghost use Rattle.journal.specs.Calls.{BeginsAtMost, StopsLeave};
+ghost use Rattle.sector_disk.specs.Counting.{count_up};
+ghost use Rattle.journal.specs.Calls.{BeginsAtMost, ReadsAtMost, StopsLeave};
 ghost use Rattle.journal.specs.Images.{Means};
 ghost use Rattle.journal.specs.Maps.{Maps, contents, fresh, latest, spilled, committed, shut};
-ghost use Rattle.journal.specs.Store.{blocks_of, closed_of, device_of, disk_of, pending_count, StandsFor, DeviceBegins};
+ghost use Rattle.journal.specs.Store.{blocks_of, closed_of, device_of, disk_of, pending_count, StandsFor, DeviceBegins, DeviceReads};
 ghost use Rattle.journal.specs.Store.{Continues, DeviceFailed, KeepsSaved};
 ghost use Rattle.recovery.specs.Formatted.{blank_blocks};
 ghost use Rattle.recovery.specs.Label.{is_size, is_size_for};
@@ -31,38 +32,43 @@ use std::io::{Read, Write};
 /// One byte more than the longest text of a screen: each of its 16 lines has 64 bytes, a carriage return and a line feed.
 const TEXT_ROOM: usize = 1057;
 
-/// Makes a device an image of blank blocks.
-pub fn make_over<D: SectorDevice + Drop>(device: D, blocks: u16) -> Result<Store<D>, Failure>
+/// Makes a device an image of blank blocks. A failure hands the device back.
+pub fn make_over<D: SectorDevice + Drop>(device: D, blocks: u16) -> Result<Store<D>, (Failure, D)>
     ensures made { IfOk result (λ store. MakesBlank D.SectorDevice blocks device (device_of store)) }
     ensures stands { IsTrue (D.keeps_model device) → IfOk result (λ store. StandsFor store (fresh (blank_blocks blocks))) }
     // Ok only where no call failed.
     ensures well { IfOk result (λ store. D.failures (device_of store) ≡ D.failures device) }
     ensures begins { IfOk result (λ store. BeginsAtMost D.SectorDevice device (device_of store) (2 * blocks + 4) 4) }
+    ensures reads { IfOk result (λ store. ReadsAtMost D.SectorDevice device (device_of store) 1) }
     ensures refusal { IfErr result (λ e. MatchBool (is_size_for blocks (D.sector_count device))
-        (e ≡ Failure.Device) (e ≡ Failure.BadSize)) }
+        (e.0 ≡ Failure.Device) (e.0 ≡ Failure.BadSize)) }
+    ensures device { IfErr result (λ e. e.0 ≡ Failure.Device → D.failures e.1 ≡ count_up (D.failures device)) }
 {
     match format(device, blocks) {
         Ok(store) => Ok(store),
-        Err((fault, _)) => Err(Failure::from(fault)),
+        Err((fault, device)) => Err((Failure::from(fault), device)),
     }
 }
 
-/// Opens the image on a device: what a stop has left is recovered first.
-pub fn open_over<D: SectorDevice + Drop>(device: D) -> Result<Store<D>, Failure>
+/// Opens the image on a device: what a stop has left is recovered first. A failure hands the device back.
+pub fn open_over<D: SectorDevice + Drop>(device: D) -> Result<Store<D>, (Failure, D)>
     ensures opened { IfOk result (λ store. OpensAs D.SectorDevice device store) }
     // Ok only where no call failed.
     ensures well { IfOk result (λ store. D.failures (device_of store) ≡ D.failures device) }
     // Each refusal tells the first test that the image fails.
     ensures exact { IsTrue (D.keeps_model device) → MatchResult result
         (λ _. image_refusal (D.sector_count device) (D.disk device).content ≡ None)
-        (λ e. (e ≡ Failure.Device) ⊎ (Some e ≡ option_map of_image
+        (λ e. (e.0 ≡ Failure.Device) ⊎ (Some e.0 ≡ option_map of_image
         (image_refusal (D.sector_count device) (D.disk device).content))) }
     ensures bad_size { IfErr result (λ e. MatchBool (is_size (D.sector_count device))
-        (e ≢ Failure.BadSize) (e ≡ Failure.BadSize)) }
+        (e.0 ≢ Failure.BadSize) (e.0 ≡ Failure.BadSize)) }
+    // A fault of the device is told just where one of its calls failed.
+    ensures device { IfErr result (λ e. e.0 ≡ Failure.Device → D.failures e.1 ≡ count_up (D.failures device)) }
+    ensures refused { IfErr result (λ e. e.0 ≢ Failure.Device → D.failures e.1 ≡ D.failures device) }
 {
     match open(device) {
         Ok(store) => Ok(store),
-        Err((fault, _)) => Err(Failure::from(fault)),
+        Err((fault, device)) => Err((Failure::from(fault), device)),
     }
 }
 
@@ -75,12 +81,14 @@ pub fn list_block<D: SectorDevice, W: Write>(
     ensures ok { (m : Maps) → StandsFor store.old m → OnOk result (Appends
         (W.contents output.old) (W.contents output.new) (listing (contents m block))) }
     ensures no_block { IsErrOf result Failure.NoBlock ↔ (blocks_of store.old ≤ block) }
+    ensures there { OnOk result (block < blocks_of store.old) }
     ensures device { IsErrOf result Failure.Device → (closed_of store.old ≡ true) ⊎ DeviceFailed store.old store.new }
     ensures unwritten { IfErr result (λ e. e ≢ Failure.CannotWrite → output.new ≡ output.old) }
     ensures state { (m : Maps) → StandsFor store.old m → StandsFor store.new m }
     ensures stops { KeepsSaved store.old store.new }
     ensures continues { Continues store.old store.new }
     ensures begins { DeviceBegins store.old store.new 0 0 }
+    ensures reads { DeviceReads store.old store.new 2 }
 {
     if block >= store.blocks() {
         return Err(Failure::NoBlock);
@@ -124,6 +132,7 @@ pub fn put_text<D: SectorDevice, R: Read>(
     ensures kept { LeavesSome store.old store.new block }
     ensures continues { Continues store.old store.new }
     ensures begins { DeviceBegins store.old store.new (2 * pending_count store.old + 7) 4 }
+    ensures reads { DeviceReads store.old store.new (4 * pending_count store.old + 4) }
     ensures device { IfErr result (λ e. e ≡ Failure.Device
         → (closed_of store.old ≡ true) ⊎ DeviceFailed store.old store.new) }
 {
@@ -172,6 +181,7 @@ fn put_block<D: SectorDevice>(
         (λ image. Means m.saved image ⊎ Means (latest (spilled m block bytes.now)) image) }
     ensures continues { Continues store.old store.new }
     ensures begins { DeviceBegins store.old store.new (2 * pending_count store.old + 7) 4 }
+    ensures reads { DeviceReads store.old store.new (4 * pending_count store.old + 4) }
     ensures closed { IsErrOf result StoreFault.Closed ↔ (closed_of store.old ≡ true) }
     ensures device { IsErrOf result StoreFault.Device → DeviceFailed store.old store.new }
 {

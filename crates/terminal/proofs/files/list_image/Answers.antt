@@ -1,4 +1,3 @@
-use Rattle.sector_disk.specs.SectorFile.{file_of}
 use Rattle.terminal.proofs.Becoming.{lists}
 use Rattle.terminal.proofs.files.list_image.Goals as goal
 
@@ -9,7 +8,8 @@ returns-in-Ok g c =
       listed = (
         opened.0,
         opened.1,
-        lists _ (λ d. g.met.H.HostFile.widens (file_of d)) opened.0 c.in_ok-store.store c.list_block.new.store c.args.block _ _ opened.2
-            c.list_block.ensures.continues c.in-Ok.ensures.ok c.list_block.ensures.state c.list_block.ensures.begins,
+        lists _ opened.0 c.in_ok-store.store c.list_block.new.store c.args.block _ _ opened.2 c.in-Ok.ensures.there
+            c.list_block.ensures.continues c.in-Ok.ensures.ok c.list_block.ensures.state c.list_block.ensures.stops
+            c.list_block.ensures.begins c.list_block.ensures.reads,
       );
     }

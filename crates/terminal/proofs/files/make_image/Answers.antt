@@ -1,10 +1,8 @@
-use Rattle.std.proofs.lemmas.Result.{IfOk-weaker}
 use Rattle.terminal.proofs.files.make_image.Goals as goal
 
-pub returns-clause-made : goal.returns-clause-made
-returns-clause-made g c =
-    let made = c.in_ok-disk.ensures.made in
-    IfOk-weaker c.make_over.result _ _ (λ store blank. (
+pub returns-in-Ok-clause-made : goal.returns-in-Ok-clause-made
+returns-in-Ok-clause-made g c =
+    let made = c.in_ok-disk.ensures.made in (
       c.in_ok-disk.disk,
       record {
         file = made.0;
@@ -13,5 +11,5 @@ returns-clause-made g c =
         sectors_are = c.in_ok-disk.ensures.sectors;
         zeros = c.in_ok-disk.ensures.zeros;
       },
-      blank,
-    )) c.make_over.ensures.made
+      c.in-Ok.ensures.made,
+    )

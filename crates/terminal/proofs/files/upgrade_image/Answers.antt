@@ -1,4 +1,4 @@
-use Rattle.std.proofs.Common.{◌≡◌, ◌∙◌, ℕ, IsTrue, subst, sym}
+use Rattle.std.proofs.Common.{◌≡◌, ◌∙◌, ℕ, subst, sym}
 use Rattle.journal.specs.Layout.{sectors_for}
 use Rattle.recovery.specs.Label.{blocks_in}
 use Rattle.sector_disk.specs.Opening.{AreZeros}
@@ -24,5 +24,5 @@ returns-in-Ok-clause-made g c =
         zeros = λ keeps. subst (λ (k : ℕ). AreZeros k (g.H.HostFile.bytes c.in_ok-target.target.file)) counted (c.in_ok-target.ensures.zeros keeps);
       },
       upgrades _ c.in_ok-source.source c.upgrade.new.old c.in_ok-target.target c.upgrade.new.new n are size same
-          c.upgrade.ensures.old_passes c.upgrade.ensures.new_passes c.upgrade.ensures.old_stops c.in-Ok.ensures.after,
+          c.upgrade.ensures.old_passes c.upgrade.ensures.new_passes c.upgrade.ensures.old_stops c.upgrade.ensures.new_stops c.in-Ok.ensures.after,
     )

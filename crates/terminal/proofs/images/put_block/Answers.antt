@@ -1,9 +1,7 @@
-use Rattle.std.proofs.Common.{inl, arith, subst, sym, ◌≤◌, ◌+◌}
-use Rattle.terminal.proofs.Pending.{one_more}
-use Rattle.journal.specs.Layout.{count_below}
+use Rattle.std.proofs.Common.{inl, arith}
+use Rattle.terminal.proofs.Pending.{spilled_one}
 use Rattle.sector_disk.proofs.Moments.{leaves_then}
 use Rattle.journal.specs.Maps.{spilled}
-use Rattle.journal.specs.Store.{blocks_of, is_pending, pending_count}
 use Rattle.terminal.proofs.images.put_block.Goals as goal
 
 pub returns-in-Ok-clause-ok : goal.returns-in-Ok-clause-ok
@@ -21,10 +19,13 @@ returns-in-Ok-clause-stops g c = λ m stands live.
 
 pub returns-in-Ok-clause-begins : goal.returns-in-Ok-clause-begins
 returns-in-Ok-clause-begins g c =
-    let more : pending_count c.spill.new.self ≤ pending_count c.args.store.now + 1 =
-    subst (λ n. count_below (is_pending c.spill.new.self) n ≤ pending_count c.args.store.now + 1) (sym c.in-Ok.ensures.continues.blocks)
-    (one_more (is_pending c.args.store.now) (is_pending c.spill.new.self) c.args.block c.in-Ok.ensures.pending (blocks_of c.args.store.now)) in
+    let more = spilled_one c.args.store.now c.spill.new.self c.args.block c.in-Ok.ensures.continues c.in-Ok.ensures.pending in
     record {
       few_writes = omega (arith, more, c.in-Ok.ensures.begins.few_writes, c.commit.ensures.begins.few_writes);
       few_syncs = omega (arith, c.in-Ok.ensures.begins.few_syncs, c.commit.ensures.begins.few_syncs);
     }
+
+pub returns-in-Ok-clause-reads : goal.returns-in-Ok-clause-reads
+returns-in-Ok-clause-reads g c =
+    let more = spilled_one c.args.store.now c.spill.new.self c.args.block c.in-Ok.ensures.continues c.in-Ok.ensures.pending in
+    omega (arith, more, c.in-Ok.ensures.reads, c.commit.ensures.reads)

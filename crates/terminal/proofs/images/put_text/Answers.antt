@@ -1,6 +1,8 @@
 use Rattle.std.proofs.Common.{◌≡◌, ◌∙◌, ℕ, List, Option, Some, sym, ap, subst, inl, inr, refl, ⊎_elim}
 use Rattle.std.specs.Io.KnownBytes.{Consumes}
 use Rattle.terminal.specs.Screen.{screen_of}
+use Rattle.journal.specs.Store.{closed_of}
+use Rattle.std.proofs.lemmas.Bool.{false_from_ne_true}
 use Rattle.terminal.proofs.ScreenLemmas.{same_screen}
 use Rattle.terminal.proofs.images.put_text.Goals as goal
 
@@ -38,13 +40,19 @@ returns-in-None-clause-refused g c = λ same. (
 )
 
 pub returns-in-Ok-put_block-clause-some : goal.returns-in-Ok-put_block-clause-some
-returns-in-Ok-put_block-clause-some g c = record {
-  saved = λ m stands. (
-    c.as_slice-in-Some.result.now,
-    c.in-Ok-put_block.ensures.ok m stands,
-    c.in-Ok-put_block.ensures.after m stands,
-  );
-}
+returns-in-Ok-put_block-clause-some g c =
+    let said : screen_of c.in-Ok.text.items ≡ Some c.as_slice-in-Some.result.now =
+    ap screen_of (sym c.as_slice.ensures.value) ∙ sym c.in-Some.ensures ∙ ap (λ l. Some l) (sym c.as_slice-in-Some.ensures.value) in
+    record {
+      saved = λ m stands.
+          let live = stands.closed ∙ false_from_ne_true (closed_of c.args.store.now) (λ is. let no = c.in-Ok-put_block.ensures.closed.1 is in cc) in (
+            c.in-Ok.text.items,
+            c.as_slice-in-Some.result.now,
+            said,
+            c.in-Ok-put_block.ensures.ok m stands,
+            record { stops = c.in-Ok-put_block.ensures.stops m stands live; after = c.in-Ok-put_block.ensures.after m stands },
+          );
+    }
 
 pub returns-in-Ok-put_block-clause-kept : goal.returns-in-Ok-put_block-clause-kept
 returns-in-Ok-put_block-clause-kept g c = record {

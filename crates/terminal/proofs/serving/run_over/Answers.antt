@@ -1,4 +1,4 @@
-use Rattle.std.proofs.Common.{◌≡◌, [], IsTrue, ap, sym, subst}
+use Rattle.std.proofs.Common.{◌≡◌, IsTrue, ap, sym, subst}
 use Rattle.journal.specs.Store.{StandsFor, device_of}
 use Rattle.interpreter.specs.Lines.{new_forth}
 use Rattle.terminal.proofs.EachStore.{own_maps, stands_for_own}
