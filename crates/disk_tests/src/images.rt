@@ -3,7 +3,7 @@ use crate::contents::{are_full, block_is_full, holds};
 use crate::support::{BLOCKS, SECTORS, failing, formatted, opened, put, record, sector, spill};
 use journal::layout;
 use recovery::{OpenFault, format, open};
-use sector_disk::{MemoryDisk, SectorDevice};
+use sector_disk::{Fused, MemoryDisk, SectorDevice};
 use std::process::Abort;
 use std::test::Fail;
 
@@ -288,6 +288,21 @@ fn a_closed_gate_is_left_as_it_is(rt: HostRuntime) -> Result<(), Fail> {
     let mut disk = store.into_device();
     assert_eq!(rt; disk.counts().writes, before.writes);
     holds(&rt, &mut disk, 1, &gate)
+}
+
+// What is there is synced before anything is read of it: where the second call fails, one sync was made, and no read.
+#[test]
+fn an_opening_begins_with_a_sync(rt: HostRuntime) -> Result<(), Fail> {
+    let disk = formatted(&rt)?;
+    let before = disk.counts();
+    let Err((fault, fused)) = open(Fused::once(disk, 2)) else {
+        return Err("opened")?;
+    };
+    let after = fused.into_device().counts();
+    let calls = (after.reads, after.syncs);
+    assert_eq!(rt; fault, OpenFault::Device);
+    assert_eq!(rt; calls, (before.reads, before.syncs.saturating_add(1)));
+    Ok(())
 }
 
 // 32 blocks: a record, an open gate, 64 sectors of homes and a closed gate.

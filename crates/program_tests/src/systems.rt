@@ -20,6 +20,7 @@ struct Calls {
     interrupted: Cell<u64>,
     fails_at: Cell<u64>,
     made: Cell<u64>,
+    named: Cell<u64>,
     writes: Cell<u64>,
     openings: Cell<u64>,
 }
@@ -31,6 +32,7 @@ impl Calls {
             interrupted: Cell::new(0),
             fails_at: Cell::new(u64::MAX),
             made: Cell::new(0),
+            named: Cell::new(0),
             writes: Cell::new(0),
             openings: Cell::new(0),
         }
@@ -173,6 +175,7 @@ impl<'a> HostFiles<Opened<'a>> for OneFile<'a> {
     }
 
     fn keep_name(&self, _path: &str) -> Result<(), HostFault> {
+        self.calls.named.set(self.calls.made.get());
         self.calls.next()
     }
 }
@@ -294,7 +297,7 @@ fn sessions_whose_calls_fail(rt: HostRuntime) -> Result<(), Fail> {
     Ok(())
 }
 
-/// Each sixteenth call of `new` fails once, the last one too: it is told, and the file stays.
+/// Each sixteenth call of `new` fails once, the last one too, and the one that makes the name stay: it is told, and the file stays.
 #[test]
 fn images_whose_making_fails(rt: HostRuntime) -> Result<(), Fail> {
     let file = empty(&rt)?;
@@ -305,35 +308,32 @@ fn images_whose_making_fails(rt: HostRuntime) -> Result<(), Fail> {
         is_there: Cell::new(false),
     };
     made(&rt, &files);
-    let all = calls.made.get();
-    for k in (0..all).rev().step_by(16) {
-        let file = empty(&rt)?;
-        let calls = Calls::new();
-        let files = OneFile {
-            file: &file,
-            calls: &calls,
-            is_there: Cell::new(false),
-        };
-        calls.begin(k);
-        let (status, output, _) = call(
-            &rt,
-            &files,
-            &["forth83", "new", "A", "--blocks", "32"],
-            b"",
-        );
-        assert_eq!(rt; (status, output.is_empty()), (3, true), "at {k}");
-        let (status, _, errors) = call(
-            &rt,
-            &files,
-            &["forth83", "new", "A", "--blocks", "32"],
-            b"",
-        );
-        assert_eq!(rt;
-            (status, errors.as_slice()),
-            (3, b"forth83: image: exists\n".as_slice()),
-            "at {k}"
-        );
+    for k in (0..calls.made.get()).rev().step_by(16) {
+        making_fails(&rt, k)?;
     }
+    assert!(rt; calls.named.get() != 0);
+    making_fails(&rt, calls.named.get())
+}
+
+/// Makes an image, of which the call of this number fails.
+fn making_fails(rt: &(impl Files<File = File> + AllocGlobal + Abort), k: u64) -> Result<(), Fail> {
+    let file = empty(rt)?;
+    let calls = Calls::new();
+    let files = OneFile {
+        file: &file,
+        calls: &calls,
+        is_there: Cell::new(false),
+    };
+    calls.begin(k);
+    let words = ["forth83", "new", "A", "--blocks", "32"].as_slice();
+    let (status, output, _) = call(rt, &files, words, b"");
+    assert_eq!(rt; (status, output.is_empty()), (3, true), "at {k}");
+    let (status, _, errors) = call(rt, &files, words, b"");
+    assert_eq!(rt;
+        (status, errors.as_slice()),
+        (3, b"forth83: image: exists\n".as_slice()),
+        "at {k}"
+    );
     Ok(())
 }
 
