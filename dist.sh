@@ -1,5 +1,5 @@
 #!/bin/sh
-# Makes forth83-VERSION-x86_64-linux.tar.gz of the program as it is built, with its manual page, completions, examples and pages, and
+# Makes forth83-VERSION-x86_64-linux.tar.gz of the program as it is built, with its manual page, completions, examples, library and pages, and
 # prints its SHA-256. The same files give the same bytes at each making. The version stands in the head of share/man/man1/forth83.1.
 # usage: ./dist.sh [FOLDER]          FOLDER is the current one where none is given
 set -eu
@@ -19,7 +19,7 @@ tree=$(mktemp -d)
 trap 'rm -rf "$tree"' EXIT
 mkdir -p "$tree/$name/bin"
 cp "$program" "$tree/$name/bin/forth83"
-cp -R README.md docs examples share "$tree/$name/"
+cp -R README.md docs examples library share "$tree/$name/"
 # times, owners, rights and the order of names are those of no machine
 find "$tree/$name" -type d -exec chmod 755 {} +
 find "$tree/$name" -type f -exec chmod 644 {} +
