@@ -11,7 +11,7 @@ esac
 folder=$(cd "$folder" && pwd)
 cd "$(dirname "$0")"
 program=crates/forth83/out/forth83
-[ -x "$program" ] || { echo "dist.sh: $program is not built: see README.md, \"Build it, test it\"" >&2; exit 1; }
+[ -x "$program" ] || { echo "dist.sh: $program is not built: see README.md, \"Build it\"" >&2; exit 1; }
 version=$(sed -n 's/^\.TH FORTH83 1 "[^"]*" "forth83 \([0-9.]*\)".*/\1/p' share/man/man1/forth83.1)
 [ -n "$version" ] || { echo 'dist.sh: share/man/man1/forth83.1 has no version' >&2; exit 1; }
 name=forth83-$version-x86_64-linux
