@@ -1,0 +1,1 @@
+autocmd BufRead,BufNewFile *.scr set filetype=forth83
