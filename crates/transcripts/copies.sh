@@ -5,7 +5,7 @@
 set -eu
 cd "$(dirname "$0")/../.."
 data=crates/transcripts/data
-pages='README.md docs/TUTORIAL.md docs/MANUAL.md docs/LANGUAGE.md examples library'
+pages='README.md docs/TUTORIAL.md docs/MANUAL.md docs/LANGUAGE.md docs/PORTING.md examples library'
 copy_to() {
     mkdir -p "$1/docs"
     for page in $pages; do
