@@ -30,7 +30,7 @@ pub trait HostFile {
     /// What it holds.
     ghost bytes: { Self → FileBytes };
 
-    /// How many bytes it has.
+    /// How many bytes it had when it was opened.
     ghost extent: { Self → ℕ };
 
     /// Whether a sync that succeeds makes all stay. One that failed may end that.
@@ -42,7 +42,7 @@ pub trait HostFile {
     /// What a stop at some moment from that time on might have left, by sectors of 512 bytes.
     ghost left_since: { Self → ℕ → Image → Type 0 };
 
-    /// How many bytes it has.
+    /// How many bytes it had when it was opened.
     fn len(&self) -> Result<u64, HostFault>
         ensures { IsTrue (keeps_model self.now) → IfOk result (λ n. n ≡ extent self.now) };
 
@@ -91,19 +91,21 @@ pub trait HostFile {
     ghost widens: { (f : Self) (s t : ℕ) (c : Image) → s ≤ t → left_since f t c → left_since f s c };
 }
 
-/// A file of this system. Each call is one of the system's: `fstat`, `pread`, `pwrite`, `fdatasync`.
+/// A file of this system. Each call is one of the system's: `pread`, `pwrite`, `fdatasync`. Its length is asked for once, by
+/// who opens it.
 ///
 /// It is safe whatever the file holds. That it keeps the model of a file is assumed, not proved.
 #[derive(Drop)]
 pub struct StdFile {
     file: File,
+    len: u64,
 }
 
 impl StdFile {
-    pub(crate) fn new(file: File) -> StdFile
+    pub(crate) fn new(file: File, len: u64) -> StdFile
         ensures { IsTrue (⟦<StdFile as HostFile>⟧.syncs_settle result) }
     {
-        StdFile { file }
+        StdFile { file, len }
     }
 }
 
@@ -138,7 +140,7 @@ impl HostFile for StdFile {
     ghost widens = { λ f s t c le since. since };
 
     fn len(&self) -> Result<u64, HostFault> {
-        self.file.metadata().map(|of| of.len()).map_err(fault_of)
+        Ok(self.len)
     }
 
     fn read_at(&mut self, position: u64, buffer: &mut [u8]) -> Result<usize, HostFault> {

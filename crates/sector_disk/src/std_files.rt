@@ -46,7 +46,7 @@ impl<R: Files<File = File>> HostFiles<StdFile> for StdFiles<'_, R> {
         if is_a_stream(self.rt, &of) {
             return Err(FileFault::InUse);
         }
-        Ok(StdFile::new(file))
+        Ok(StdFile::new(file, of.len()))
     }
 
     fn make(&self, path: &str) -> Result<StdFile, FileFault> {
@@ -60,7 +60,7 @@ impl<R: Files<File = File>> HostFiles<StdFile> for StdFiles<'_, R> {
                 _ => FileFault::Cannot,
             })?;
         lock(&file)?;
-        Ok(StdFile::new(file))
+        Ok(StdFile::new(file, 0))
     }
 
     fn keep_name(&self, path: &str) -> Result<(), HostFault> {
