@@ -1,6 +1,6 @@
 // Runs a program some times, or measures bare syncs.
 //
-//     whole run ROUNDS INPUT PROGRAM ARGS..    one line: least nanoseconds, most kilobytes of memory
+//     whole run ROUNDS INPUT PROGRAM ARGS..    one line: least nanoseconds, most kilobytes of memory, least nanoseconds of the processor
 //     whole sync FILE ROUNDS                   one line: mean nanoseconds of four writes of a sector, each synced
 #define _GNU_SOURCE
 #include <fcntl.h>
@@ -20,7 +20,7 @@ static uint64_t now(void) {
 }
 
 static int run(unsigned rounds, const char *input, char **command) {
-    uint64_t least = UINT64_MAX;
+    uint64_t least = UINT64_MAX, worked = UINT64_MAX;
     long most = 0;
     for (unsigned i = 0; i < rounds; i++) {
         uint64_t start = now();
@@ -41,10 +41,14 @@ static int run(unsigned rounds, const char *input, char **command) {
         uint64_t took = now() - start;
         if (took < least)
             least = took;
+        uint64_t work = 1000u * (1000000u * (uint64_t)(used.ru_utime.tv_sec + used.ru_stime.tv_sec)
+                                 + (uint64_t)(used.ru_utime.tv_usec + used.ru_stime.tv_usec));
+        if (work < worked)
+            worked = work;
         if (used.ru_maxrss > most)
             most = used.ru_maxrss;
     }
-    printf("%llu %ld\n", (unsigned long long)least, most);
+    printf("%llu %ld %llu\n", (unsigned long long)least, most, (unsigned long long)worked);
     return 0;
 }
 

@@ -21,22 +21,35 @@ for other in gforth gforth-fast pforth; do
 done
 echo "load: $(cut -d' ' -f1-3 /proc/loadavg); rounds: $rounds; beside forth83:${others:- no other Forth is installed}"
 
-# SYSTEM INPUT: least nanoseconds of the rounds
-least() {
+# SYSTEM INPUT: nanoseconds of the processor. The others are given their text as a file: from standard input they take lines far slower.
+once() {
     case $1 in
-    forth83) ./whole run "$rounds" "$2" "$program" run image --steps "$steps" ;;
-    *) { cat "$2"; echo bye; } > "$2.bye" && ./whole run "$rounds" "$2.bye" "$1" ;;
-    esac | cut -d' ' -f1
+    forth83) ./whole run 1 "$2" "$program" run image --steps "$steps" ;;
+    *) { if [ -f "$2.others" ]; then cat "$2.others"; fi; cat "$2"; echo bye; } > "$2.fs" && ./whole run 1 empty "$1" "$2.fs" ;;
+    esac | cut -d' ' -f3
 }
 row() {
     printf '%-44s %-12s %12s %s\n' "$1" "$2" "$3" "$4"
 }
-# WHAT INPUT BASE UNITS UNIT: the time over that of the input BASE, by units
+# WHAT INPUT BASE UNITS UNIT: the processor's time over that of the input BASE, by units. The systems take turns; the least of the rounds counts.
 compared() {
+    for _ in $(seq "$rounds"); do
+        for system in forth83 $others; do
+            echo "$system $(once "$system" "$2") $(once "$system" "$3")"
+        done
+    done | awk -v units="$4" '
+        !($1 in long) || $2 < long[$1] { long[$1] = $2 }
+        !($1 in short) || $3 < short[$1] { short[$1] = $3 }
+        END {
+            for (s in long) each[s] = (long[s] - short[s]) / units
+            for (s in long) {
+                over = each["gforth-fast"] > 0 ? sprintf(", %.2f of gforth-fast", each[s] / each["gforth-fast"]) : ""
+                printf "%s %.1f %.3f %s\n", s, each[s], long[s] / 1e9, over
+            }
+        }' > took
     for system in forth83 $others; do
-        echo "$(least "$system" "$2") $(least "$system" "$3")" |
-            awk -v units="$4" '{ printf "%.1f %.3f\n", ($1 - $2) / units, $1 / 1e9 }' > took
-        row "$1" "$system" "$(cut -d' ' -f1 took) ns" "a $5; in all $(cut -d' ' -f2 took) s"
+        row "$1" "$system" "$(awk -v s="$system" '$1 == s { print $2 }' took) ns" \
+            "a $5; in all $(awk -v s="$system" '$1 == s { print $3 }' took) s$(sed -n "s/^$system [^,]*,/,/p" took)"
     done
 }
 
@@ -83,12 +96,16 @@ done
 # ---- a hundred full blocks, of 288 words each
 awk 'BEGIN { for (i = 0; i < 16; i++) print "1 DROP 2 DROP 3 DROP 4 DROP 5 DROP 6 DROP 7 DROP 8 DROP 12 DROP " }' > screen
 for block in $(seq 100 199); do "$program" put image "$block" screen; done
-echo ': ALL 200 100 DO I LOAD LOOP ; ALL' > load
+echo ': ALL 200 100 DO I LOAD LOOP ; : TIMES 0 DO ALL LOOP ; 20 TIMES' > load
+{ cat "defined.3900" load; } > load.3900
+# the same blocks as a file of gforth's; pforth has none
+for _ in $(seq 200); do while read -r line; do printf '%-64s' "$line"; done < screen; done > blocks.fb
+echo 'use blocks.fb' | tee load.others > load.3900.others
 saved=$others
 others=
-compared "LOAD of 100 full blocks" load empty 100 block
-{ cat "defined.3900" load; } > load.3900
-compared "LOAD of 100 full blocks beside 3900 words" load.3900 defined.3900 100 block
+for other in $saved; do case $other in gforth*) others="$others $other" ;; esac; done
+compared "LOAD of 100 full blocks, 20 times" load empty 2000 block
+compared "the same beside 3900 words" load.3900 defined.3900 2000 block
 others=$saved
 
 # ---- the four programs
