@@ -28,7 +28,7 @@ use Rattle.interpreter.specs.Deeds.{Deed, before, after, asking}
 use Rattle.interpreter.specs.Law.{left}
 use Rattle.interpreter.specs.State.{World, Run, with_run}
 use Rattle.interpreter.specs.Standing.{core, device, Stands}
-use Rattle.interpreter.specs.Serving.{LastsAlone, Hands, Handed, KeepsAndWears, Printed, stopped}
+use Rattle.interpreter.specs.Serving.{LastsAlone, Hands, Handed, KeepsAndWears, Printed, stopped, failed_calls}
 use Rattle.interpreter.specs.Promise.{HasRisenBy}
 use Rattle.data_space.specs.Space.{with_cell}
 use Rattle.interpreter.specs.Lexicon.{language_of}
@@ -37,6 +37,7 @@ use Rattle.interpreter.specs.Looking.{Seen, look}
 use Rattle.interpreter.specs.Rounds.{Entered, IsAtText, RoundComes, RanRound, seen, GoesDown, LastsRound}
 use Rattle.interpreter.specs.TextRounds.{PassesTo, Passed, Advanced, after_text, seen_round}
 use Rattle.interpreter.proofs.Reading.{reads_on}
+use Rattle.interpreter.proofs.Running.{no_calls}
 
 -- ---- what comes of the text
 
@@ -172,9 +173,9 @@ module _ {D : Type 0} {G : Ghosts D} where
 
   -- a word that was looked at, and then a round that reaches neither
   pub handed_passed : (n : ℕ) {start : Run → (Seen → Core → World → Outcome World) → Outcome World} (go : Seen → Core → World → Outcome World) {v : Seen} (result : Result Round Fault) (old mid new : Forth D G) {levels : List Level} {x : World}
-      → (h : Handed start (Ok v) old mid levels x) → new.blocks ≡ mid.blocks → new.at_end ≡ mid.at_end
+      → (h : Handed start (Ok v) old mid levels x) → new.blocks ≡ mid.blocks
       → Passed n (λ r. go v (core mid) (with_run r h.world)) result mid new h.world → Advanced n (λ r. start r go) result old new x
-  handed_passed n {start} go {v} result old mid new {levels} {x} h blocks at_end p = record {
+  handed_passed n {start} go {v} result old mid new {levels} {x} h blocks p = record {
     answers = h.answers;
     failures = h.failures;
     wear = h.wear;
@@ -183,7 +184,6 @@ module _ {D : Type 0} {G : Ghosts D} where
     world = p.world;
     stands = p.stands;
     steps = omega (arith, h.steps, p.steps);
-    at_end = at_end ∙ h.at_end;
     comes = λ model. passes_comes n start go v h.answers h.failures h.wear h.saves (core mid) h.world result p.levels (core new) p.world (h.hands model) p.goes;
     cause = subst (λ (b : Blocks D G). HasRisenBy h.failures (G.failures (device old)) (G.failures (device_of (store_of b)))) (sym blocks) h.cause;
     keeps = λ model.
@@ -203,7 +203,6 @@ module _ {D : Type 0} {G : Ghosts D} where
     world = h.world;
     stands = h.stands;
     steps = h.steps;
-    at_end = h.at_end;
     comes = λ model. let k = h.hands model in record { core = k.0; like = k.1; ends = λ r fits. k.2 r go };
     cause = h.cause;
     keeps = h.keeps;
@@ -219,7 +218,6 @@ module _ {D : Type 0} {G : Ghosts D} where
     world = h.world;
     stands = h.stands;
     steps = h.steps;
-    at_end = h.at_end;
     comes = λ model. advanced_comes_as n start start' (asking h.answers h.failures h.wear h.saves) result h.levels (core new) h.world same (h.comes model);
     cause = h.cause;
     keeps = h.keeps;
@@ -230,6 +228,10 @@ advanced_printed : (result : Result Round Fault) (o : Option (List ℕ)) → Pri
 advanced_printed (Ok v) o = Appends-nil o
 advanced_printed (Err f) o = Appends-nil o
 
+advanced_well : (result : Result Round Fault) → failed_calls (seen (stopped result)) ≡ 0
+advanced_well (Ok v) = refl
+advanced_well (Err f) = refl
+
 module _ {D T : Type 0} {G : Ghosts D} (H : TerminalGhosts T) where
   pub advanced_round : (n : ℕ) {start : Run → Outcome World} (result : Result Round Fault) {old new : Forth D G} {x : World} (t : T) → Advanced n start result old new x → RanRound H n start (stopped result) old new t t x
   advanced_round n {start} result {old} {new} {x} t h = record {
@@ -239,7 +241,7 @@ module _ {D T : Type 0} {G : Ghosts D} (H : TerminalGhosts T) where
     stands = h.stands;
     steps = h.steps;
     comes = h.comes;
-    heard = record { given = Consumes-nil (H.input t); at_end = λ was no. absurd (let e : false ≡ true = no in cc); met = h.at_end; no_more = λ k. (refl, refl); printed = advanced_printed result (H.output t) };
+    heard = record { given = Consumes-nil (H.input t); at_end = λ no. absurd (let e : false ≡ true = no in cc); printed = advanced_printed result (H.output t); calls = no_calls H (seen (stopped result)) t (advanced_well result) };
     cause = h.cause;
     keeps = h.keeps;
   }

@@ -169,10 +169,10 @@ module _ {A : Type 0} {D : Type 0} (G : Ghosts D) (word : words.Blocks → Block
 -- ---- values handed on without the device
 
 pub handed_quiet : {D : Type 0} (G : Ghosts D) → OnlyNow G → {B : Type 0} {start : Run → (B → Core → World → Outcome World) → Outcome World} {v : B} (old new : Forth D G) {levels : List Level} {x : World}
-    → Stands old levels x → Stands new levels x → new.blocks ≡ old.blocks → new.at_end ≡ old.at_end → new.steps ≤ old.steps
+    → Stands old levels x → Stands new levels x → new.blocks ≡ old.blocks → new.steps ≤ old.steps
     → ((r : Run) (go : B → Core → World → Outcome World) → start r go ≡ go v (core new) (with_run r x))
     → Handed start (Ok v) old new levels x
-handed_quiet {D} G only_now {B} {start} {v} old new {levels} {x} was stands blocks at_end less same = record {
+handed_quiet {D} G only_now {B} {start} {v} old new {levels} {x} was stands blocks less same = record {
   answers = [];
   failures = 0;
   wear = no_wear;
@@ -180,7 +180,6 @@ handed_quiet {D} G only_now {B} {start} {v} old new {levels} {x} was stands bloc
   world = x;
   stands = stands;
   steps = less;
-  at_end = at_end;
   hands = λ model r go. ap (λ r. start r go) (before-nothing r) ∙ same r go ∙ ap (λ r. go v (core new) (with_run r x)) (sym (after-nothing r));
   cause = ap (λ (b : Blocks D G). G.failures (device_of (store_of b))) blocks;
   keeps = λ model. subst (λ (b : Blocks D G). KeepsAndWears G x.maps x.maps (device old) (device_of (store_of b)) [] no_wear) (sym blocks) (maps_same G only_now (store_of old.blocks) x.maps (was.rests.maps model));
@@ -194,10 +193,10 @@ Reaches {A} word c x start go = (r : Run) → start r ≡ blocks_done (word (blo
 
 module _ {A : Type 0} {D : Type 0} {G : Ghosts D} {word : words.Blocks → BlockOutcome A} {levels : List Level} {x : World} (old new : Forth D G) (stack space' : List ℕ) where
   pub consulted_well : {start : Run → Outcome World} (go : A → Core → World → Outcome World) (v : A) (h : Called G word (Ok v) old.blocks new.blocks old.space space' x)
-      → Reaches word (record (core old) { stack = stack }) x start go → Stands new levels (world h) → new.steps ≤ old.steps → new.at_end ≡ old.at_end
+      → Reaches word (record (core old) { stack = stack }) x start go → Stands new levels (world h) → new.steps ≤ old.steps
       → ((y : World) → go v (record (core old) { stack = stack; space = space' }) y ≡ Did (core new) y)
       → Consulted start (Ok tt) old new levels x
-  consulted_well {start} go v h reaches stands less at_end leaves = record {
+  consulted_well {start} go v h reaches stands less leaves = record {
     answers = h.answers;
     failures = 0;
     wear = h.wear;
@@ -205,7 +204,6 @@ module _ {A : Type 0} {D : Type 0} {G : Ghosts D} {word : words.Blocks → Block
     world = world h;
     stands = stands;
     steps = less;
-    at_end = at_end;
     comes = λ model r fits.
         reaches (before (deed h) r) ∙ comes_of h model r (record (core old) { stack = stack }) go ∙ leaves (with_run (after (deed h) r) (world h));
     cause = h.cause;
@@ -213,10 +211,10 @@ module _ {A : Type 0} {D : Type 0} {G : Ghosts D} {word : words.Blocks → Block
   }
 
   pub consulted_failed : {start : Run → Outcome World} (go : A → Core → World → Outcome World) (f : BlockFault) (found : Fault) (h : Called G word (Err f) old.blocks new.blocks old.space space' x)
-      → Reaches word (record (core old) { stack = stack }) x start go → RestsIn new.lexicon new.picture new.blocks (world h) → new.steps ≤ old.steps → new.at_end ≡ old.at_end
+      → Reaches word (record (core old) { stack = stack }) x start go → RestsIn new.lexicon new.picture new.blocks (world h) → new.steps ≤ old.steps
       → space' ≡ new.space → stops.fault_of found ≡ fault_of f
       → Consulted start (Err found) old new levels x
-  consulted_failed {start} go f found h reaches rests less at_end same is = record {
+  consulted_failed {start} go f found h reaches rests less same is = record {
     answers = h.answers;
     failures = failed {A = A} (Err f);
     wear = h.wear;
@@ -224,7 +222,6 @@ module _ {A : Type 0} {D : Type 0} {G : Ghosts D} {word : words.Blocks → Block
     world = world h;
     stands = rests;
     steps = less;
-    at_end = at_end;
     comes = λ model. record {
       core = record (core old) { stack = stack; space = space' };
       like = same;
@@ -238,8 +235,8 @@ module _ {A : Type 0} {D : Type 0} {G : Ghosts D} {word : words.Blocks → Block
 
 -- one that never reaches it
 pub consulted_quiet : {D : Type 0} (G : Ghosts D) → OnlyNow G → {start : Run → Outcome World} {result : Result (Unit {0}) Fault} (old new : Forth D G) {levels : List Level} {x : World}
-    → Stands old levels x → new.blocks ≡ old.blocks → new.at_end ≡ old.at_end → Altered start result old new levels x → Consulted start result old new levels x
-consulted_quiet {D} G only_now {start} {result} old new {levels} {x} stands blocks at_end h = record {
+    → Stands old levels x → new.blocks ≡ old.blocks → Altered start result old new levels x → Consulted start result old new levels x
+consulted_quiet {D} G only_now {start} {result} old new {levels} {x} stands blocks h = record {
   answers = [];
   failures = 0;
   wear = no_wear;
@@ -247,7 +244,6 @@ consulted_quiet {D} G only_now {start} {result} old new {levels} {x} stands bloc
   world = h.world;
   stands = h.stands;
   steps = h.steps;
-  at_end = at_end;
   comes = λ model. comes_quiet start result (core new) h.world h.gives;
   cause = ap (λ (b : Blocks D G). G.failures (device_of (store_of b))) blocks;
   keeps = λ model.
@@ -278,7 +274,6 @@ module _ {D : Type 0} {G : Ghosts D} {B : Type 0} {start : Run → (B → Core �
     world = h.world;
     stands = h.stands;
     steps = h.steps;
-    at_end = h.at_end;
     hands = λ model.
         let q = h.hands model in
         (q.0, q.1, λ r go. same (before (asking h.answers h.failures h.wear h.saves) r) go ∙ q.2 r (k go));
@@ -300,7 +295,6 @@ module _ {D : Type 0} {G : Ghosts D} {B : Type 0} {start : Run → (B → Core �
     world = h.world;
     stands = h.stands;
     steps = h.steps;
-    at_end = h.at_end;
     hands = λ model r go.
         same (before (asking h.answers h.failures h.wear h.saves) r) go ∙ h.hands model r (k go) ∙ gives (after (asking h.answers h.failures h.wear h.saves) r) go;
     cause = h.cause;
@@ -321,7 +315,6 @@ module _ {D : Type 0} {G : Ghosts D} {B : Type 0} {start : Run → (B → Core �
     world = h.world;
     stands = h.stands;
     steps = h.steps;
-    at_end = h.at_end;
     hands = λ model r go.
         same (before (asking h.answers h.failures h.wear h.saves) r) go ∙ h.hands model r (k go) ∙ gives (after (asking h.answers h.failures h.wear h.saves) r) go;
     cause = h.cause;
@@ -342,7 +335,6 @@ module _ {D : Type 0} {G : Ghosts D} {B : Type 0} {start : Run → (B → Core �
     world = h.world;
     stands = h.stands.rests;
     steps = h.steps;
-    at_end = h.at_end;
     hands = λ model. (
       core new,
       refl,
@@ -365,7 +357,6 @@ handed_none {D} G only_now {B} {start} {f} old {levels} {x} stands same = record
   world = x;
   stands = stands.rests;
   steps = omega arith;
-  at_end = refl;
   hands = λ model. (core old, refl, λ r go. ap (λ r. start r go) (before-nothing r) ∙ same r go ∙ ap (λ r. Ends (Faults (stops.fault_of f)) (core old) (with_run r x)) (sym (after-nothing r)));
   cause = refl;
   keeps = λ model. maps_same G only_now (store_of old.blocks) x.maps (stands.rests.maps model);

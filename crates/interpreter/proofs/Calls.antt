@@ -1,15 +1,22 @@
 -- Calls of the terminal.
-use Rattle.std.proofs.Common.{◌≡◌, ℕ, suc, ◌+◌, List, [], ◌++◌, Option, Some, None, refl, sym, ap, subst, ◌∙◌, arith}
+use Rattle.std.proofs.Common.{◌≡◌, ℕ, suc, ◌+◌, true, false, List, [], ◌∷◌, ◌++◌, Option, Some, None, Ok, Err, refl, sym, ap, subst, ◌∙◌, arith}
 use Rattle.std.proofs.lemmas.List.{append-nil}
 use Rattle.cell_machine.specs.Frames.{Core}
 use Rattle.cell_machine.specs.Value.{Outcome, Did}
 use Rattle.interpreter.specs.State.{World, Run, with_run, with_output, with_terminal}
 use Rattle.interpreter.specs.Terminals.{terminal_call, print}
 use Rattle.interpreter.specs.Law.{run_after, Grows}
-use Rattle.interpreter.specs.Deeds.{longer, before, after}
-use Rattle.interpreter.specs.Serving.{Broke}
+use Rattle.interpreter.specs.Deeds.{nothing, longer, before, after}
+use Rattle.interpreter.specs.Serving.{Broke, Heard}
 use Rattle.interpreter.proofs.Deeds.{printing, trying, after-printing}
 use Rattle.interpreter.proofs.Wearing.{within_itself}
+use Rattle.std.specs.Io.KnownBytes.{Keeps, Appends, Consumes}
+use Rattle.std.proofs.KnownBytes.{Consumes-nil, Appends-nil}
+use Rattle.sector_disk.specs.Counting.{count_up}
+use Rattle.interpreter.specs.declared.terminal.Terminal.{Ghosts as TerminalGhosts}
+use Rattle.interpreter.specs.declared.fault.Stop.TheVariants as stop
+use Rattle.interpreter.specs.Terminal.{AppendsSome}
+use Rattle.interpreter.specs.Reading.{reads}
 
 -- a call that goes well
 pub call-well : (t : Option ℕ) (c : Core) (x : World) (go : World → Outcome World) → terminal_call (longer 1 t) c (with_terminal (longer 1 t) x) go ≡ go (with_terminal t x)
@@ -43,3 +50,56 @@ print-fails bytes c x = record {
   where
     goes : (r : Run) → r.terminal ≡ None → print bytes c (with_run (before (trying bytes) r) x) ≡ Did c (with_run (record r { output = r.output ++ bytes; terminal = longer 0 r.terminal }) x)
     goes r never = ap (λ t. terminal_call (longer 0 t) c (with_run (record r { terminal = longer 0 r.terminal }) x) (λ x. Did c (with_output (x.run.output ++ bytes) x))) never
+
+-- ---- what the terminal saw of one call
+
+kept_none : (a b : Option (List ℕ)) → Keeps a b → Consumes a b []
+kept_none None b h = tt
+kept_none (Some l) None h = h
+kept_none (Some l) (Some k) h = sym h
+
+module _ {T : Type 0} (H : TerminalGhosts T) {t u : T} where
+  -- it printed these bytes
+  pub heard_print : (bytes : List ℕ) → H.input u ≡ H.input t → Appends (H.output t) (H.output u) bytes → H.calls u ≡ count_up (H.calls t) → Heard H (Ok tt) (printing bytes 1) t u
+  heard_print bytes input printed counted = record {
+    given = subst (λ i. Consumes (H.input t) i []) (sym input) (Consumes-nil (H.input t));
+    at_end = λ no. absurd (let e : false ≡ true = no in cc);
+    printed = printed;
+    calls = counted;
+  }
+
+  -- or failed at them
+  pub heard_unprinted : (bytes : List ℕ) → H.input u ≡ H.input t → AppendsSome (H.output t) (H.output u) bytes → H.calls u ≡ count_up (H.calls t) → Heard H (Err stop.Io) (trying bytes) t u
+  heard_unprinted bytes input printed counted = record {
+    given = subst (λ i. Consumes (H.input t) i []) (sym input) (Consumes-nil (H.input t));
+    at_end = λ no. absurd (let e : false ≡ true = no in cc);
+    printed = printed;
+    calls = counted;
+  }
+
+  -- it gave a byte
+  pub heard_byte : (b : ℕ) → Consumes (H.input t) (H.input u) (b ∷ []) → H.output u ≡ H.output t → H.calls u ≡ count_up (H.calls t) → Heard H (Ok tt) (reads (b ∷ []) false 1) t u
+  heard_byte b given output counted = record {
+    given = given;
+    at_end = λ no. absurd (let e : false ≡ true = no in cc);
+    printed = subst (λ o. Appends (H.output t) o []) (sym output) (Appends-nil (H.output t));
+    calls = counted;
+  }
+
+  -- it met the end of the input
+  pub heard_end : Consumes (H.input t) (H.input u) [] → H.input u ≡ Some [] → H.output u ≡ H.output t → H.calls u ≡ count_up (H.calls t) → Heard H (Ok tt) (reads [] true 1) t u
+  heard_end given none output counted = record {
+    given = given;
+    at_end = λ met. none;
+    printed = subst (λ o. Appends (H.output t) o []) (sym output) (Appends-nil (H.output t));
+    calls = counted;
+  }
+
+  -- it failed to give one
+  pub heard_fault : Keeps (H.input t) (H.input u) → H.output u ≡ H.output t → H.calls u ≡ count_up (H.calls t) → Heard H (Err stop.Io) nothing t u
+  heard_fault kept output counted = record {
+    given = kept_none (H.input t) (H.input u) kept;
+    at_end = λ no. absurd (let e : false ≡ true = no in cc);
+    printed = ([], ([], refl), subst (λ o. Appends (H.output t) o []) (sym output) (Appends-nil (H.output t)));
+    calls = counted;
+  }

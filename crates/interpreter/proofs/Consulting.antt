@@ -23,7 +23,7 @@ use Rattle.interpreter.proofs.Then.{comes_then, heard_none, heard_then, maps_the
 use Rattle.interpreter.specs.declared.terminal.Terminal.{Ghosts as TerminalGhosts}
 use Rattle.std.proofs.KnownBytes.{Consumes-nil, Appends-nil}
 use Rattle.std.specs.Prelude.{IsOk, OnOk}
-use Rattle.interpreter.proofs.Running.{OnlyNow, comes_as, maps_same}
+use Rattle.interpreter.proofs.Running.{OnlyNow, comes_as, maps_same, no_calls, none_failed}
 use Rattle.interpreter.proofs.Deeds.{before-nothing, after-nothing}
 
 -- ---- what follows a value that was handed on
@@ -45,9 +45,9 @@ module _ {D : Type 0} {G : Ghosts D} where
 
   -- a value, and then a part that reaches neither terminal nor device
   pub handed_altered : {B : Type 0} {start : Run → (B → Core → World → Outcome World) → Outcome World} (go : B → Core → World → Outcome World) {v : B} {result : Result (Unit {0}) Fault} {old mid new : Forth D G} {levels : List Level} {x : World}
-      → (h : Handed start (Ok v) old mid levels x) → new.blocks ≡ mid.blocks → new.at_end ≡ mid.at_end
+      → (h : Handed start (Ok v) old mid levels x) → new.blocks ≡ mid.blocks
       → Altered (λ r. go v (core mid) (with_run r h.world)) result mid new levels h.world → Consulted (λ r. start r go) result old new levels x
-  handed_altered {B} {start} go {v} {result} {old} {mid} {new} {levels} {x} h blocks at_end a = record {
+  handed_altered {B} {start} go {v} {result} {old} {mid} {new} {levels} {x} h blocks a = record {
     answers = h.answers;
     failures = h.failures;
     wear = h.wear;
@@ -55,7 +55,6 @@ module _ {D : Type 0} {G : Ghosts D} where
     world = a.world;
     stands = a.stands;
     steps = omega (arith, h.steps, a.steps);
-    at_end = at_end ∙ h.at_end;
     comes = λ model. comes_handed start go v h.answers h.failures h.wear h.saves (core mid) (core new) h.world a.world result (h.hands model) a.gives;
     cause = subst (λ (b : Blocks D G). HasRisenBy h.failures (G.failures (device old)) (G.failures (device_of (store_of b)))) (sym blocks) h.cause;
     keeps = λ model.
@@ -74,7 +73,6 @@ module _ {D : Type 0} {G : Ghosts D} where
     world = h.world;
     stands = h.stands;
     steps = h.steps;
-    at_end = h.at_end;
     comes = λ model. let k = h.hands model in record { core = k.0; like = k.1; ends = λ r fits. k.2 r go };
     cause = h.cause;
     keeps = h.keeps;
@@ -82,8 +80,8 @@ module _ {D : Type 0} {G : Ghosts D} where
 
   -- what comes of the line before it may be said otherwise
   pub consulted_as : {start : Run → Outcome World} (start' : Run → Outcome World) {result : Result (Unit {0}) Fault} {mid new : Forth D G} (old : Forth D G) {levels : List Level} {x : World}
-      → ((r : Run) → start' r ≡ start r) → mid.steps ≤ old.steps → mid.blocks ≡ old.blocks → mid.at_end ≡ old.at_end → Consulted start result mid new levels x → Consulted start' result old new levels x
-  consulted_as {start} start' {result} {mid} {new} old {levels} {x} same less blocks at_end h = record {
+      → ((r : Run) → start' r ≡ start r) → mid.steps ≤ old.steps → mid.blocks ≡ old.blocks → Consulted start result mid new levels x → Consulted start' result old new levels x
+  consulted_as {start} start' {result} {mid} {new} old {levels} {x} same less blocks h = record {
     answers = h.answers;
     failures = h.failures;
     wear = h.wear;
@@ -91,7 +89,6 @@ module _ {D : Type 0} {G : Ghosts D} where
     world = h.world;
     stands = h.stands;
     steps = omega (arith, h.steps, less);
-    at_end = h.at_end ∙ at_end;
     comes = λ model. comes_as start start' (asking h.answers h.failures h.wear h.saves) (stopped result) (core new) h.world same (h.comes (same_model old.blocks mid.blocks blocks model));
     cause = subst (λ (b : Blocks D G). HasRisenBy h.failures (G.failures (device_of (store_of b))) (G.failures (device new))) blocks h.cause;
     keeps = λ model. subst (λ (b : Blocks D G). KeepsAndWears G x.maps h.world.maps (device_of (store_of b)) (device new) h.saves h.wear) blocks (h.keeps (same_model old.blocks mid.blocks blocks model));
@@ -114,7 +111,7 @@ module _ {D T : Type 0} {G : Ghosts D} (H : TerminalGhosts T) where
     stands = quiet_stands result new levels h.world h.stands;
     steps = h.steps;
     comes = h.comes;
-    heard = record { given = Consumes-nil (H.input t); at_end = λ was no. absurd (let e : false ≡ true = no in cc); met = h.at_end; no_more = λ k. (refl, refl); printed = quiet_printed result (H.output t) };
+    heard = record { given = Consumes-nil (H.input t); at_end = λ no. absurd (let e : false ≡ true = no in cc); printed = quiet_printed result (H.output t); calls = no_calls H (stopped result) t (none_failed result) };
     cause = h.cause;
     keeps = h.keeps;
   }
@@ -126,8 +123,8 @@ module _ {D : Type 0} (G : Ghosts D) where
   gives_comes start (Err f) c x g = record { core = g.0; like = g.1; ends = λ r fits. ap start (before-nothing r) ∙ g.2 r ∙ ap (λ r. Ends (Faults (fault_of f)) g.0 (with_run r x)) (sym (after-nothing r)) }
 
   pub altered_consulted : OnlyNow G → {start : Run → Outcome World} {result : Result (Unit {0}) Fault} (old new : Forth D G) {levels : List Level} {x : World}
-      → Stands old levels x → new.blocks ≡ old.blocks → new.at_end ≡ old.at_end → Altered start result old new levels x → Consulted start result old new levels x
-  altered_consulted only_now {start} {result} old new {levels} {x} stands blocks at_end h = record {
+      → Stands old levels x → new.blocks ≡ old.blocks → Altered start result old new levels x → Consulted start result old new levels x
+  altered_consulted only_now {start} {result} old new {levels} {x} stands blocks h = record {
     answers = [];
     failures = 0;
     wear = no_wear;
@@ -135,7 +132,6 @@ module _ {D : Type 0} (G : Ghosts D) where
     world = h.world;
     stands = h.stands;
     steps = h.steps;
-    at_end = at_end;
     comes = λ model. gives_comes start result (core new) h.world h.gives;
     cause = ap (λ (b : Blocks D G). G.failures (device_of (store_of b))) blocks;
     keeps = λ model.
@@ -151,8 +147,8 @@ module _ {D T : Type 0} (G : Ghosts D) (H : TerminalGhosts T) (counts_now : (d :
       → (h : Handed start (Ok v) old mid levels x) → Ran H (λ r. go v (core mid) (with_run r h.world)) result mid new t u levels h.world → Ran H (λ r. start r go) result old new t u levels x
   handed_ran {B} {start} go {v} {result} old mid new {t} {u} {levels} {x} on on_then h k =
       let d : Deed = asking h.answers h.failures h.wear h.saves in
-      let heard : Heard H (Ok tt) d old.at_end mid.at_end t t =
-      record { given = Consumes-nil (H.input t); at_end = λ was no. absurd (let e : false ≡ true = no in cc); met = h.at_end; no_more = λ q. (refl, refl); printed = Appends-nil (H.output t) } in
+      let heard : Heard H (Ok tt) d t t =
+      record { given = Consumes-nil (H.input t); at_end = λ no. absurd (let e : false ≡ true = no in cc); printed = Appends-nil (H.output t); calls = refl } in
       record {
         deed = then d k.deed;
         world = k.world;

@@ -1,5 +1,5 @@
 -- Words and loads that are entered.
-use Rattle.std.proofs.Common.{◌≡◌, ℕ, ◌≤◌, List, [], ◌∷◌, Option, Result, Ok, Err, sym, ap, subst, ◌∙◌, arith}
+use Rattle.std.proofs.Common.{◌≡◌, ℕ, ◌≤◌, List, [], ◌∷◌, Option, Result, Ok, Err, sym, ap, subst, ◌∙◌, arith, refl}
 use Rattle.std.specs.Prelude.{OnOk, IfErr, ◌<◌, false, not, ◌&&◌, nat_le, length}
 use Rattle.stacks.specs.declared.return_stack.Entry.{Entry}
 use Rattle.sector_disk.specs.declared.device.SectorDevice.{Ghosts}
@@ -28,7 +28,7 @@ use Rattle.interpreter.specs.Deeds.{nothing}
 use Rattle.interpreter.specs.Law.{left}
 use Rattle.interpreter.specs.Stops.{fault_of}
 use Rattle.interpreter.specs.Standing.{core, device, Stands, StandsAfter}
-use Rattle.interpreter.specs.Serving.{Altered, Heard, Printed, KeepsAndWears, stopped}
+use Rattle.interpreter.specs.Serving.{Altered, Printed, KeepsAndWears, stopped, failed_calls}
 use Rattle.interpreter.proofs.Deeds.{before-nothing, after-nothing}
 use Rattle.interpreter.proofs.Running.{OnlyNow, maps_same, heard_nothing}
 use Rattle.interpreter.specs.Rounds.{round_of, GoesTo, Entered, RoundComes, RanRound, seen, StandsAfterRound}
@@ -86,17 +86,21 @@ entered_printed : (result : Result (Unit {0}) Fault) (o : Option (List ℕ)) →
 entered_printed (Ok v) o = Appends-nil o
 entered_printed (Err f) o = Appends-nil o
 
+entered_well : (result : Result (Unit {0}) Fault) → failed_calls (seen (round_of (stopped result))) ≡ 0
+entered_well (Ok v) = refl
+entered_well (Err f) = refl
+
 module _ {D T : Type 0} (G : Ghosts D) (H : TerminalGhosts T) where
   pub round_entered : OnlyNow G → (n : ℕ) {start : Run → Outcome World} {result : Result (Unit {0}) Fault} (old new : Forth D G) (levels : List Level) {x : World} (t : T)
-      → Stands old levels x → new.blocks ≡ old.blocks → new.at_end ≡ old.at_end → Entered n start result old new x → RanRound H n start (round_of (stopped result)) old new t t x
-  round_entered only_now n {start} {result} old new levels {x} t stands blocks at_end h = record {
+      → Stands old levels x → new.blocks ≡ old.blocks → Entered n start result old new x → RanRound H n start (round_of (stopped result)) old new t t x
+  round_entered only_now n {start} {result} old new levels {x} t stands blocks h = record {
     deed = nothing;
     levels = h.levels;
     world = h.world;
     stands = entered_stands result new h.levels h.world h.stands;
     steps = h.steps;
     comes = λ model. goes_comes n start result h.levels (core new) h.world h.goes;
-    heard = subst (λ f. Heard H (seen (round_of (stopped result))) nothing old.at_end f t t) (sym at_end) (heard_nothing H (seen (round_of (stopped result))) old.at_end t (entered_printed result (H.output t)));
+    heard = heard_nothing H (seen (round_of (stopped result))) t (entered_well result) (entered_printed result (H.output t));
     cause = ap (λ (b : Blocks D G). G.failures (device_of (store_of b))) blocks;
     keeps = λ model.
         subst (λ (b : Blocks D G). KeepsAndWears G x.maps h.world.maps (device old) (device_of (store_of b)) [] no_wear) (sym blocks)

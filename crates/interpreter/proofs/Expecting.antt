@@ -302,11 +302,11 @@ none_of [] is = refl
 none_of (b ∷ l) is = absurd (omega (arith, is))
 
 module _ {D T : Type 0} {G : Ghosts D} (H : TerminalGhosts T) where
-  pub stepped : {a u count left : ℕ} (b : ℕ) (bytes space : List ℕ) (old mid : Forth D G) {t t' : T} → mid ≡ record old { at_end = mid.at_end }
-      → Heard H (Ok tt) (reads (b ∷ []) false 1) old.at_end mid.at_end t t' → H.may_give t' < H.may_give t
+  pub stepped : {a u count left : ℕ} (b : ℕ) (bytes space : List ℕ) (old : Forth D G) {t t' : T}
+      → Heard H (Ok tt) (reads (b ∷ []) false 1) t t' → H.may_give t' < H.may_give t
       → Reading u (b ∷ []) bytes left → count ≡ length bytes → count + left ≤ u → space ≡ with_bytes old.space a bytes
-      → Stepped H a u count left old (record mid { space = space }) t t'
-  stepped {a} {u} {count} {left} b bytes space old mid {t} {t'} rest heard fewer reading counted room same = record {
+      → Stepped H a u count left old (record old { space = space }) t t'
+  stepped {a} {u} {count} {left} b bytes space old {t} {t'} heard fewer reading counted room same = record {
     filling = record {
       given = b ∷ [];
       bytes = bytes;
@@ -314,7 +314,7 @@ module _ {D T : Type 0} {G : Ghosts D} (H : TerminalGhosts T) where
       counted = counted;
       room = room;
       space = same;
-      rest = ap (λ (f : Forth D G). record f { space = space }) rest;
+      rest = refl;
       heard = heard;
     };
     some = omega arith;
@@ -330,7 +330,7 @@ module _ {D T : Type 0} {G : Ghosts D} (H : TerminalGhosts T) where
     room = omega arith;
     space = sym (with_none f.space a);
     rest = refl;
-    heard = heard_nothing H (Ok tt) f.at_end t (Appends-nil (H.output t));
+    heard = heard_nothing H (Ok tt) t refl (Appends-nil (H.output t));
   }
 
   pub filling_then : {a u count left count' left' : ℕ} {old mid new : Forth D G} {t t' t'' : T} (at : ℕ) → at ≡ a + count → Filling H a u count left old mid t t' → Filling H at left count' left' mid new t' t'' → Filling H a u (count + count') left' old new t t''
@@ -341,8 +341,8 @@ module _ {D T : Type 0} {G : Ghosts D} (H : TerminalGhosts T) where
     counted = (let e : count + count' ≡ length (h.bytes ++ k.bytes) = omega (arith, h.counted, k.counted, length-append h.bytes k.bytes) in e);
     room = omega (arith, h.room, k.room);
     space = k.space ∙ (λ t. with_bytes (h.space t) (is t) k.bytes) ∙ ap (λ n. with_bytes (with_bytes old.space a h.bytes) (a + n) k.bytes) h.counted ∙ with_then old.space h.bytes k.bytes a;
-    rest = k.rest ∙ ap (λ (f : Forth D G). record f { space = new.space; at_end = new.at_end }) h.rest;
-    heard = subst (λ n. Heard H (Ok tt) (reads (h.given ++ k.given) false n) old.at_end new.at_end t t'') (sym (length-append h.given k.given)) (heard_then H h.heard k.heard);
+    rest = k.rest ∙ ap (λ (f : Forth D G). record f { space = new.space }) h.rest;
+    heard = subst (λ n. Heard H (Ok tt) (reads (h.given ++ k.given) false n) t t'') (sym (length-append h.given k.given)) (heard_then H h.heard k.heard);
   }
 
   -- whether something was given so far
@@ -373,21 +373,20 @@ module _ {D T : Type 0} {G : Ghosts D} (H : TerminalGhosts T) where
       pick true same = inr (ltb-true 0 (length h.filling.given) (sym h.some ∙ same))
       pick false same = inl (sym (h.first same) ∙ is)
 
-  pub rest_then : (old so new : Forth D G) → so ≡ record old { space = so.space; at_end = so.at_end } → new ≡ record so { at_end = new.at_end } → new ≡ record old { space = new.space; at_end = new.at_end }
-  rest_then old so new h k =
-      k ∙ ap (λ (f : Forth D G). record f { at_end = new.at_end }) h ∙ ap (λ s. record old { space = s; at_end = new.at_end }) (sym (ap (λ (f : Forth D G). f.space) k))
+  pub rest_then : (old so new : Forth D G) → so ≡ record old { space = so.space } → new ≡ so → new ≡ record old { space = new.space }
+  rest_then old so new h k = k ∙ h ∙ ap (λ s. record old { space = s }) (sym (ap (λ (f : Forth D G). f.space) k))
 
 module _ {T : Type 0} (H : TerminalGhosts T) where
   -- the input is at its end
-  pub met_then : (given : List ℕ) {f g h : Bool} {t u v : T} → Heard H (Ok tt) (reads given false (length given)) f g t u → Heard H (Ok tt) (reads [] true 1) g h u v → Heard H (Ok tt) (reads given true (length given + 1)) f h t v
-  met_then given {f} {g} {h} {t} {u} {v} first second =
-      subst (λ l. Heard H (Ok tt) (reads l true (length given + 1)) f h t v) (append-nil given) (heard_then H first second)
+  pub met_then : (given : List ℕ) {t u v : T} → Heard H (Ok tt) (reads given false (length given)) t u → Heard H (Ok tt) (reads [] true 1) u v → Heard H (Ok tt) (reads given true (length given + 1)) t v
+  met_then given {t} {u} {v} first second =
+      subst (λ l. Heard H (Ok tt) (reads l true (length given + 1)) t v) (append-nil given) (heard_then H first second)
 
-  pub broke_then : (given : List ℕ) {f g h : Bool} {t u v : T} → Heard H (Ok tt) (reads given false (length given)) f g t u → Heard H (Err stop.Io) nothing g h u v → Heard H (Err stop.Io) (reads given false (length given)) f h t v
-  broke_then given {f} {g} {h} {t} {u} {v} first second =
+  pub broke_then : (given : List ℕ) {t u v : T} → Heard H (Ok tt) (reads given false (length given)) t u → Heard H (Err stop.Io) nothing u v → Heard H (Err stop.Io) (reads given false (length given)) t v
+  broke_then given {t} {u} {v} first second =
       let n : length given + 0 ≡ length given = omega arith in
-      subst (λ n. Heard H (Err stop.Io) (reads given false n) f h t v) n
-      (subst (λ l. Heard H (Err stop.Io) (reads l false (length given + 0)) f h t v) (append-nil given) (heard_then H first second))
+      subst (λ n. Heard H (Err stop.Io) (reads given false n) t v) n
+      (subst (λ l. Heard H (Err stop.Io) (reads l false (length given + 0)) t v) (append-nil given) (heard_then H first second))
 
 -- ---- a service that reads
 
@@ -397,7 +396,7 @@ module _ {D T : Type 0} (G : Ghosts D) (H : TerminalGhosts T) (only_now : OnlyNo
   stands_for (Err e) forth {levels} {x} s = s.rests
 
   pub ran_reading : {start : Run → Outcome World} (result : Result (Unit {0}) Stop) (given : List ℕ) (met : Bool) (calls : ℕ) (old new : Forth D G) {t t' : T} {levels : List Level} {x : World}
-      → Stands old levels x → new ≡ record old { space = new.space; at_end = new.at_end } → Heard H result (reads given met calls) old.at_end new.at_end t t'
+      → Stands old levels x → new ≡ record old { space = new.space } → Heard H result (reads given met calls) t t'
       → Comes start (reads given met calls) result (record (core old) { space = new.space }) x
       → Ran H start result old new t t' levels x
   ran_reading {start} result given met calls old new {t} {t'} {levels} {x} stands rest heard comes =
@@ -405,7 +404,7 @@ module _ {D T : Type 0} (G : Ghosts D) (H : TerminalGhosts T) (only_now : OnlyNo
       (record {
         deed = reads given met calls;
         world = x;
-        stands = stands_for result (record old { space = new.space; at_end = new.at_end }) stands;
+        stands = stands_for result (record old { space = new.space }) stands;
         steps = omega arith;
         comes = λ model. comes;
         heard = heard;
@@ -415,7 +414,7 @@ module _ {D T : Type 0} (G : Ghosts D) (H : TerminalGhosts T) (only_now : OnlyNo
 
   -- it is over: something was read, or not
   pub ran_over : {start : Run → Outcome World} (some : Bool) (result : Result (Unit {0}) Stop) (given : List ℕ) (met : Bool) (calls a count : ℕ) (bytes : List ℕ) (old mid new : Forth D G) {t t' : T} {levels : List Level} {x : World}
-      → Stands old levels x → mid ≡ record old { space = mid.space; at_end = mid.at_end } → Heard H (Ok tt) (reads given met calls) old.at_end mid.at_end t t'
+      → Stands old levels x → mid ≡ record old { space = mid.space } → Heard H (Ok tt) (reads given met calls) t t'
       → mid.space ≡ with_bytes old.space a bytes → count ≡ length bytes → (some ≡ false → bytes ≡ [])
       → result ≡ (if some then Ok tt else Err (stop.Fault found.EndOfInput)) → new ≡ (if some then record mid { space = with_cell mid.space span_cell count } else mid)
       → ((r : Run) → Fits (reads given met calls) r → start (before (reads given met calls) r)
@@ -431,19 +430,19 @@ module _ {D T : Type 0} (G : Ghosts D) (H : TerminalGhosts T) (only_now : OnlyNo
       subst (λ (o : Result (Unit {0}) Stop). Ran H start o old new t t' levels x) (sym is)
       (subst (λ (n : Forth D G). Ran H start (Err (stop.Fault found.EndOfInput)) old n t t' levels x) (sym after_it)
       (ran_reading (Err (stop.Fault found.EndOfInput)) given met calls old mid stands rest
-      (record { given = heard.given; at_end = heard.at_end; met = heard.met; no_more = heard.no_more; printed = heard.printed })
+      (record { given = heard.given; at_end = heard.at_end; printed = heard.printed; calls = heard.calls })
       (record {
         core = core old;
         like = sym (with_none old.space a) ∙ ap (λ l. with_bytes old.space a l) (sym (none refl)) ∙ sym stored_at;
         ends = λ r fits. comes r fits;
       })))
 
-  pub ran_byte : {start : Run → Outcome World} (given : List ℕ) (met : Bool) (calls : ℕ) (stack : List ℕ) (old mid new : Forth D G) {t t' : T} {levels : List Level} {x : World}
-      → Stands old levels x → mid ≡ record old { at_end = mid.at_end } → new ≡ record mid { stack = stack } → Heard H (Ok tt) (reads given met calls) old.at_end mid.at_end t t'
+  pub ran_byte : {start : Run → Outcome World} (given : List ℕ) (met : Bool) (calls : ℕ) (stack : List ℕ) (old new : Forth D G) {t t' : T} {levels : List Level} {x : World}
+      → Stands old levels x → new ≡ record old { stack = stack } → Heard H (Ok tt) (reads given met calls) t t'
       → Comes start (reads given met calls) (Ok tt) (record (core old) { stack = stack }) x
       → Ran H start (Ok tt) old new t t' levels x
-  ran_byte {start} given met calls stack old mid new {t} {t'} {levels} {x} stands rest left heard comes =
-      subst (λ (n : Forth D G). Ran H start (Ok tt) old n t t' levels x) (sym (left ∙ ap (λ (f : Forth D G). record f { stack = stack }) rest))
+  ran_byte {start} given met calls stack old new {t} {t'} {levels} {x} stands left heard comes =
+      subst (λ (n : Forth D G). Ran H start (Ok tt) old n t t' levels x) (sym left)
       (record {
         deed = reads given met calls;
         world = x;
@@ -454,10 +453,6 @@ module _ {D T : Type 0} (G : Ghosts D) (H : TerminalGhosts T) (only_now : OnlyNo
         cause = refl;
         keeps = λ model. maps_same G only_now _ x.maps (stands.rests.maps model);
       })
-
-  -- nothing but the terminal's state changed
-  pub only_end : (old mid : Forth D G) → mid ≡ record old { at_end = mid.at_end } → mid ≡ record old { space = mid.space; at_end = mid.at_end }
-  only_end old mid rest = rest ∙ ap (λ s. record old { space = s; at_end = mid.at_end }) (sym (ap (λ (f : Forth D G). f.space) rest))
 
 -- ---- one byte
 

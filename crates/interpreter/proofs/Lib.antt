@@ -38,7 +38,6 @@ mod Telling
 pub mod Added
 pub mod Treating
 pub mod Advancing
-pub mod Blanks
 pub mod Building
 pub mod Expecting
 pub mod Holding

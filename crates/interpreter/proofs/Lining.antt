@@ -1,8 +1,7 @@
 -- Lines and their replies.
 use Rattle.std.proofs.Common.{◌≡◌, ◌⊎◌, inl, inr, ⊎_elim, ℕ, zero, suc, ◌≤◌, Bool, true, false, IsTrue, List, [], ◌∷◌, ◌++◌, codes, Option, Some, None, Result, Ok, Err, refl, sym, ap, subst, ◌∙◌, append_assoc, arith}
 use Rattle.std.proofs.lemmas.List.{append-nil}
-use Rattle.std.specs.Io.KnownBytes.{Appends, Consumes}
-use Rattle.std.proofs.KnownBytes.{Consumes-nil}
+use Rattle.std.specs.Io.KnownBytes.{Appends}
 use Rattle.sector_disk.specs.Disk.{Image, MayLeave}
 use Rattle.sector_disk.specs.declared.device.SectorDevice.{Ghosts}
 use Rattle.block_words.specs.Parts.{store_of}
@@ -35,12 +34,13 @@ use Rattle.block_words.specs.declared.Blocks.{Blocks}
 use Rattle.journal.specs.Store.{device_of}
 use Rattle.interpreter.specs.Lining.{line_end, is_broken, heard_of, LineLeft, LineBroke, LineBreaksOff, LineComes, LineCame, Lined, SameStackAndSpace, SameSpace}
 use Rattle.interpreter.proofs.Deeds.{printing, trying, after-then, mended-then}
-use Rattle.interpreter.proofs.Calls.{print-well, print-fails}
+use Rattle.interpreter.proofs.Calls.{print-well, print-fails, heard_print, heard_unprinted}
 use Rattle.interpreter.proofs.Running.{OnlyNow, maps_same}
 use Rattle.block_words.proofs.Counted.{risen_then}
 use Rattle.interpreter.proofs.Then.{fits_second, both_come, heard_none, heard_then, maps_then}
 use Rattle.block_words.specs.Words.{no_wear}
 use Rattle.interpreter.proofs.Wearing.{within_same, within_then}
+use Rattle.sector_disk.specs.Counting.{count_up}
 
 -- an end that isn't that of a failed terminal
 pub line_left : (start : Run → Ended) (deed : Deed) (e : LineEnd) (c : Core) (x : World) → is_broken e ≡ false → LineLeft start deed e c x → LineComes start deed e c x
@@ -79,46 +79,33 @@ same_model {D} {G} b c same model = subst (λ (b : Blocks D G). IsTrue (G.keeps_
 module _ {D T : Type 0} (G : Ghosts D) (H : TerminalGhosts T) (only_now : OnlyNow G) where
   -- it is printed
   pub said_well : (e : LineEnd) (bytes : List ℕ) (forth : Forth D G) (t u : T) (c : Core) (x : World) → is_broken e ≡ false → SameStackAndSpace c forth → Rests forth x
-      → H.input u ≡ H.input t → Appends (H.output t) (H.output u) bytes
-      → Lined H (λ r. replied (line_end e) (print bytes c (with_run r x))) e forth.at_end forth forth t u x
-  said_well e bytes forth t u c x well same_core rests input printed = record {
+      → H.input u ≡ H.input t → Appends (H.output t) (H.output u) bytes → H.calls u ≡ count_up (H.calls t)
+      → Lined H (λ r. replied (line_end e) (print bytes c (with_run r x))) e forth forth t u x
+  said_well e bytes forth t u c x well same_core rests input printed counted = record {
     deed = printing bytes 1;
     world = x;
     rests = rests;
     came = λ model.
         record { core = c; same_core = same_core; comes = line_left _ (printing bytes 1) e c x well (record { ends = λ r fits. ap (λ o. replied (line_end e) o) (print-well bytes c x r) }) };
-    heard = subst (λ (o : Result (Unit {0}) Stop). Heard H o (printing bytes 1) forth.at_end forth.at_end t u) (sym (heard_well e well))
-        (record {
-          given = subst (λ i. Consumes (H.input t) i []) (sym input) (Consumes-nil (H.input t));
-          at_end = λ was no. absurd (let f : false ≡ true = no in cc);
-          met = refl;
-          no_more = λ h. (refl, input);
-          printed = printed;
-        });
+    heard = subst (λ (o : Result (Unit {0}) Stop). Heard H o (printing bytes 1) t u) (sym (heard_well e well))
+        (heard_print H bytes input printed counted);
     cause = refl;
     keeps = λ model. maps_same G only_now (store_of forth.blocks) x.maps (rests.maps model);
   }
 
   -- the terminal fails
-  pub said_broke : (e : lines.LineEnd) (bytes : List ℕ) (old new : Forth D G) (t u : T) (c : Core) (x : World) → Rests old x → new.blocks ≡ old.blocks → new.at_end ≡ old.at_end
+  pub said_broke : (e : lines.LineEnd) (bytes : List ℕ) (old new : Forth D G) (t u : T) (c : Core) (x : World) → Rests old x → new.blocks ≡ old.blocks
       → ((said : Core) → said.space ≡ c.space → SameStackAndSpace (with_empty_stack (at_rest said)) new) → Rests new (dropped x)
-      → H.input u ≡ H.input t → AppendsSome (H.output t) (H.output u) bytes
-      → Lined H (λ r. replied e (print bytes c (with_run r x))) end.Io old.at_end old new t u x
-  said_broke e bytes old new t u c x rests blocks at_end same_core after_rests input printed = record {
+      → H.input u ≡ H.input t → AppendsSome (H.output t) (H.output u) bytes → H.calls u ≡ count_up (H.calls t)
+      → Lined H (λ r. replied e (print bytes c (with_run r x))) end.Io old new t u x
+  said_broke e bytes old new t u c x rests blocks same_core after_rests input printed counted = record {
     deed = trying bytes;
     world = dropped x;
     rests = after_rests;
     came = λ model.
         let h = print-fails bytes c x in
         record { core = with_empty_stack (at_rest h.core); same_core = same_core h.core h.like; comes = replied_broke e (λ r. print bytes c (with_run r x)) (trying bytes) c x h };
-    heard = subst (λ f. Heard H (Err stop.Io) (trying bytes) old.at_end f t u) (sym at_end)
-        (record {
-          given = subst (λ i. Consumes (H.input t) i []) (sym input) (Consumes-nil (H.input t));
-          at_end = λ was no. absurd (let f : false ≡ true = no in cc);
-          met = refl;
-          no_more = λ h. (refl, input);
-          printed = printed;
-        });
+    heard = heard_unprinted H bytes input printed counted;
     cause = ap (λ (b : Blocks D G). G.failures (device_of (store_of b))) blocks;
     keeps = λ model.
         subst (λ (b : Blocks D G). KeepsAndWears G x.maps x.maps (device old) (device_of (store_of b)) [] no_wear) (sym blocks) (maps_same G only_now (store_of old.blocks) x.maps (rests.maps model));
@@ -143,15 +130,15 @@ module _ {D T : Type 0} {G : Ghosts D} (H : TerminalGhosts T) where
       }
 
   -- what comes of the line before it may be said otherwise
-  pub lined_as : {start : Run → Ended} (start' : Run → Ended) (e : LineEnd) {was is : Bool} {mid new : Forth D G} (old : Forth D G) {t u : T} {x : World} (y : World)
-      → ((r : Run) → start' r ≡ start r) → mid.blocks ≡ old.blocks → was ≡ is → x.maps ≡ y.maps
-      → Lined H start e was mid new t u x → Lined H start' e is old new t u y
-  lined_as {start} start' e {was} {is} {mid} {new} old {t} {u} {x} y same blocks at_end maps h = record {
+  pub lined_as : {start : Run → Ended} (start' : Run → Ended) (e : LineEnd) {mid new : Forth D G} (old : Forth D G) {t u : T} {x : World} (y : World)
+      → ((r : Run) → start' r ≡ start r) → mid.blocks ≡ old.blocks → x.maps ≡ y.maps
+      → Lined H start e mid new t u x → Lined H start' e old new t u y
+  lined_as {start} start' e {mid} {new} old {t} {u} {x} y same blocks maps h = record {
     deed = h.deed;
     world = h.world;
     rests = h.rests;
     came = λ model. came_as start' e same (h.came (same_model old.blocks mid.blocks blocks model));
-    heard = subst (λ f. Heard H (heard_of e) h.deed f new.at_end t u) at_end h.heard;
+    heard = h.heard;
     cause = subst (λ (b : Blocks D G). HasRisenBy h.deed.failures (G.failures (device_of (store_of b))) (G.failures (device new))) blocks h.cause;
     keeps = λ model.
         subst (λ (b : Blocks D G). KeepsAndWears G y.maps h.world.maps (device_of (store_of b)) (device new) h.deed.saves h.deed.wear) blocks
@@ -196,13 +183,13 @@ line_comes_then start start2 d e first none how c x h = pick how h
 -- a part of the line, and then its end
 module _ {D T : Type 0} (G : Ghosts D) (H : TerminalGhosts T) (counts_now : (d : D) (t : ℕ) (c : Image) → t ≤ G.time d → MayLeave (G.disk d) c → G.left_since d t c)
     (widens : (d : D) (s t : ℕ) (c : Image) → s ≤ t → G.left_since d t c → G.left_since d s c) (only_now : OnlyNow G) where
-  pub lined_then : {start start2 : Run → Ended} {e : LineEnd} {was is : Bool} {old mid new : Forth D G} {t u v : T} {x w : World} (d : Deed)
+  pub lined_then : {start start2 : Run → Ended} {e : LineEnd} {old mid new : Forth D G} {t u v : T} {x w : World} (d : Deed)
       → Lasts G H (Ok tt) (device old) (device mid) t u → Lasts G H (heard_of e) (device mid) (device new) u v
-      → Heard H (Ok tt) d was is t u → HasRisenBy d.failures (G.failures (device old)) (G.failures (device mid))
+      → Heard H (Ok tt) d t u → HasRisenBy d.failures (G.failures (device old)) (G.failures (device mid))
       → (HasModel old → KeepsAndWears G x.maps w.maps (device old) (device mid) d.saves d.wear)
       → (HasModel old → (r : Run) → Fits d r → start (before d r) ≡ start2 (after d r))
-      → Lined H start2 e is mid new u v w → Lined H start e was old new t v x
-  lined_then {start} {start2} {e} {was} {is} {old} {mid} {new} {t} {u} {v} {x} {w} d on on_then heard cause keeps first h = record {
+      → Lined H start2 e mid new u v w → Lined H start e old new t v x
+  lined_then {start} {start2} {e} {old} {mid} {new} {t} {u} {v} {x} {w} d on on_then heard cause keeps first h = record {
     deed = then d h.deed;
     world = h.world;
     rests = h.rests;
@@ -283,11 +270,11 @@ is_io stop.Io = true
 is_io _ = false
 
 module _ {T : Type 0} (H : TerminalGhosts T) where
-  pub heard_calm : (s : Stop) {deed : Deed} {was is : Bool} {t u : T} → is_io s ≡ false → Heard H (Err s) deed was is t u → Heard H (Ok tt) deed was is t u
+  pub heard_calm : (s : Stop) {deed : Deed} {t u : T} → is_io s ≡ false → Heard H (Err s) deed t u → Heard H (Ok tt) deed t u
   heard_calm stop.Io well h = absurd (let no : true ≡ false = well in cc)
-  heard_calm stop.Quit well h = record { given = h.given; at_end = h.at_end; met = h.met; no_more = h.no_more; printed = h.printed }
-  heard_calm stop.Abort well h = record { given = h.given; at_end = h.at_end; met = h.met; no_more = h.no_more; printed = h.printed }
-  heard_calm (stop.Fault f) well h = record { given = h.given; at_end = h.at_end; met = h.met; no_more = h.no_more; printed = h.printed }
+  heard_calm stop.Quit well h = record { given = h.given; at_end = h.at_end; printed = h.printed; calls = h.calls }
+  heard_calm stop.Abort well h = record { given = h.given; at_end = h.at_end; printed = h.printed; calls = h.calls }
+  heard_calm (stop.Fault f) well h = record { given = h.given; at_end = h.at_end; printed = h.printed; calls = h.calls }
 
 pub lasts_calm : {D T : Type 0} (G : Ghosts D) (H : TerminalGhosts T) (s : Stop) {d e : D} {t u : T} → is_io s ≡ false → Lasts G H (Err s) d e t u → Lasts G H (Ok tt) d e t u
 lasts_calm G H stop.Io well h = absurd (let no : true ≡ false = well in cc)
@@ -301,8 +288,8 @@ module _ {D T : Type 0} (G : Ghosts D) (H : TerminalGhosts T) (counts_now : (d :
   pub over_lined : {start : Run → Outcome World} (start' : Run → Ended) {e : LineEnd} {old mid new : Forth D G} {t u v : T} {x : World} (h : Ran H start (Ok tt) old mid t u [] x)
       → ((r : Run) → start' r ≡ ended (start r))
       → Lasts G H (Ok tt) (device old) (device mid) t u → Lasts G H (heard_of e) (device mid) (device new) u v
-      → Lined H (λ r. end_of_line (compiling (core mid)) (core mid) (with_run r h.world)) e mid.at_end mid new u v h.world
-      → Lined H start' e old.at_end old new t v x
+      → Lined H (λ r. end_of_line (compiling (core mid)) (core mid) (with_run r h.world)) e mid new u v h.world
+      → Lined H start' e old new t v x
   over_lined {start} start' {e} {old} {mid} {new} {t} {u} {v} {x} h opens on on_then k =
       lined_then G H counts_now widens only_now h.deed on on_then h.heard h.cause h.keeps (λ model r fits. opens (before h.deed r) ∙ ap (λ o. ended o) (h.comes model r fits)) k
 
@@ -326,8 +313,8 @@ module _ {D T : Type 0} (G : Ghosts D) (H : TerminalGhosts T) (counts_now : (d :
   pub ends_lined : {start : Run → Outcome World} (start' : Run → Ended) {e : LineEnd} (s : Stop) → is_io s ≡ false → {old mid new : Forth D G} {t u v : T} {x : World} (h : Ran H start (Err s) old mid t u [] x)
       → ((r : Run) → start' r ≡ ended (start r))
       → Lasts G H (Err s) (device old) (device mid) t u → Lasts G H (heard_of e) (device mid) (device new) u v
-      → ((c : Core) → IsLike (ending_of s) c (core mid) → Lined H (λ r. ended (Ends (ending_of s) c (with_run r h.world))) e mid.at_end mid new u v h.world)
-      → Lined H start' e old.at_end old new t v x
+      → ((c : Core) → IsLike (ending_of s) c (core mid) → Lined H (λ r. ended (Ends (ending_of s) c (with_run r h.world))) e mid new u v h.world)
+      → Lined H start' e old new t v x
   ends_lined {start} start' {e} s well {old} {mid} {new} {t} {u} {v} {x} h opens on on_then k =
       ⊎_elim
       (λ model.
@@ -341,17 +328,17 @@ module _ {D T : Type 0} (G : Ghosts D) (H : TerminalGhosts T) (counts_now : (d :
 
   -- the terminal failed before the reply
   pub broke_lined : {start : Run → Outcome World} (start' : Run → Ended) {old mid : Forth D G} (new : Forth D G) {t u : T} {x : World} (h : Ran H start (Err stop.Io) old mid t u [] x)
-      → ((r : Run) → start' r ≡ ended (start r)) → new.blocks ≡ mid.blocks → new.at_end ≡ mid.at_end
+      → ((r : Run) → start' r ≡ ended (start r)) → new.blocks ≡ mid.blocks
       → ((c : Core) → SameSpace c mid → SameStackAndSpace (with_empty_stack (at_rest c)) new) → Rests new (dropped h.world)
-      → Lined H start' end.Io old.at_end old new t u x
-  broke_lined {start} start' {old} {mid} new {t} {u} {x} h opens blocks at_end same_core rests = record {
+      → Lined H start' end.Io old new t u x
+  broke_lined {start} start' {old} {mid} new {t} {u} {x} h opens blocks same_core rests = record {
     deed = h.deed;
     world = dropped h.world;
     rests = rests;
     came = λ model.
         let l = h.comes model in
         came_as H start' end.Io opens (record { core = with_empty_stack (at_rest l.core); same_core = same_core l.core (record { space = l.like }); comes = ended_broke start h.deed (core mid) h.world l });
-    heard = subst (λ f. Heard H (Err stop.Io) h.deed old.at_end f t u) (sym at_end) h.heard;
+    heard = h.heard;
     cause = subst (λ (b : Blocks D G). HasRisenBy h.deed.failures (G.failures (device old)) (G.failures (device_of (store_of b)))) (sym blocks) h.cause;
     keeps = λ model. subst (λ (b : Blocks D G). KeepsAndWears G x.maps h.world.maps (device old) (device_of (store_of b)) h.deed.saves h.deed.wear) (sym blocks) (h.keeps model);
   }

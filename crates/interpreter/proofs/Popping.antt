@@ -36,7 +36,7 @@ module _ {D T : Type 0} (G : Ghosts D) (H : TerminalGhosts T) where
       → Stands old levels x → OnlyStack old new → (said : Core) → said.space ≡ old.space → ((r : Run) → start r ≡ Ends (Faults (fault_of f)) said (with_run r x))
       → Ran H start (Err (stop.Fault f)) old new t t levels x
   ran_refused only_now {start} {f} old new t {levels} {x} stands rest said same ends =
-      quiet G H only_now {result = Err f} old new t stands (ap (λ (f : Forth D G). f.blocks) rest) (ap (λ (f : Forth D G). f.at_end) rest)
+      quiet G H only_now {result = Err f} old new t stands (ap (λ (f : Forth D G). f.blocks) rest)
       (refused new (stands_popped old new rest stands) said (same ∙ sym (ap (λ (f : Forth D G). f.space) rest)) ends (omega (arith, ap (λ (f : Forth D G). f.steps) rest)))
 
   -- it paid, and then it is refused
@@ -44,11 +44,11 @@ module _ {D T : Type 0} (G : Ghosts D) (H : TerminalGhosts T) where
       → Stands old levels x → OnlyStack old mid → steps ≤ mid.steps → (said : Core) → said.space ≡ old.space → ((r : Run) → start r ≡ Ends (Faults (fault_of f)) said (with_run r x))
       → Ran H start (Err (stop.Fault f)) old (record mid { steps = steps }) t t levels x
   ran_refused_paid only_now {start} {f} old mid steps t {levels} {x} stands rest fewer said same ends =
-      quiet G H only_now {result = Err f} old (record mid { steps = steps }) t stands (ap (λ (f : Forth D G). f.blocks) rest) (ap (λ (f : Forth D G). f.at_end) rest)
+      quiet G H only_now {result = Err f} old (record mid { steps = steps }) t stands (ap (λ (f : Forth D G). f.blocks) rest)
       (refused (record mid { steps = steps }) (stands_popped old mid rest stands) said (same ∙ sym (ap (λ (f : Forth D G). f.space) rest)) ends (omega (arith, fewer, ap (λ (f : Forth D G). f.steps) rest)))
 
   -- it goes on with what is left on the stack
   pub ran_popped : {start : Run → Outcome World} (start' : Run → Outcome World) {result : Result (Unit {0}) Stop} (old mid new : Forth D G) {t t' : T} {levels : List Level} {x : World}
       → OnlyStack old mid → ((r : Run) → start' r ≡ start r) → Ran H start result mid new t t' levels x → Ran H start' result old new t t' levels x
   ran_popped {start} start' {result} old mid new {t} {t'} {levels} {x} rest same ran =
-      ran_as H start' old same (omega (arith, ap (λ (f : Forth D G). f.steps) rest)) (ap (λ (f : Forth D G). f.blocks) rest) (ap (λ (f : Forth D G). f.at_end) rest) ran
+      ran_as H start' old same (omega (arith, ap (λ (f : Forth D G). f.steps) rest)) (ap (λ (f : Forth D G). f.blocks) rest) ran

@@ -37,7 +37,7 @@ alone d t = ap (λ l. record idle { answers = l; input = d.given ++ []; terminal
 abbrev pub closing : state.Forth → Core → World → state.Forth
 closing opening c x = record { budget = opening.budget; core = record c { steps = 0 }; world = with_run idle x }
 
-module _ {D T : Type 0} (G : Ghosts D) (H : TerminalGhosts T) (opening : state.Forth) (bytes : List ℕ) (d : Deed) (c : Core) (x : World) (t u : T) (is : Bool) (old new : D)
+module _ {D T : Type 0} (G : Ghosts D) (H : TerminalGhosts T) (opening : state.Forth) (bytes : List ℕ) (d : Deed) (c : Core) (x : World) (t u : T) (old new : D)
     (cause : HasRisenBy d.failures (G.failures old) (G.failures new)) (wears : WearsAtMost G old new d.wear) where
   none_before : d.failures ≡ 0 + d.failures
   none_before = omega arith
@@ -45,7 +45,7 @@ module _ {D T : Type 0} (G : Ghosts D) (H : TerminalGhosts T) (opening : state.F
   abbrev whole : Ended
   whole = line_on opening bytes d.given d.answers
 
-  pub replied : (e : LineEnd) → LineLeft (λ r. line opening bytes r) d e c x → Heard H (Ok tt) d false is t u → Replied G (line_end e) opening bytes (closing opening c x) (H.input t) (H.input u) (H.output t) (H.output u) old new d.saves
+  pub replied : (e : LineEnd) → LineLeft (λ r. line opening bytes r) d e c x → Heard H (Ok tt) d t u → Replied G (line_end e) opening bytes (closing opening c x) (H.input t) (H.input u) (H.output t) (H.output u) old new d.saves
   replied e l heard =
       let run : whole ≡ record { ending = line_end e; core = c; world = with_run (after d idle) x } = ap (λ r. line opening bytes r) (sym (alone d None)) ∙ l.ends idle (λ h. refl) in
       record {
@@ -63,14 +63,14 @@ module _ {D T : Type 0} (G : Ghosts D) (H : TerminalGhosts T) (opening : state.F
         };
         ends = refl;
         given = heard.given;
-        at_end = λ h. heard.at_end refl (sym (or-none d.met) ∙ h);
+        at_end = λ h. heard.at_end (sym (or-none d.met) ∙ h);
         reply = heard.printed;
         saves = refl;
         cause = subst (λ n. HasRisenBy n (G.failures old) (G.failures new)) none_before cause;
         wears = subst (λ w. WearsAtMost G old new w) (sym (none_first d.wear)) wears;
       }
 
-  pub cut_off : LineBroke (λ r. line opening bytes r) d c x → Heard H (Err stop.Io) d false is t u → Stopped G opening bytes (closing opening c x) (H.input t) (H.input u) (H.output t) (H.output u) old new d.saves
+  pub cut_off : LineBroke (λ r. line opening bytes r) d c x → Heard H (Err stop.Io) d t u → Stopped G opening bytes (closing opening c x) (H.input t) (H.input u) (H.output t) (H.output u) (H.calls t) (H.calls u) old new d.saves
   cut_off l heard =
       let run : line opening bytes (before d idle) ≡ whole = ap (λ r. line opening bytes r) (alone d None) in
       let m : Deed = mended d in
@@ -115,23 +115,24 @@ module _ {D T : Type 0} (G : Ghosts D) (H : TerminalGhosts T) (opening : state.F
           printed_part = begins_then shown (d.printed ++ d.tried) _ front more;
           saved = ap (λ e. e.world.run.saves) broke ∙ b.saves;
         };
+        last_call = heard.calls;
       }
 
-module _ {D T : Type 0} (G : Ghosts D) (H : TerminalGhosts T) (opening : state.Forth) (bytes : List ℕ) (d : Deed) (c : Core) (x : World) (t u : T) (is : Bool) (a b : D)
+module _ {D T : Type 0} (G : Ghosts D) (H : TerminalGhosts T) (opening : state.Forth) (bytes : List ℕ) (d : Deed) (c : Core) (x : World) (t u : T) (a b : D)
     (cause : HasRisenBy d.failures (G.failures a) (G.failures b)) (wears : WearsAtMost G a b d.wear) where
-  answers_of : (e : LineEnd) → LineComes (λ r. line opening bytes r) d e c x → Heard H (heard_of e) d false is t u
-      → Answers G (line_end e) opening bytes (closing opening c x) (H.input t) (H.input u) (H.output t) (H.output u) a b d.saves
-  answers_of end.Interpreting l heard = replied G H opening bytes d c x t u is a b cause wears end.Interpreting l heard
-  answers_of end.Compiling l heard = replied G H opening bytes d c x t u is a b cause wears end.Compiling l heard
-  answers_of end.Quit l heard = replied G H opening bytes d c x t u is a b cause wears end.Quit l heard
-  answers_of (end.Fault f) l heard = replied G H opening bytes d c x t u is a b cause wears (end.Fault f) l heard
-  answers_of end.Io l heard = cut_off G H opening bytes d c x t u is a b cause wears l heard
+  answers_of : (e : LineEnd) → LineComes (λ r. line opening bytes r) d e c x → Heard H (heard_of e) d t u
+      → Answers G (line_end e) opening bytes (closing opening c x) (H.input t) (H.input u) (H.output t) (H.output u) (H.calls t) (H.calls u) a b d.saves
+  answers_of end.Interpreting l heard = replied G H opening bytes d c x t u a b cause wears end.Interpreting l heard
+  answers_of end.Compiling l heard = replied G H opening bytes d c x t u a b cause wears end.Compiling l heard
+  answers_of end.Quit l heard = replied G H opening bytes d c x t u a b cause wears end.Quit l heard
+  answers_of (end.Fault f) l heard = replied G H opening bytes d c x t u a b cause wears (end.Fault f) l heard
+  answers_of end.Io l heard = cut_off G H opening bytes d c x t u a b cause wears l heard
 
 module _ {D T : Type 0} (G : Ghosts D) (H : TerminalGhosts T) where
   pub promised : (opening : state.Forth) (bytes : List ℕ) (e : LineEnd) (old new : Forth D G) (t u : T) → IsSystem old opening → new.budget ≡ old.budget → G.keeps_model (device new) ≡ G.keeps_model (device old)
-      → Lined H (λ r. line opening bytes r) e false old new t u opening.world
+      → Lined H (λ r. line opening bytes r) e old new t u opening.world
       → (after : state.Forth) × (made : List Save) × IsSystem new after
-      × Answers G (line_end e) opening bytes after (H.input t) (H.input u) (H.output t) (H.output u) (device old) (device new) made
+      × Answers G (line_end e) opening bytes after (H.input t) (H.input u) (H.output t) (H.output u) (H.calls t) (H.calls u) (device old) (device new) made
       × Keeps G opening after (device old) (device new) made
   promised opening bytes e old new t u system budget model h =
       let k = h.came system.model in
@@ -146,6 +147,6 @@ module _ {D T : Type 0} (G : Ghosts D) (H : TerminalGhosts T) where
           };
           model = subst IsTrue (sym model) system.model;
         },
-        answers_of G H opening bytes h.deed k.core h.world t u new.at_end (device old) (device new) h.cause kept.wears e k.comes h.heard,
+        answers_of G H opening bytes h.deed k.core h.world t u (device old) (device new) h.cause kept.wears e k.comes h.heard,
         kept.keeps,
       )

@@ -22,8 +22,8 @@ use Rattle.block_words.specs.declared.Blocks.{Blocks}
 use Rattle.journal.specs.Store.{device_of}
 use Rattle.interpreter.specs.Promise.{HasRisenBy}
 use Rattle.interpreter.specs.Standing.{core, device, Rests, Stands}
-use Rattle.interpreter.specs.Serving.{Comes, Left, IsLike, Heard, Printed, KeepsAndWears, Lasts, WhereBroke, Ran}
-use Rattle.interpreter.specs.Rounds.{seen, RoundComes, RanRound, LastsRound}
+use Rattle.interpreter.specs.Serving.{Comes, Left, IsLike, Printed, KeepsAndWears, Lasts, WhereBroke, Ran, failed_calls}
+use Rattle.interpreter.specs.Rounds.{RoundComes, RanRound, LastsRound}
 use Rattle.interpreter.proofs.Deeds.{before-nothing, after-nothing, after-then}
 use Rattle.interpreter.proofs.Running.{OnlyNow, comes_as, maps_same, heard_nothing}
 use Rattle.block_words.proofs.Counted.{risen_then}
@@ -76,7 +76,7 @@ module _ {D T : Type 0} (G : Ghosts D) (H : TerminalGhosts T) (counts_now : (d :
     steps = omega arith;
     comes = λ model r fits.
         ap (λ r. left n levels (core forth) (with_run r x)) (before-nothing r) ∙ ap (λ r. left n levels (core forth) (with_run r x)) (sym (after-nothing r));
-    heard = heard_nothing H (Ok tt) forth.at_end t (Appends-nil (H.output t));
+    heard = heard_nothing H (Ok tt) t refl (Appends-nil (H.output t));
     cause = refl;
     keeps = λ model. maps_same G only_now (store_of forth.blocks) x.maps (stands.rests.maps model);
   }
@@ -119,16 +119,16 @@ round_comes_as n start start' deed (Err s) levels c x same h = comes_as start st
 
 module _ {D T : Type 0} {G : Ghosts D} (H : TerminalGhosts T) (n : ℕ) where
   pub round_as : {start : Run → Outcome World} (start' : Run → Outcome World) {result : Result Round Stop} {mid new : Forth D G} (old : Forth D G) {t u : T} {x : World}
-      → ((r : Run) → start' r ≡ start r) → mid.steps ≤ old.steps → mid.blocks ≡ old.blocks → mid.at_end ≡ old.at_end
+      → ((r : Run) → start' r ≡ start r) → mid.steps ≤ old.steps → mid.blocks ≡ old.blocks
       → RanRound H n start result mid new t u x → RanRound H n start' result old new t u x
-  round_as {start} start' {result} {mid} {new} old {t} {u} {x} same less blocks at_end h = record {
+  round_as {start} start' {result} {mid} {new} old {t} {u} {x} same less blocks h = record {
     deed = h.deed;
     levels = h.levels;
     world = h.world;
     stands = h.stands;
     steps = omega (arith, h.steps, less);
     comes = λ model. round_comes_as n start start' h.deed result h.levels (core new) h.world same (h.comes (subst (λ (b : Blocks D G). IsTrue (G.keeps_model (device_of (store_of b)))) (sym blocks) model));
-    heard = subst (λ f. Heard H (seen result) h.deed f new.at_end t u) at_end h.heard;
+    heard = h.heard;
     cause = subst (λ (b : Blocks D G). HasRisenBy h.deed.failures (G.failures (device_of (store_of b))) (G.failures (device new))) blocks h.cause;
     keeps = λ model. subst (λ (b : Blocks D G). KeepsAndWears G x.maps h.world.maps (device_of (store_of b)) (device new) h.deed.saves h.deed.wear) blocks (h.keeps (subst (λ (b : Blocks D G). IsTrue (G.keeps_model (device_of (store_of b)))) (sym blocks) model));
   }
@@ -136,16 +136,16 @@ module _ {D T : Type 0} {G : Ghosts D} (H : TerminalGhosts T) (n : ℕ) where
 -- the machine ends the line
 module _ {D T : Type 0} (G : Ghosts D) (H : TerminalGhosts T) (only_now : OnlyNow G) (n : ℕ) where
   pub round_left : {start : Run → Outcome World} (s : Stop) (old new : Forth D G) (t : T) {x : World}
-      → Rests new x → new.blocks ≡ old.blocks → new.at_end ≡ old.at_end → new.steps ≤ old.steps
-      → Comes start nothing (Err s) (core new) x → Printed (Err s) (H.output t) (H.output t) [] [] → RanRound H n start (Err s) old new t t x
-  round_left {start} s old new t {x} rests blocks at_end less comes printed = record {
+      → Rests new x → new.blocks ≡ old.blocks → new.steps ≤ old.steps
+      → Comes start nothing (Err s) (core new) x → failed_calls (Err s) ≡ 0 → Printed (Err s) (H.output t) (H.output t) [] [] → RanRound H n start (Err s) old new t t x
+  round_left {start} s old new t {x} rests blocks less comes well printed = record {
     deed = nothing;
     levels = [];
     world = x;
     stands = rests;
     steps = less;
     comes = λ model. comes;
-    heard = subst (λ f. Heard H (Err s) nothing old.at_end f t t) (sym at_end) (heard_nothing H (Err s) old.at_end t printed);
+    heard = heard_nothing H (Err s) t well printed;
     cause = ap (λ (b : Blocks D G). G.failures (device_of (store_of b))) blocks;
     keeps = λ model.
         subst (λ (b : Blocks D G). KeepsAndWears G x.maps x.maps (device_of (store_of b)) (device new) [] no_wear) blocks

@@ -1,5 +1,5 @@
 -- Parts of a line.
-use Rattle.std.proofs.Common.{◌≡◌, ℕ, ◌≤◌, Bool, true, false, List, [], Option, IsTrue, Result, Ok, Err, refl, sym, ap, subst, ◌∙◌, arith}
+use Rattle.std.proofs.Common.{◌≡◌, ℕ, ◌+◌, ◌≤◌, true, false, List, [], Option, IsTrue, Result, Ok, Err, refl, sym, ap, subst, ◌∙◌, arith}
 use Rattle.std.proofs.KnownBytes.{Consumes-nil, Appends-nil}
 use Rattle.sector_disk.specs.Disk.{Image, MayLeave}
 use Rattle.sector_disk.specs.declared.device.SectorDevice.{Ghosts}
@@ -20,13 +20,14 @@ use Rattle.interpreter.specs.Deeds.{Deed, nothing, before, after, mended}
 use Rattle.interpreter.specs.State.{World, Run, with_run}
 use Rattle.interpreter.specs.Stops.{fault_of}
 use Rattle.interpreter.specs.Standing.{core, device, Rests, Stands, StandsAfter}
-use Rattle.interpreter.specs.Serving.{Comes, Heard, Printed, KeepsAndWears, Gives, Altered, Ran, stopped}
+use Rattle.interpreter.specs.Serving.{Comes, Heard, Printed, KeepsAndWears, Gives, Altered, Ran, stopped, failed_calls}
 use Rattle.block_words.specs.declared.Blocks.{Blocks}
 use Rattle.interpreter.specs.Promise.{HasRisenBy}
 use Rattle.interpreter.specs.Law.{run_after, Grows}
 use Rattle.interpreter.proofs.Deeds.{before-nothing, after-nothing}
 use Rattle.block_words.specs.Words.{no_wear}
 use Rattle.block_words.proofs.Worn.{wears_none}
+use Rattle.sector_disk.specs.Counting.{count_up_by}
 
 -- ---- what comes of the line before it may be said otherwise
 
@@ -56,9 +57,21 @@ maps_same G only_now store m stands = record {
   wears = wears_none G store.device;
 }
 
-pub heard_nothing : {T : Type 0} (H : TerminalGhosts T) (result : Result (Unit {0}) Stop) (flag : Bool) (t : T) → Printed result (H.output t) (H.output t) [] [] → Heard H result nothing flag flag t t
-heard_nothing H result flag t printed =
-    record { given = Consumes-nil (H.input t); at_end = λ was no. absurd (let e : false ≡ true = no in cc); met = refl; no_more = λ h. (refl, refl); printed = printed }
+-- what reaches no terminal makes no call of it
+pub none_failed : (result : Result (Unit {0}) Fault) → failed_calls (stopped result) ≡ 0
+none_failed (Ok v) = refl
+none_failed (Err f) = refl
+
+pub no_calls : {T : Type 0} (H : TerminalGhosts T) (result : Result (Unit {0}) Stop) (t : T) → failed_calls result ≡ 0 → HasRisenBy (0 + failed_calls result) (H.calls t) (H.calls t)
+no_calls H result t well = let e : 0 ≡ 0 + failed_calls result = omega (arith, well) in ap (λ n. count_up_by n (H.calls t)) e
+
+pub heard_nothing : {T : Type 0} (H : TerminalGhosts T) (result : Result (Unit {0}) Stop) (t : T) → failed_calls result ≡ 0 → Printed result (H.output t) (H.output t) [] [] → Heard H result nothing t t
+heard_nothing H result t well printed = record {
+  given = Consumes-nil (H.input t);
+  at_end = λ no. absurd (let e : false ≡ true = no in cc);
+  printed = printed;
+  calls = no_calls H result t well;
+}
 
 pub printed_nothing : (result : Result (Unit {0}) Fault) (o : Option (List ℕ)) → Printed (stopped result) o o [] []
 printed_nothing (Ok v) o = Appends-nil o
@@ -82,14 +95,14 @@ rests (Err f) forth levels x s = s
 module _ {D T : Type 0} (G : Ghosts D) (H : TerminalGhosts T) where
   -- one that reaches neither
   pub quiet : OnlyNow G → {start : Run → Outcome World} {result : Result (Unit {0}) Fault} (old new : Forth D G) {levels : List Level} {x : World} (t : T)
-      → Stands old levels x → new.blocks ≡ old.blocks → new.at_end ≡ old.at_end → Altered start result old new levels x → Ran H start (stopped result) old new t t levels x
-  quiet only_now {start} {result} old new {levels} {x} t stands blocks at_end h = record {
+      → Stands old levels x → new.blocks ≡ old.blocks → Altered start result old new levels x → Ran H start (stopped result) old new t t levels x
+  quiet only_now {start} {result} old new {levels} {x} t stands blocks h = record {
     deed = nothing;
     world = h.world;
     stands = stands_stopped result new levels h.world h.stands;
     steps = h.steps;
     comes = λ model. comes_quiet start result (core new) h.world h.gives;
-    heard = subst (λ f. Heard H (stopped result) nothing old.at_end f t t) (sym at_end) (heard_nothing H (stopped result) old.at_end t (printed_nothing result (H.output t)));
+    heard = heard_nothing H (stopped result) t (none_failed result) (printed_nothing result (H.output t));
     cause = ap (λ (b : Blocks D G). G.failures (device_of (store_of b))) blocks;
     keeps = λ model.
         subst (λ (b : Blocks D G). KeepsAndWears G x.maps h.world.maps (device old) (device_of (store_of b)) [] no_wear) (sym blocks)
@@ -98,15 +111,15 @@ module _ {D T : Type 0} (G : Ghosts D) (H : TerminalGhosts T) where
 
 module _ {D T : Type 0} {G : Ghosts D} (H : TerminalGhosts T) where
   pub ran_as : {start : Run → Outcome World} (start' : Run → Outcome World) {result : Result (Unit {0}) Stop} {mid new : Forth D G} (old : Forth D G) {t t' : T} {levels : List Level} {x : World}
-      → ((r : Run) → start' r ≡ start r) → mid.steps ≤ old.steps → mid.blocks ≡ old.blocks → mid.at_end ≡ old.at_end
+      → ((r : Run) → start' r ≡ start r) → mid.steps ≤ old.steps → mid.blocks ≡ old.blocks
       → Ran H start result mid new t t' levels x → Ran H start' result old new t t' levels x
-  ran_as {start} start' {result} {mid} {new} old {t} {t'} {levels} {x} same less blocks at_end h = record {
+  ran_as {start} start' {result} {mid} {new} old {t} {t'} {levels} {x} same less blocks h = record {
     deed = h.deed;
     world = h.world;
     stands = h.stands;
     steps = omega (arith, h.steps, less);
     comes = λ model. comes_as start start' h.deed result (core new) h.world same (h.comes (subst (λ (b : Blocks D G). IsTrue (G.keeps_model (device_of (store_of b)))) (sym blocks) model));
-    heard = subst (λ f. Heard H result h.deed f new.at_end t t') at_end h.heard;
+    heard = h.heard;
     cause = subst (λ (b : Blocks D G). HasRisenBy h.deed.failures (G.failures (device_of (store_of b))) (G.failures (device new))) blocks h.cause;
     keeps = λ model. subst (λ (b : Blocks D G). KeepsAndWears G x.maps h.world.maps (device_of (store_of b)) (device new) h.deed.saves h.deed.wear) blocks (h.keeps (subst (λ (b : Blocks D G). IsTrue (G.keeps_model (device_of (store_of b)))) (sym blocks) model));
   }

@@ -80,7 +80,7 @@ module _ {D T : Type 0} {G : Ghosts D} (H : TerminalGhosts T) (n : ℕ) (levels 
     stands = h.stands;
     steps = h.steps;
     comes = λ model r fits. ap (λ o. on n levels o) (h.comes model r fits);
-    heard = record { given = h.heard.given; at_end = h.heard.at_end; met = h.heard.met; no_more = h.heard.no_more; printed = h.heard.printed };
+    heard = record { given = h.heard.given; at_end = h.heard.at_end; printed = h.heard.printed; calls = h.heard.calls };
     cause = h.cause;
     keeps = h.keeps;
   }

@@ -1,7 +1,7 @@
 -- One part of a line after another.
-use Rattle.std.proofs.Common.{◌≡◌, ◌⊎◌, ℕ, ◌≤◌, Bool, true, false, List, [], ◌++◌, Option, Some, Result, Ok, Err, refl, sym, ap, subst, ◌∙◌, inl, inr, append_assoc}
+use Rattle.std.proofs.Common.{◌≡◌, ◌⊎◌, ℕ, ◌+◌, ◌≤◌, Bool, true, false, List, [], ◌∷◌, ◌++◌, Option, Some, None, Result, Ok, Err, refl, sym, ap, subst, ◌∙◌, ⊎_elim, inl, inr, append_assoc, arith}
 use Rattle.std.specs.Prelude.{◌||◌}
-use Rattle.std.specs.Io.KnownBytes.{Appends}
+use Rattle.std.specs.Io.KnownBytes.{Appends, Consumes}
 use Rattle.std.proofs.KnownBytes.{Consumes-trans, Appends-trans}
 use Rattle.sector_disk.specs.Disk.{Image, MayLeave}
 use Rattle.sector_disk.specs.Moments.{Elapses}
@@ -19,9 +19,11 @@ use Rattle.interpreter.specs.Deeds.{Deed, then, before, after, mended, Fits}
 use Rattle.interpreter.specs.Law.{run_after, Grows}
 use Rattle.interpreter.specs.State.{World, Run, with_run}
 use Rattle.interpreter.specs.Stops.{ending_of}
-use Rattle.interpreter.specs.Serving.{Left, Broke, BreaksOff, Comes, Heard, Printed, KeepsAndWears}
-use Rattle.interpreter.proofs.Deeds.{before-then, after-then, mended-then, or-assoc}
+use Rattle.interpreter.specs.Serving.{Left, Broke, BreaksOff, Comes, Heard, Printed, KeepsAndWears, failed_calls}
+use Rattle.interpreter.proofs.Deeds.{before-then, after-then, mended-then}
 use Rattle.block_words.proofs.Worn.{wears_then}
+use Rattle.interpreter.specs.Promise.{HasRisenBy}
+use Rattle.block_words.proofs.Counted.{risen_then}
 
 -- ---- what comes of the line
 
@@ -96,8 +98,14 @@ module _ (start start2 : Run → Outcome World) (d e : Deed) (first : (r : Run) 
 
 -- ---- what the terminal saw
 
-end_still : (a b : Option (List ℕ)) → b ≡ a → a ≡ Some [] → b ≡ Some []
-end_still a b same h = same ∙ h
+-- no byte is taken of an input that is at its end
+none_taken : (a b : Option (List ℕ)) (bytes : List ℕ) → a ≡ Some [] → Consumes a b bytes → (bytes ≡ []) × (b ≡ Some [])
+none_taken a b bytes none h = taken b bytes (subst (λ a. Consumes a b bytes) none h)
+  where
+    taken : (b : Option (List ℕ)) (bytes : List ℕ) → Consumes (Some []) b bytes → (bytes ≡ []) × (b ≡ Some [])
+    taken None bytes h = absurd h
+    taken (Some left) [] h = (refl, ap (λ l. Some l) (sym h))
+    taken (Some left) (x ∷ bytes) h = absurd cc
 
 printed_then : (result : Result (Unit {0}) Stop) (a b c : Option (List ℕ)) (bs cs tried : List ℕ) → Appends a b bs → Printed result b c cs tried → Printed result a c (bs ++ cs) tried
 printed_then (Ok v) a b c bs cs tried p q = Appends-trans a b c bs cs p q
@@ -108,26 +116,20 @@ printed_then (Err stop.Abort) a b c bs cs tried p q = Appends-trans a b c bs cs 
 printed_then (Err (stop.Fault f)) a b c bs cs tried p q = Appends-trans a b c bs cs p q
 
 module _ {T : Type 0} (H : TerminalGhosts T) where
-  pub heard_none : {d e : Deed} {result : Result (Unit {0}) Stop} {f g h : Bool} {t u v : T} → Heard H (Ok tt) d f g t u → Heard H result e g h u v → d.met ≡ true → e.given ≡ []
-  heard_none {d} {e} {result} {f} {g} {h} {t} {u} {v} first second met = (second.no_more (first.met ∙ or-left d.met f met)).0
+  pub heard_none : {d e : Deed} {result : Result (Unit {0}) Stop} {t u v : T} → Heard H (Ok tt) d t u → Heard H result e u v → d.met ≡ true → e.given ≡ []
+  heard_none {d} {e} {result} {t} {u} {v} first second met = (none_taken (H.input u) (H.input v) e.given (first.at_end met) second.given).0
 
-  pub heard_then : {d e : Deed} {result : Result (Unit {0}) Stop} {f g h : Bool} {t u v : T} → Heard H (Ok tt) d f g t u → Heard H result e g h u v → Heard H result (then d e) f h t v
-  heard_then {d} {e} {result} {f} {g} {h} {t} {u} {v} first second = record {
+  pub heard_then : {d e : Deed} {result : Result (Unit {0}) Stop} {t u v : T} → Heard H (Ok tt) d t u → Heard H result e u v → Heard H result (then d e) t v
+  heard_then {d} {e} {result} {t} {u} {v} first second = record {
     given = Consumes-trans (H.input t) (H.input u) (H.input v) d.given e.given first.given second.given;
-    at_end = λ was met. by_first was met d.met refl;
-    met = second.met ∙ ap (λ b. e.met || b) first.met ∙ sym (or-assoc d.met e.met f);
-    no_more = λ was.
-        let one = first.no_more was in
-        let two = second.no_more (first.met ∙ or-right d.met f was) in
-        (ap (λ l. l ++ e.given) one.0 ∙ two.0, two.1 ∙ one.1);
+    at_end = λ met. ⊎_elim (λ later. second.at_end later) (λ before. (none_taken (H.input u) (H.input v) e.given (first.at_end before) second.given).1) (or-cases e.met d.met met);
     printed = printed_then result (H.output t) (H.output u) (H.output v) d.printed e.printed e.tried first.printed second.printed;
+    calls =
+        let well : d.calls + 0 ≡ d.calls = omega arith in
+        let all : d.calls + (e.calls + failed_calls result) ≡ d.calls + e.calls + failed_calls result = omega arith in
+        subst (λ n. HasRisenBy n (H.calls t) (H.calls v)) all
+        (risen_then d.calls (e.calls + failed_calls result) (H.calls t) (H.calls u) (H.calls v) (subst (λ n. HasRisenBy n (H.calls t) (H.calls u)) well first.calls) second.calls);
   }
-    where
-      by_first : f ≡ false → (e.met || d.met) ≡ true → (b : Bool) → d.met ≡ b → H.input v ≡ Some []
-      by_first was met true is =
-          end_still (H.input u) (H.input v) (second.no_more (first.met ∙ or-left d.met f is)).1 (first.at_end was is)
-      by_first was met false is =
-          second.at_end (first.met ∙ ap (λ b. b || f) is ∙ was) (sym (ap (λ b. e.met || b) is ∙ or-none e.met) ∙ met)
 
 -- ---- what the device saw
 

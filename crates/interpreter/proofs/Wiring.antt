@@ -43,7 +43,7 @@ module _ {D T : Type 0} (G : Ghosts D) (H : TerminalGhosts T) (n : ℕ) (levels 
 
   pub quiet_round : OnlyNow G → {start : Run → Outcome World} {result : Result (Unit {0}) Fault} {round : Result Round Stop} (old new : Forth D G) (t : T) {x : World}
       → round ≡ round_of (stopped result) → Stands old levels x → Spares old new → Altered start result old new levels x → RanRound H n (λ r. and_then (start r) (λ c x. left n levels c x)) round old new t t x
-  quiet_round only_now old new t is stands spares h = ran_round old new t t is (quiet G H only_now old new t stands spares.device spares.at_end h)
+  quiet_round only_now old new t is stands spares h = ran_round old new t t is (quiet G H only_now old new t stands spares.device h)
 
   pub consulted_round : {start : Run → Outcome World} {result : Result (Unit {0}) Fault} {round : Result Round Stop} (old new : Forth D G) (t : T) {x : World}
       → round ≡ round_of (stopped result) → Consulted start result old new levels x → RanRound H n (λ r. and_then (start r) (λ c x. left n levels c x)) round old new t t x
@@ -52,7 +52,7 @@ module _ {D T : Type 0} (G : Ghosts D) (H : TerminalGhosts T) (n : ℕ) (levels 
   pub entered_round : OnlyNow G → {start : Run → Outcome World} {result : Result (Unit {0}) Fault} {round : Result Round Stop} (old new : Forth D G) (t : T) {x : World}
       → round ≡ round_of (stopped result) → Stands old levels x → Spares old new → Entered n start result old new x → RanRound H n start round old new t t x
   entered_round only_now {start} {result} {round} old new t {x} is stands spares h =
-      subst (λ round. RanRound H n start round old new t t x) (sym is) (round_entered G H only_now n old new levels t stands spares.device spares.at_end h)
+      subst (λ round. RanRound H n start round old new t t x) (sym is) (round_entered G H only_now n old new levels t stands spares.device h)
 
 -- ---- a word that is no service
 
@@ -122,7 +122,7 @@ module _ {D T : Type 0} {G : Ghosts D} (H : TerminalGhosts T) where
     stands = h.stands.rests;
     steps = h.steps;
     comes = λ model. record { core = core new; like = refl; ends = λ r fits. ap aborts (h.comes model r fits) };
-    heard = record { given = h.heard.given; at_end = h.heard.at_end; met = h.heard.met; no_more = h.heard.no_more; printed = h.heard.printed };
+    heard = record { given = h.heard.given; at_end = h.heard.at_end; printed = h.heard.printed; calls = h.heard.calls };
     cause = h.cause;
     keeps = h.keeps;
   }

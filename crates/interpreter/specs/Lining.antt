@@ -99,12 +99,11 @@ module _ {D : Type 0} {G : Ghosts D} where
     pub comes : LineComes start deed e core x
 
 module _ {D T : Type 0} {G : Ghosts D} (H : TerminalGhosts T) where
-  -- was says whether the end of the input had been met
-  pub record Lined (start : Run → Ended) (e : LineEnd) (was : Bool) (old new : Forth D G) (terminal terminal' : T) (x : World) : Type 0 where
+  pub record Lined (start : Run → Ended) (e : LineEnd) (old new : Forth D G) (terminal terminal' : T) (x : World) : Type 0 where
     pub deed : Deed
     pub world : World
     pub rests : Rests new world
     pub came : HasModel old → LineCame start deed e new world
-    pub heard : Heard H (heard_of e) deed was new.at_end terminal terminal'
+    pub heard : Heard H (heard_of e) deed terminal terminal'
     pub cause : HasRisenBy deed.failures (G.failures (device old)) (G.failures (device new))
     pub keeps : HasModel old → KeepsAndWears G x.maps world.maps (device old) (device new) deed.saves deed.wear

@@ -1,5 +1,5 @@
 -- A reading of the input, byte by byte.
-use Rattle.std.specs.Prelude.{◌≡◌, ℕ, ◌+◌, ◌<◌, ◌≤◌, Bool, true, false, List, [], ◌∷◌, ◌++◌, length, Option, Some, None, Result, Ok, Err}
+use Rattle.std.specs.Prelude.{◌≡◌, ℕ, ◌+◌, ◌<◌, ◌≤◌, Bool, true, false, List, [], ◌++◌, length, Option, Some, None, Result, Ok, Err}
 use Rattle.data_space.specs.Space.{with_bytes}
 use Rattle.interpreter.specs.declared.terminal.IoFault.{IoFault}
 use Rattle.interpreter.specs.declared.fault.Stop.{Stop}
@@ -21,12 +21,6 @@ io_of (Err fault) = Err stop.Io
 abbrev pub reads : List ℕ → Bool → ℕ → Deed
 reads given met calls = record nothing { given = given; met = met; calls = calls }
 
--- what a call of the terminal did
-abbrev pub asking_of : Result (Option ℕ) IoFault → Deed
-asking_of (Ok (Some b)) = reads (b ∷ []) false 1
-asking_of (Ok None) = reads [] true 1
-asking_of (Err fault) = nothing
-
 -- Of a reading of u bytes, these were given and these stored, and so many more may be: the rest goes on as a reading of
 -- those.
 pub record Reading (u : ℕ) (given bytes : List ℕ) (left : ℕ) : Type 0 where
@@ -43,8 +37,8 @@ pub record Filling {D T : Type 0} {G : Ghosts D} (H : TerminalGhosts T) (a u cou
   pub counted : count ≡ length bytes
   pub room : count + left ≤ u
   pub space : new.space ≡ with_bytes old.space a bytes
-  pub rest : new ≡ record old { space = new.space; at_end = new.at_end }
-  pub heard : Heard H (Ok tt) (reads given false (length given)) old.at_end new.at_end terminal terminal'
+  pub rest : new ≡ record old { space = new.space }
+  pub heard : Heard H (Ok tt) (reads given false (length given)) terminal terminal'
 
 -- it took a byte more
 pub record Stepped {D T : Type 0} {G : Ghosts D} (H : TerminalGhosts T) (a u count left : ℕ) (old new : Forth D G) (terminal terminal' : T) : Type 0 where
@@ -54,8 +48,8 @@ pub record Stepped {D T : Type 0} {G : Ghosts D} (H : TerminalGhosts T) (a u cou
 
 -- the terminal was asked in vain
 pub record AskedMore {D T : Type 0} {G : Ghosts D} (H : TerminalGhosts T) (result : Result (Unit {0}) Stop) (deed : Deed) (old new : Forth D G) (terminal terminal' : T) : Type 0 where
-  pub rest : new ≡ record old { at_end = new.at_end }
-  pub heard : Heard H result deed old.at_end new.at_end terminal terminal'
+  pub rest : new ≡ old
+  pub heard : Heard H result deed terminal terminal'
 
 abbrev pub StepOf : {D T : Type 0} {G : Ghosts D} (H : TerminalGhosts T) (a u : ℕ) → Result (Option Room) IoFault → (old new : Forth D G) (terminal terminal' : T) → Type 0
 StepOf H a u (Ok (Some room)) old new terminal terminal' = Stepped H a u room.count room.left old new terminal terminal'

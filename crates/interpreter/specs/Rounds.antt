@@ -62,7 +62,7 @@ module _ {D T : Type 0} {G : Ghosts D} (H : TerminalGhosts T) (n : ℕ) where
     pub stands : StandsAfterRound result new levels world
     pub steps : new.steps ≤ old.steps
     pub comes : HasModel old → RoundComes n start deed result levels (core new) world
-    pub heard : Heard H (seen result) deed old.at_end new.at_end terminal terminal'
+    pub heard : Heard H (seen result) deed terminal terminal'
     pub cause : HasRisenBy deed.failures (G.failures (device old)) (G.failures (device new))
     pub keeps : HasModel old → KeepsAndWears G x.maps world.maps (device old) (device new) deed.saves deed.wear
 

@@ -1,5 +1,5 @@
 -- What each service promises: what comes of the line's value where it is done, and what terminal and device saw of it.
-use Rattle.std.specs.Prelude.{◌≡◌, ℕ, ◌≤◌, Bool, true, false, ◌||◌, List, [], ◌++◌, Option, Some, None, Result, Ok, Err}
+use Rattle.std.specs.Prelude.{◌≡◌, ℕ, ◌+◌, ◌≤◌, true, List, [], ◌++◌, Option, Some, None, Result, Ok, Err}
 use Rattle.std.specs.Io.KnownBytes.{Appends, Consumes}
 use Rattle.sector_disk.specs.Counting.{count_up}
 use Rattle.sector_disk.specs.Moments.{Elapses}
@@ -81,13 +81,17 @@ abbrev pub Printed : Result (Unit {0}) Stop → (output printed : Option (List �
 Printed (Err stop.Io) output printed bytes tried = (part : List ℕ) × Begins part tried × Appends output printed (bytes ++ part)
 Printed _ output printed bytes tried = Appends output printed bytes
 
--- Once the line met the end of the input, nothing more is asked of the terminal.
-pub record Heard {T : Type 0} (H : TerminalGhosts T) (result : Result (Unit {0}) Stop) (deed : Deed) (was is : Bool) (old new : T) : Type 0 where
+-- the call that failed, beside those that went well
+abbrev pub failed_calls : Result (Unit {0}) Stop → ℕ
+failed_calls (Err stop.Io) = 1
+failed_calls _ = 0
+
+-- It gave and was given what the deed says, in as many calls: those that went well, and the one that failed.
+pub record Heard {T : Type 0} (H : TerminalGhosts T) (result : Result (Unit {0}) Stop) (deed : Deed) (old new : T) : Type 0 where
   pub given : Consumes (H.input old) (H.input new) deed.given
-  pub at_end : was ≡ false → deed.met ≡ true → H.input new ≡ Some []
-  pub met : is ≡ (deed.met || was)
-  pub no_more : was ≡ true → (deed.given ≡ []) × (H.input new ≡ H.input old)
+  pub at_end : deed.met ≡ true → H.input new ≡ Some []
   pub printed : Printed result (H.output old) (H.output new) deed.printed deed.tried
+  pub calls : HasRisenBy (deed.calls + failed_calls result) (H.calls old) (H.calls new)
 
 -- what a stop may have left since a part of a line began, and how much the device began since
 pub record KeepsAndWears {D : Type 0} (G : Ghosts D) (m m' : Maps) (old new : D) (made : List Save) (wear : Wear) : Type 0 where
@@ -150,7 +154,6 @@ module _ {D : Type 0} {G : Ghosts D} where
     pub world : World
     pub stands : StandsAfter result new levels world
     pub steps : new.steps ≤ old.steps
-    pub at_end : new.at_end ≡ old.at_end
     pub comes : HasModel old → Comes start (asking answers failures wear saves) (stopped result) (core new) world
     pub cause : HasRisenBy failures (G.failures (device old)) (G.failures (device new))
     pub keeps : HasModel old → KeepsAndWears G x.maps world.maps (device old) (device new) saves wear
@@ -169,7 +172,6 @@ module _ {D : Type 0} {G : Ghosts D} where
     pub world : World
     pub stands : StandsAfter result new levels world
     pub steps : new.steps ≤ old.steps
-    pub at_end : new.at_end ≡ old.at_end
     pub hands : HasModel old → Hands start (asking answers failures wear saves) result (core new) world
     pub cause : HasRisenBy failures (G.failures (device old)) (G.failures (device new))
     pub keeps : HasModel old → KeepsAndWears G x.maps world.maps (device old) (device new) saves wear
@@ -186,7 +188,6 @@ module _ {D : Type 0} {G : Ghosts D} where
   -- it leaves these alone at any device
   pub record Spares (old new : Forth D G) : Type 0 where
     pub device : new.blocks ≡ old.blocks
-    pub at_end : new.at_end ≡ old.at_end
     pub budget : new.budget ≡ old.budget
 
 module _ {D T : Type 0} {G : Ghosts D} (H : TerminalGhosts T) where
@@ -197,7 +198,7 @@ module _ {D T : Type 0} {G : Ghosts D} (H : TerminalGhosts T) where
     pub stands : StandsAfter result new levels world
     pub steps : new.steps ≤ old.steps
     pub comes : HasModel old → Comes start deed result (core new) world
-    pub heard : Heard H result deed old.at_end new.at_end terminal terminal'
+    pub heard : Heard H result deed terminal terminal'
     pub cause : HasRisenBy deed.failures (G.failures (device old)) (G.failures (device new))
     pub keeps : HasModel old → KeepsAndWears G x.maps world.maps (device old) (device new) deed.saves deed.wear
 

@@ -80,7 +80,6 @@ module _ {D : Type 0} {G : Ghosts D} where
     pub world : World
     pub stands : StandsAfterRound (stopped result) new levels world
     pub steps : new.steps ≤ old.steps
-    pub at_end : new.at_end ≡ old.at_end
     pub comes : HasModel old → RoundComes n start (asking answers failures wear saves) (stopped result) levels (core new) world
     pub cause : HasRisenBy failures (G.failures (device old)) (G.failures (device new))
     pub keeps : HasModel old → KeepsAndWears G x.maps world.maps (device old) (device new) saves wear

@@ -96,7 +96,7 @@ impl<D: SectorDevice> Forth<D> {
         requires { is_broken end ≡ false }
         ensures lined { (c : Core) (x : World) → SameStackAndSpace c self.old → Rests self.old x
             → Lined T.Terminal (λ r. replied (line_end end) (print bytes.now c (with_run r x)))
-            result self.old.at_end self.old self.new terminal.old terminal.new x }
+            result self.old self.new terminal.old terminal.new x }
         ensures lasts { LastsLine D.SectorDevice T.Terminal result (device self.old) (device self.new) terminal.old terminal.new }
         ensures tells { D.failures (device self.new) ≡ D.failures (device self.old) }
         ensures counts { (before after : ℕ) → Counts end before after → Counts result before after }
@@ -117,7 +117,7 @@ impl<D: SectorDevice> Forth<D> {
     fn fail<T: Terminal>(&mut self, fault: Fault, terminal: &mut T) -> LineEnd
         ensures lined { (c : Core) (x : World) → SameSpace c self.old → Rests self.old x
             → Lined T.Terminal (λ r. after_fault (fault_of fault) c (with_run r x))
-            result self.old.at_end self.old self.new terminal.old terminal.new x }
+            result self.old self.new terminal.old terminal.new x }
         ensures lasts { LastsLine D.SectorDevice T.Terminal result (device self.old) (device self.new) terminal.old terminal.new }
         ensures tells { D.failures (device self.new) ≡ D.failures (device self.old) }
         ensures counts { (count : ℕ) → Counts result count (fault_count fault count) }
@@ -134,7 +134,7 @@ impl<D: SectorDevice> Forth<D> {
     fn quit<T: Terminal>(&mut self, terminal: &mut T) -> LineEnd
         ensures lined { (c : Core) (x : World) → SameStackAndSpace c self.old → Rests self.old x
             → Lined T.Terminal (λ r. ended (Ends Quits c (with_run r x)))
-            result self.old.at_end self.old self.new terminal.old terminal.new x }
+            result self.old self.new terminal.old terminal.new x }
         ensures lasts { LastsLine D.SectorDevice T.Terminal result (device self.old) (device self.new) terminal.old terminal.new }
         ensures tells { D.failures (device self.new) ≡ D.failures (device self.old) }
         ensures counts { (count : ℕ) → Counts result count count }
@@ -150,7 +150,7 @@ impl<D: SectorDevice> Forth<D> {
     fn abort<T: Terminal>(&mut self, terminal: &mut T) -> LineEnd
         ensures lined { (c : Core) (x : World) → SameSpace c self.old → Rests self.old x
             → Lined T.Terminal (λ r. ended (Ends Aborts c (with_run r x)))
-            result self.old.at_end self.old self.new terminal.old terminal.new x }
+            result self.old self.new terminal.old terminal.new x }
         ensures lasts { LastsLine D.SectorDevice T.Terminal result (device self.old) (device self.new) terminal.old terminal.new }
         ensures tells { D.failures (device self.new) ≡ D.failures (device self.old) }
         ensures counts { (count : ℕ) → Counts result count count }
@@ -173,7 +173,7 @@ impl<D: SectorDevice> Forth<D> {
     fn finish<T: Terminal>(&mut self, terminal: &mut T) -> LineEnd
         ensures lined { (c : Core) (x : World) → SameStackAndSpace c self.old → Rests self.old x
             → Lined T.Terminal (λ r. end_of_line (compiling c) c (with_run r x))
-            result self.old.at_end self.old self.new terminal.old terminal.new x }
+            result self.old self.new terminal.old terminal.new x }
         ensures lasts { LastsLine D.SectorDevice T.Terminal result (device self.old) (device self.new) terminal.old terminal.new }
         ensures tells { D.failures (device self.new) ≡ D.failures (device self.old) }
         ensures counts { (count : ℕ) → Counts result count count }
@@ -196,7 +196,6 @@ impl<D: SectorDevice> Forth<D> {
         ensures taken { (c : Core) → SameStackAndSpace c self.old → core self.new ≡ with_line text.now self.old.budget c }
         ensures steps { self.new.steps ≡ self.old.budget }
         ensures device { self.new.blocks ≡ self.old.blocks }
-        ensures at_end { self.new.at_end ≡ self.old.at_end }
         ensures budget { self.new.budget ≡ self.old.budget }
     {
         self.machine = Machine::new();
@@ -215,7 +214,7 @@ impl<D: SectorDevice> Forth<D> {
             → (closing : Abstract) × (made : List Save) × IsSystem self.new closing
             × Answers D.SectorDevice (line_end result) opening text.now closing
             (T.input terminal.old) (T.input terminal.new) (T.output terminal.old) (T.output terminal.new)
-            (device self.old) (device self.new) made
+            (T.calls terminal.old) (T.calls terminal.new) (device self.old) (device self.new) made
             × Keeps D.SectorDevice opening closing (device self.old) (device self.new) made }
         ensures lasts { LastsLine D.SectorDevice T.Terminal result (device self.old) (device self.new) terminal.old terminal.new }
         ensures tells { Counts result (D.failures (device self.old)) (D.failures (device self.new)) }
@@ -231,14 +230,13 @@ impl<D: SectorDevice> Forth<D> {
         requires sound { IsAtRest self.old }
         ensures lined { (opening : Abstract) → Waits opening self.old
             → Lined T.Terminal (λ r. line opening text.now r)
-            result false self.old self.new terminal.old terminal.new opening.world }
+            result self.old self.new terminal.old terminal.new opening.world }
         ensures lasts { LastsLine D.SectorDevice T.Terminal result (device self.old) (device self.new) terminal.old terminal.new }
         ensures tells { Counts result (D.failures (device self.old)) (D.failures (device self.new)) }
         ensures clears { Clears result self.new }
         ensures budget { self.new.budget ≡ self.old.budget }
         ensures spends { self.new.steps ≤ self.new.budget }
     {
-        self.at_end = false;
         self.steps = self.budget;
         if text.len() > LINE_LIMIT {
             return self.fail(Fault::LineLength, terminal);

@@ -24,10 +24,10 @@ use Rattle.terminal.proofs.Kept.{Kept, TakenLine, taken_line, first_turn, kept_a
 
 -- ---- how the line ended
 
-module _ {D : Type 0} (G : Ghosts D) (opening : Forth) (bytes : List ℕ) (closing : Forth) (input left output printed : Option (List ℕ)) (before after : D) (made : List Save) (f g : ℕ) where
+module _ {D : Type 0} (G : Ghosts D) (opening : Forth) (bytes : List ℕ) (closing : Forth) (input left output printed : Option (List ℕ)) (calls calls' : ℕ) (before after : D) (made : List Save) (f g : ℕ) where
   -- the terminal failed in it
-  pub was_stopped : (ending : LineEnd) → Answers G ending opening bytes closing input left output printed before after made
-      → OnIo ending (g ≡ count_up f) (g ≡ f) → f ≡ 0 → 0 < g → Stopped G opening bytes closing input left output printed before after made
+  pub was_stopped : (ending : LineEnd) → Answers G ending opening bytes closing input left output printed calls calls' before after made
+      → OnIo ending (g ≡ count_up f) (g ≡ f) → f ≡ 0 → 0 < g → Stopped G opening bytes closing input left output printed calls calls' before after made
   was_stopped Io h k zero some = h
   was_stopped Interpreting h k zero some = absurd (omega (arith, k, zero, some))
   was_stopped Compiling h k zero some = absurd (omega (arith, k, zero, some))
@@ -35,7 +35,7 @@ module _ {D : Type 0} (G : Ghosts D) (opening : Forth) (bytes : List ℕ) (closi
   was_stopped (Fails e) h k zero some = absurd (omega (arith, k, zero, some))
 
   -- the terminal did not fail
-  pub was_replied : (ending : LineEnd) → Answers G ending opening bytes closing input left output printed before after made
+  pub was_replied : (ending : LineEnd) → Answers G ending opening bytes closing input left output printed calls calls' before after made
       → OnIo ending (g ≡ count_up f) (g ≡ f) → f ≡ 0 → g ≡ 0 → Replied G ending opening bytes closing input left output printed before after made
   was_replied Io h k zero none = absurd (let e : 1 ≡ 0 = sym (k ∙ ap count_up zero) ∙ none in omega (arith, e))
   was_replied Interpreting h k zero none = h
@@ -60,7 +60,7 @@ module _ {D : Type 0} (G : Ghosts D) (long_lines : LongLinesAreAlike) (opening :
   abbrev StoppedTurn : Turn → (shown : List ℕ) → Forth → List ℕ → Type 0
   StoppedTurn turn shown over l = (first : FirstTurn opening l turn [] over) × Broken opening (line_text first.bytes) turn.given shown first.line.answers made closing
 
-  pub line_stopped : (fault : RunFault) → Stopped G opening text closing b c during written f g made → BreaksOff G fault opening closing a c before written f g made
+  pub line_stopped : {calls calls' : ℕ} (fault : RunFault) → Stopped G opening text closing b c during written calls calls' f g made → BreaksOff G fault opening closing a c before written f g made
   line_stopped fault s =
       let t = taken_by s.turn.given s.given in
       let both : StoppedTurn s.turn s.shown s.over t.taken =

@@ -71,6 +71,7 @@ pub struct Streams<'a, R, W> {
     reader: &'a mut R,
     writer: &'a mut W,
     may_give: u64,
+    calls: u64,
     failures: u64,
     read_failed: bool,
     ended: bool,
@@ -89,9 +90,12 @@ impl<R: Read, W: Write> Terminal for Streams<'_, R, W> {
 
     ghost may_give = { λ s. bound s.ended (R.remaining s.reader.now) s.may_give };
 
+    ghost calls = { λ s. s.calls };
+
     ghost failures = { λ s. s.failures };
 
     fn key(&mut self) -> Result<Option<u8>, IoFault> {
+        self.calls = self.calls.saturating_add(1);
         if self.ended {
             return Ok(None);
         }
@@ -112,6 +116,7 @@ impl<R: Read, W: Write> Terminal for Streams<'_, R, W> {
     }
 
     fn emit(&mut self, bytes: &[u8]) -> Result<(), IoFault> {
+        self.calls = self.calls.saturating_add(1);
         let result = write_bytes(self.writer, bytes);
         if result.is_err() {
             self.failures = self.failures.saturating_add(1);
@@ -133,6 +138,7 @@ impl<'a, R: Read, W: Write> Streams<'a, R, W> {
             reader,
             writer,
             may_give: u64::MAX,
+            calls: 0,
             failures: 0,
             read_failed: false,
             ended: false,
@@ -178,6 +184,7 @@ impl<'a, R: Read, W: Write> Streams<'a, R, W> {
         ensures reader { self.new.reader ≡ self.old.reader }
         ensures writer { self.new.writer ≡ self.old.writer }
         ensures may_give { self.new.may_give ≡ self.old.may_give }
+        ensures calls { self.new.calls ≡ self.old.calls }
         ensures ended { self.new.ended ≡ self.old.ended }
     {
         self.failures = self.failures.saturating_add(1);

@@ -1,5 +1,5 @@
 //! Words that read the input after the line.
-ghost use Rattle.std.specs.Prelude.{◌≡◌, ◌≤◌, ◌<◌, ◌+◌, ◌-◌, ◌∷◌, [], ◌++◌, length, List, ℕ, Some, None, Ok, Err, IfOk, OnSome, OnErr, if◌then◌else◌};
+ghost use Rattle.std.specs.Prelude.{◌≡◌, ◌≤◌, ◌<◌, ◌+◌, ◌-◌, ◌∷◌, [], ◌++◌, length, List, ℕ, Some, None, Ok, Err, if◌then◌else◌};
 ghost use Rattle.data_space.specs.Space.{with_cell};
 
 use crate::fault::{Fault, Stop};
@@ -19,32 +19,9 @@ impl<D: SectorDevice> Forth<D> {
     ghost use Rattle.interpreter.specs.Terminals.{expect_of, on_terminal};
     ghost use Rattle.cell_machine.specs.Words.{Expect, Key};
     ghost use Rattle.interpreter.specs.Standing.{device};
-    ghost use Rattle.interpreter.specs.Serving.{Serves, Heard, Lasts, Tells};
+    ghost use Rattle.interpreter.specs.Serving.{Serves, Lasts, Tells};
     ghost use Rattle.interpreter.specs.Stops.{stop_count};
-    ghost use Rattle.interpreter.specs.Reading.{io_of, asking_of, StepOf};
-
-    /// The next byte of the input, or `None` at its end, at which the terminal is asked once.
-    fn ask<T: Terminal>(&mut self, terminal: &mut T) -> Result<Option<u8>, IoFault>
-        ensures rest { self.new ≡ record self.old { at_end = self.new.at_end } }
-        ensures heard { Heard T.Terminal (io_of result) (asking_of result)
-            self.old.at_end self.new.at_end terminal.old terminal.new }
-        ensures lasts { Lasts D.SectorDevice T.Terminal (io_of result) (device self.old) (device self.old)
-            terminal.old terminal.new }
-        ensures fewer { IfOk result (λ key. OnSome key (T.may_give terminal.new < T.may_give terminal.old)) }
-        ensures tells { D.failures (device self.new) ≡ D.failures (device self.old) }
-    {
-        if self.at_end {
-            return Ok(None);
-        }
-        match terminal.key() {
-            Ok(Some(byte)) => Ok(Some(byte)),
-            Ok(None) => {
-                self.at_end = true;
-                Ok(None)
-            }
-            Err(IoFault) => Err(IoFault),
-        }
-    }
+    ghost use Rattle.interpreter.specs.Reading.{io_of, StepOf};
 
     /// The next step of a reading of `left` bytes to `a`: how many bytes it stored, and how many more may be. `None` at the
     /// end of the input.
@@ -62,7 +39,7 @@ impl<D: SectorDevice> Forth<D> {
         ensures tells { D.failures (device self.new) ≡ D.failures (device self.old) }
         ensures budget { self.new.budget ≡ self.old.budget }
     {
-        match self.ask(terminal) {
+        match terminal.key() {
             Ok(Some(b'\n')) => Ok(Some(Room { count: 0, left: 0 })),
             Ok(Some(b'\r')) => Ok(Some(Room { count: 0, left })),
             Ok(Some(byte)) => {
@@ -146,7 +123,7 @@ impl<D: SectorDevice> Forth<D> {
         if self.stack.depth() >= 256 {
             return Err(Stop::Fault(Fault::StackFull));
         }
-        match self.ask(terminal) {
+        match terminal.key() {
             Ok(Some(byte)) => {
                 self.leave(u16::from(byte));
                 Ok(())

@@ -1,16 +1,13 @@
 //! Words that print or read.
-ghost use Rattle.std.specs.Prelude.{◌≡◌, ◌≤◌, nat_lt, if◌then◌else◌, replicate, OnOk, OnErr};
-ghost use Rattle.std.specs.Io.KnownBytes.{Appends};
-ghost use Rattle.sector_disk.specs.Counting.{count_up};
-ghost use Rattle.interpreter.specs.Terminal.{AppendsSome};
+ghost use Rattle.std.specs.Prelude.{◌≡◌, nat_lt, if◌then◌else◌};
 
 use crate::fault::{Fault, Stop};
 use crate::forth::Forth;
 use crate::terminal::{IoFault, Terminal};
 use sector_disk::SectorDevice;
 
-/// How many blanks go to the terminal in one call.
-const CHUNK: u16 = 64;
+/// As many blanks as a cell may ask for.
+static BLANKS: [u8; 32767] = [b' '; 32767];
 
 /// How many blanks a cell asks for: none where it is negative.
 fn count_of(cell: u16) -> u16
@@ -19,29 +16,8 @@ fn count_of(cell: u16) -> u16
     if cell < 0x8000 { cell } else { 0 }
 }
 
-/// Gives a terminal so many blanks, a chunk at a time.
-fn emit_blanks<T: Terminal>(count: u16, terminal: &mut T) -> Result<(), IoFault>
-    ensures ok { OnOk result (Appends (T.output terminal.old) (T.output terminal.new) (replicate count 32)) }
-    ensures err { OnErr result (AppendsSome (T.output terminal.old) (T.output terminal.new) (replicate count 32)) }
-    ensures input { T.input terminal.new ≡ T.input terminal.old }
-    ensures no_more { T.may_give terminal.new ≤ T.may_give terminal.old }
-    ensures failed { OnErr result (T.failures terminal.new ≡ count_up (T.failures terminal.old)) }
-    ensures succeeded { OnOk result (T.failures terminal.new ≡ T.failures terminal.old) }
-    ensures same { T.identity terminal.new ≡ T.identity terminal.old }
-{
-    let blanks = [b' '; 64];
-    let mut left = count;
-    while left > CHUNK {
-        match terminal.emit(&blanks) {
-            Ok(()) => left -= CHUNK,
-            Err(fault) => return Err(fault),
-        }
-    }
-    terminal.emit(&blanks[..usize::from(left)])
-}
-
 impl<D: SectorDevice> Forth<D> {
-    ghost use Rattle.std.specs.Prelude.{◌∷◌, [], replicate};
+    ghost use Rattle.std.specs.Prelude.{◌∷◌, []};
     ghost use Rattle.cell_machine.specs.Words.{Emit, NewLine, Blank, Blanks, TypeText};
     ghost use Rattle.interpreter.specs.Terminals.{print, on_terminal};
     ghost use Rattle.interpreter.specs.Standing.{device};
@@ -107,22 +83,9 @@ impl<D: SectorDevice> Forth<D> {
                     return Err(Stop::Fault(Fault::Steps));
                 }
                 self.steps -= u32::from(count);
-                self.print_blanks(count, terminal)
+                self.print(&BLANKS[..usize::from(count)], terminal)
             }
             Err(_) => Err(Stop::Fault(Fault::StackEmpty)),
-        }
-    }
-
-    /// Prints so many blanks.
-    fn print_blanks<T: Terminal>(&self, count: u16, terminal: &mut T) -> Result<(), Stop>
-        ensures serves { Serves T.Terminal (λ a c x. print (replicate count 32) c x)
-            result self.now self.now terminal.old terminal.new }
-        ensures lasts { Lasts D.SectorDevice T.Terminal result (device self.now) (device self.now) terminal.old terminal.new }
-        ensures tells { Tells stop_count result self.now self.now }
-    {
-        match emit_blanks(count, terminal) {
-            Ok(()) => Ok(()),
-            Err(IoFault) => Err(Stop::Io),
         }
     }
 

@@ -19,7 +19,7 @@ returns-then-has_failed-clause-err g c = λ opening is.
       ran.2,
       ran.4,
       line_stopped g.D.SectorDevice c.long_lines.ensures opening _ _ _ _ _ _ c.read_line.new.line.items c.text.result.now kept (c.text.ensures ∙ ap (strip_last 13) c.as_slice.ensures.value) c.in-Ok-true.ensures.output _ _ ran.1 ran.0 c.line.ensures.time c.fault.result
-          (was_stopped g.D.SectorDevice opening c.text.result.now ran.0 _ _ _ _ _ _ ran.1 _ _ (g.F.Lines.ending c.line.result) ran.3 c.line.ensures.terminal_failures none some),
+          (was_stopped g.D.SectorDevice opening c.text.result.now ran.0 _ _ _ _ _ _ _ _ ran.1 _ _ (g.F.Lines.ending c.line.result) ran.3 c.line.ensures.terminal_failures none some),
     )
 
 pub returns-in-Ok-clause-done : goal.returns-in-Ok-clause-done
@@ -34,7 +34,7 @@ returns-in-Ok-clause-done g c = λ opening is.
       ran.4,
       line_replied g.D.SectorDevice c.long_lines.ensures opening _ _ _ _ _ _ c.read_line.new.line.items c.text.result.now kept (c.text.ensures ∙ ap (strip_last 13) c.as_slice.ensures.value) c.in-Ok-true.ensures.output _ _ ran.1 ran.0 c.line.ensures.time
           (g.F.Lines.ending c.line.result)
-          (was_replied g.D.SectorDevice opening c.text.result.now ran.0 _ _ _ _ _ _ ran.1 _ _ (g.F.Lines.ending c.line.result) ran.3 c.line.ensures.terminal_failures none still)
+          (was_replied g.D.SectorDevice opening c.text.result.now ran.0 _ _ _ _ _ _ _ _ ran.1 _ _ (g.F.Lines.ending c.line.result) ran.3 c.line.ensures.terminal_failures none still)
           _ _ c.in-Ok.ensures.input c.in-Ok.ensures.output,
     )
 
@@ -50,6 +50,6 @@ returns-in-Err-flush-clause-err g c = λ opening is.
       ran.4,
       line_unflushed g.D.SectorDevice c.long_lines.ensures opening _ _ _ _ _ _ c.read_line.new.line.items c.text.result.now kept (c.text.ensures ∙ ap (strip_last 13) c.as_slice.ensures.value) c.in-Ok-true.ensures.output _ _ ran.1 ran.0 c.line.ensures.time
           (g.F.Lines.ending c.line.result)
-          (was_replied g.D.SectorDevice opening c.text.result.now ran.0 _ _ _ _ _ _ ran.1 _ _ (g.F.Lines.ending c.line.result) ran.3 c.line.ensures.terminal_failures none still)
+          (was_replied g.D.SectorDevice opening c.text.result.now ran.0 _ _ _ _ _ _ _ _ ran.1 _ _ (g.F.Lines.ending c.line.result) ran.3 c.line.ensures.terminal_failures none still)
           _ _ c.in-Err-flush.ensures.input c.in-Err-flush.ensures.output,
     )

@@ -5,7 +5,7 @@ use Rattle.interpreter.proofs.forth.Forth.abort.Goals as goal
 
 pub returns-clause-lined : goal.returns-clause-lined
 returns-clause-lined g c = λ d x same_core rests.
-    lined_as g.T.Terminal _ c.say.result c.args.self.now x (λ r. refl) c.abandon.ensures.spares.device c.abandon.ensures.spares.at_end refl
+    lined_as g.T.Terminal _ c.say.result c.args.self.now x (λ r. refl) c.abandon.ensures.spares.device refl
     (c.say.ensures.lined (with_empty_stack (at_rest d)) (dropped x) (c.abandon.ensures.same_core d same_core) (c.abandon.ensures.closes x rests))
 
 pub returns-clause-clears : goal.returns-clause-clears

@@ -17,7 +17,7 @@ returns-in-Ok-clause-advanced g c = λ n levels x less stands at.
     let old = c.args.self.now in
     let h = c.in-Ok.ensures.hands levels x stands in
     advanced_as n _ c.pass.result (λ r. looks_on n levels (core old) (with_run r x) less at)
-    (handed_passed n (λ s c' y. seen_round n levels s c' y) c.pass.result old _ c.pass.new.self h c.pass.ensures.spares.device c.pass.ensures.spares.at_end
+    (handed_passed n (λ s c' y. seen_round n levels s c' y) c.pass.result old _ c.pass.new.self h c.pass.ensures.spares.device
     (c.pass.ensures.passed n levels h.world (omega (arith, h.steps, less)) h.stands at))
 
 pub returns-in-Ok-clause-down : goal.returns-in-Ok-clause-down

@@ -19,7 +19,7 @@ returns-in-Ok-buffer-clause-consults g c = λ levels x stands.
     e.runs (λ m shut. refl) e.asks.failures e.asks.continues.model stands.rests in
     subst (λ (n : Forth g.row.D.Denot g.D.SectorDevice). Consulted (λ r. on_blocks Buffer (core old) (with_run r x)) (Ok tt) old n levels x) (sym c.leave.ensures.left)
     (consulted_well old (record old { stack = c.in-Ok-buffer.address ∷ c.pop.new.self; space = c.buffer.new.space; blocks = c.buffer.new.self }) c.pop.new.self c.buffer.new.space leaving c.in-Ok-buffer.address h
-    (λ r. popping-one (core old) (with_run r x) _ _ _ c.in-Ok.ensures.ok) (stands_on h stands) (omega arith) refl (λ y. refl))
+    (λ r. popping-one (core old) (with_run r x) _ _ _ c.in-Ok.ensures.ok) (stands_on h stands) (omega arith) (λ y. refl))
 
 pub returns-in-Err-buffer-clause-consults : goal.returns-in-Err-buffer-clause-consults
 returns-in-Err-buffer-clause-consults g c = λ levels x stands.
@@ -28,10 +28,10 @@ returns-in-Err-buffer-clause-consults g c = λ levels x stands.
     let h = called g.D.SectorDevice (buffer c.in-Ok.u) (Err c.in-Err-buffer.fault) (λ m. []) old.blocks c.buffer.new.self old.space c.buffer.new.space
     e.runs (λ m shut. refl) e.asks.failures e.asks.continues.model stands.rests in
     consulted_failed old _ c.pop.new.self c.buffer.new.space leaving c.in-Err-buffer.fault c.block_fault.result h
-    (λ r. popping-one (core old) (with_run r x) _ _ _ c.in-Ok.ensures.ok) (rests_on h stands.rests) (omega arith) refl refl c.block_fault.ensures.fault
+    (λ r. popping-one (core old) (with_run r x) _ _ _ c.in-Ok.ensures.ok) (rests_on h stands.rests) (omega arith) refl c.block_fault.ensures.fault
 
 pub returns-in-Err-clause-consults : goal.returns-in-Err-clause-consults
 returns-in-Err-clause-consults g c = λ levels x stands.
     let old = c.args.self.now in
-    consulted_quiet g.D.SectorDevice g.met.D.SectorDevice.only_now old _ stands refl refl
+    consulted_quiet g.D.SectorDevice g.met.D.SectorDevice.only_now old _ stands refl
     (refused _ stands (core old) refl (λ r. popping-none (core old) (with_run r x) _ c.in-Err.ensures.empty) (omega arith))

@@ -8,7 +8,7 @@ use Rattle.interpreter.proofs.forth.Forth.create.Goals as goal
 pub returns-in-Ok-clause-consults : goal.returns-in-Ok-clause-consults
 returns-in-Ok-clause-consults g c = λ levels x stands.
     let h = c.in-Ok.ensures.hands levels x stands in
-    handed_altered (λ name c x. Did c (adding name (Created x.here None) x)) h c.add_created.ensures.spares.device c.add_created.ensures.spares.at_end (c.add_created.ensures.alters levels h.world h.stands)
+    handed_altered (λ name c x. Did c (adding name (Created x.here None) x)) h c.add_created.ensures.spares.device (c.add_created.ensures.alters levels h.world h.stands)
 
 pub returns-in-Err-clause-consults : goal.returns-in-Err-clause-consults
 returns-in-Err-clause-consults g c = λ levels x stands. handed_failed (λ name c x. Did c (adding name (Created x.here None) x)) (c.in-Err.ensures.hands levels x stands)

@@ -13,7 +13,7 @@ pub returns-clause-lined : goal.returns-clause-lined
 returns-clause-lined g c = λ d x space rests.
     lined_as g.T.Terminal _ c.say.result c.args.self.now x
     (λ r. ap (λ l. replied (lines.LineEnd.Fails (fault_of c.args.fault)) (print l (with_empty_stack (at_rest d)) (with_run r (dropped x)))) (sym c.fault_text-text.ensures ∙ sym c.as_slice.ensures.value))
-    c.abandon.ensures.spares.device c.abandon.ensures.spares.at_end refl
+    c.abandon.ensures.spares.device refl
     (c.say.ensures.lined (with_empty_stack (at_rest d)) (dropped x) (c.abandon.ensures.same_core d space) (c.abandon.ensures.closes x rests))
 
 pub returns-clause-counts : goal.returns-clause-counts

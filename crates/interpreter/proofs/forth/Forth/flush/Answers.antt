@@ -12,7 +12,7 @@ returns-in-Ok-clause-consults g c = λ levels x stands.
     let e = c.in-Ok.ensures in
     let h = called g.D.SectorDevice flush (Ok tt) (λ m. save_begun m.closed (next_map (buffers_of old.blocks) old.space m) true) old.blocks c.flush.new.self old.space old.space
     e.runs (λ m shut. ap (λ t. save_begun t (next_map (buffers_of old.blocks) old.space m) true) shut) e.saves.failures e.saves.continues.model stands.rests in
-    consulted_well old _ old.stack old.space (λ v c x. Did c x) tt h (λ r. refl) (stands_on h stands) (omega arith) refl (λ y. refl)
+    consulted_well old _ old.stack old.space (λ v c x. Did c x) tt h (λ r. refl) (stands_on h stands) (omega arith) (λ y. refl)
 
 pub returns-in-Err-clause-consults : goal.returns-in-Err-clause-consults
 returns-in-Err-clause-consults g c = λ levels x stands.
@@ -20,4 +20,4 @@ returns-in-Err-clause-consults g c = λ levels x stands.
     let e = c.in-Err.ensures in
     let h = called g.D.SectorDevice flush (Err c.in-Err.fault) (λ m. save_begun m.closed (next_map (buffers_of old.blocks) old.space m) false) old.blocks c.flush.new.self old.space old.space
     e.runs (λ m shut. ap (λ t. save_begun t (next_map (buffers_of old.blocks) old.space m) false) shut) e.saves.failures e.saves.continues.model stands.rests in
-    consulted_failed old _ old.stack old.space (λ v c x. Did c x) c.in-Err.fault c.block_fault.result h (λ r. refl) (rests_on h stands.rests) (omega arith) refl refl c.block_fault.ensures.fault
+    consulted_failed old _ old.stack old.space (λ v c x. Did c x) c.in-Err.fault c.block_fault.result h (λ r. refl) (rests_on h stands.rests) (omega arith) refl c.block_fault.ensures.fault

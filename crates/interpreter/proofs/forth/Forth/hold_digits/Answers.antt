@@ -16,7 +16,6 @@ loop-rest-preserved g c =
           let h = so_far.held levels x stands in
           held_one h so_far.low c.loop-rest-test.true c.digit_char.ensures (held.alters levels h.world h.stands);
       device = held.spares.device ∙ so_far.device;
-      at_end = held.spares.at_end ∙ so_far.at_end;
       budget = held.spares.budget ∙ so_far.budget;
       stack = held.stack ∙ so_far.stack;
       low = so_far.low;

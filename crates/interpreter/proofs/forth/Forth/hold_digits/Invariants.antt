@@ -9,7 +9,6 @@ abbrev pub invariant-loop-rest : goal.invariant-loop-rest
 invariant-loop-rest g l = record {
   held : (levels : List Level) (x : World) → Stands l.fn.self levels x → Holding l.base l.number l.rest l.fn.self l.self levels x;
   device : l.self.blocks ≡ l.fn.self.blocks;
-  at_end : l.self.at_end ≡ l.fn.self.at_end;
   budget : l.self.budget ≡ l.fn.self.budget;
   stack : l.self.stack ≡ l.fn.self.stack;
   low : 2 ≤ l.base;

@@ -12,7 +12,7 @@ use Rattle.interpreter.proofs.forth.Forth.line.Goals as goal
 pub returns-then-text-gt-LINE_LIMIT-clause-lined : goal.returns-then-text-gt-LINE_LIMIT-clause-lined
 returns-then-text-gt-LINE_LIMIT-clause-lined g c = λ opening waits.
     let long : nat_le (length c.args.text.now) 1024 ≡ false = lt-leb _ _ (omega (arith, c.if-text-gt-LINE_LIMIT.true)) in
-    lined_as g.T.Terminal _ c.fail.result c.args.self.now opening.world (line_too_long opening c.args.text.now long) refl refl refl
+    lined_as g.T.Terminal _ c.fail.result c.args.self.now opening.world (line_too_long opening c.args.text.now long) refl refl
     (c.fail.ensures.lined opening.core opening.world (record { space = waits.same_core.space }) waits.rests)
 
 pub interpret-requires : goal.interpret-requires
@@ -24,7 +24,7 @@ returns-in-Ok-clause-lined g c = λ opening waits.
     let short : nat_le (length c.args.text.now) 1024 ≡ true = le-leb _ _ (omega (arith, c.if-text-gt-LINE_LIMIT.false)) in
     let opens = line_opens opening c.args.text.now c.args.self.now.budget (core c.take_line.new.self) waits.budget short (c.take_line.ensures.taken opening.core (record { stack = waits.same_core.stack; space = waits.same_core.space })) in
     let h = c.in-Ok.ensures.ran (suc c.args.self.now.budget) [] opening.world (omega (arith, c.take_line.ensures.steps)) (c.take_line.ensures.stands opening.world waits.rests) in
-    lined_as g.T.Terminal _ c.finish.result c.args.self.now opening.world (λ r. refl) c.take_line.ensures.device c.take_line.ensures.at_end refl
+    lined_as g.T.Terminal _ c.finish.result c.args.self.now opening.world (λ r. refl) c.take_line.ensures.device refl
     (over_lined g.D.SectorDevice g.T.Terminal D.counts_now D.widens D.only_now _ h opens c.in-Ok.ensures.lasts c.finish.ensures.lasts
     (c.finish.ensures.lined (core c.interpret.new.self) h.world (record { stack = refl; space = refl }) h.stands.rests))
 
@@ -35,8 +35,8 @@ returns-in-Err-Io-clause-lined g c = λ opening waits.
     let opens = line_opens opening c.args.text.now c.args.self.now.budget (core c.take_line.new.self) waits.budget short (c.take_line.ensures.taken opening.core (record { stack = waits.same_core.stack; space = waits.same_core.space })) in
     let ran = rw c.in-Err-Io.field-0-is at c.in-Err-Io.ensures.ran in
     let h = ran (suc c.args.self.now.budget) [] opening.world (omega (arith, c.take_line.ensures.steps)) (c.take_line.ensures.stands opening.world waits.rests) in
-    lined_as g.T.Terminal _ end.Io c.args.self.now opening.world (λ r. refl) c.take_line.ensures.device c.take_line.ensures.at_end refl
-    (broke_lined g.D.SectorDevice g.T.Terminal D.counts_now D.widens D.only_now _ c.abandon.new.self h opens c.abandon.ensures.spares.device c.abandon.ensures.spares.at_end
+    lined_as g.T.Terminal _ end.Io c.args.self.now opening.world (λ r. refl) c.take_line.ensures.device refl
+    (broke_lined g.D.SectorDevice g.T.Terminal D.counts_now D.widens D.only_now _ c.abandon.new.self h opens c.abandon.ensures.spares.device
     (λ d space. c.abandon.ensures.same_core d space) (c.abandon.ensures.closes h.world h.stands))
 
 pub returns-in-Err-Fault-clause-lined : goal.returns-in-Err-Fault-clause-lined
@@ -47,7 +47,7 @@ returns-in-Err-Fault-clause-lined g c = λ opening waits.
     let ran = rw c.in-Err-Fault.field-0-is at c.in-Err-Fault.ensures.ran in
     let h = ran (suc c.args.self.now.budget) [] opening.world (omega (arith, c.take_line.ensures.steps)) (c.take_line.ensures.stands opening.world waits.rests) in
     let lasts = rw c.in-Err-Fault.field-0-is at c.in-Err-Fault.ensures.lasts in
-    lined_as g.T.Terminal _ c.fail-in-Err-Fault.result c.args.self.now opening.world (λ r. refl) c.take_line.ensures.device c.take_line.ensures.at_end refl
+    lined_as g.T.Terminal _ c.fail-in-Err-Fault.result c.args.self.now opening.world (λ r. refl) c.take_line.ensures.device refl
     (ends_lined g.D.SectorDevice g.T.Terminal D.counts_now D.widens D.only_now _ (stop.Fault c.in-Err-Fault.fault) refl h opens lasts c.fail-in-Err-Fault.ensures.lasts
     (λ d like. c.fail-in-Err-Fault.ensures.lined d h.world (record { space = like }) h.stands))
 
@@ -59,7 +59,7 @@ returns-in-Err-Quit-clause-lined g c = λ opening waits.
     let ran = rw c.in-Err-Quit.field-0-is at c.in-Err-Quit.ensures.ran in
     let h = ran (suc c.args.self.now.budget) [] opening.world (omega (arith, c.take_line.ensures.steps)) (c.take_line.ensures.stands opening.world waits.rests) in
     let lasts = rw c.in-Err-Quit.field-0-is at c.in-Err-Quit.ensures.lasts in
-    lined_as g.T.Terminal _ c.quit.result c.args.self.now opening.world (λ r. refl) c.take_line.ensures.device c.take_line.ensures.at_end refl
+    lined_as g.T.Terminal _ c.quit.result c.args.self.now opening.world (λ r. refl) c.take_line.ensures.device refl
     (ends_lined g.D.SectorDevice g.T.Terminal D.counts_now D.widens D.only_now _ stop.Quit refl h opens lasts c.quit.ensures.lasts
     (λ d like. c.quit.ensures.lined d h.world (record { stack = ap (λ e. e.stack) like; space = ap (λ e. e.space) like }) h.stands))
 
@@ -71,7 +71,7 @@ returns-in-Err-Abort-clause-lined g c = λ opening waits.
     let ran = rw c.in-Err-Abort.field-0-is at c.in-Err-Abort.ensures.ran in
     let h = ran (suc c.args.self.now.budget) [] opening.world (omega (arith, c.take_line.ensures.steps)) (c.take_line.ensures.stands opening.world waits.rests) in
     let lasts = rw c.in-Err-Abort.field-0-is at c.in-Err-Abort.ensures.lasts in
-    lined_as g.T.Terminal _ c.abort.result c.args.self.now opening.world (λ r. refl) c.take_line.ensures.device c.take_line.ensures.at_end refl
+    lined_as g.T.Terminal _ c.abort.result c.args.self.now opening.world (λ r. refl) c.take_line.ensures.device refl
     (ends_lined g.D.SectorDevice g.T.Terminal D.counts_now D.widens D.only_now _ stop.Abort refl h opens lasts c.abort.ensures.lasts
     (λ d like. c.abort.ensures.lined d h.world (record { space = like }) h.stands))
 

@@ -27,7 +27,6 @@ returns-in-Ok-clause-hands g c = λ levels x stands.
       world = world h;
       stands = stands_on h stands;
       steps = omega arith;
-      at_end = refl;
       hands = λ model r go.
           from_block c.args.cut c.args.delimiter go c.args.block (core old) _ c.requires.block c.requires.loaded
           ∙ comes_of h model r (core old) (looks c.args.cut c.args.delimiter go)
@@ -49,7 +48,6 @@ returns-in-Err-clause-hands g c = λ levels x stands.
       world = world h;
       stands = rests_on h stands.rests;
       steps = omega arith;
-      at_end = refl;
       hands = λ model. (
         core old,
         refl,

@@ -1,9 +1,7 @@
-use Rattle.std.proofs.Common.{◌≡◌, refl, sym, arith, true, false, [], subst}
-use Rattle.std.specs.Io.KnownBytes.{Consumes}
-use Rattle.std.proofs.KnownBytes.{Consumes-nil}
+use Rattle.std.proofs.Common.{refl, arith}
 use Rattle.interpreter.specs.Standing.{core}
 use Rattle.interpreter.proofs.Deeds.{printing, trying}
-use Rattle.interpreter.proofs.Calls.{print-well, print-fails}
+use Rattle.interpreter.proofs.Calls.{print-well, print-fails, heard_print, heard_unprinted}
 use Rattle.interpreter.proofs.Running.{maps_same}
 use Rattle.interpreter.proofs.forth.Forth.print.Goals as goal
 
@@ -15,13 +13,7 @@ returns-in-Ok-clause-serves g c = λ levels x stands.
       stands = stands;
       steps = omega arith;
       comes = λ model r fits. print-well c.args.bytes.now (core c.args.self.now) x r;
-      heard = record {
-        given = subst (λ i. Consumes (g.T.Terminal.input c.args.terminal.now) i []) (sym c.in-Ok.ensures.input) (Consumes-nil _);
-        at_end = λ was no. absurd (let e : false ≡ true = no in cc);
-        met = refl;
-        no_more = λ h. (refl, c.in-Ok.ensures.input);
-        printed = c.in-Ok.ensures.ok;
-      };
+      heard = heard_print g.T.Terminal c.args.bytes.now c.in-Ok.ensures.input c.in-Ok.ensures.ok c.in-Ok.ensures.counted;
       cause = refl;
       keeps = λ model. maps_same g.D.SectorDevice g.met.D.SectorDevice.only_now _ x.maps (stands.rests.maps model);
     }
@@ -34,13 +26,7 @@ returns-in-Err-clause-serves g c = λ levels x stands.
       stands = stands.rests;
       steps = omega arith;
       comes = λ model. print-fails c.args.bytes.now (core c.args.self.now) x;
-      heard = record {
-        given = subst (λ i. Consumes (g.T.Terminal.input c.args.terminal.now) i []) (sym c.in-Err.ensures.input) (Consumes-nil _);
-        at_end = λ was no. absurd (let e : false ≡ true = no in cc);
-        met = refl;
-        no_more = λ h. (refl, c.in-Err.ensures.input);
-        printed = c.in-Err.ensures.err;
-      };
+      heard = heard_unprinted g.T.Terminal c.args.bytes.now c.in-Err.ensures.input c.in-Err.ensures.err c.in-Err.ensures.counted;
       cause = refl;
       keeps = λ model. maps_same g.D.SectorDevice g.met.D.SectorDevice.only_now _ x.maps (stands.rests.maps model);
     }

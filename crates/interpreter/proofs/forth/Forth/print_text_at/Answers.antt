@@ -7,5 +7,5 @@ use Rattle.interpreter.proofs.forth.Forth.print_text_at.Goals as goal
 
 pub returns-clause-serves : goal.returns-clause-serves
 returns-clause-serves g c = λ s at levels x stands.
-    ran_as g.T.Terminal _ c.args.self.now (λ r. ap (λ t. print t (core c.args.self.now) (with_run r x)) (sym (c.split_at.ensures.front ∙ c.text-count.ensures.bytes s at))) (omega arith) refl refl
+    ran_as g.T.Terminal _ c.args.self.now (λ r. ap (λ t. print t (core c.args.self.now) (with_run r x)) (sym (c.split_at.ensures.front ∙ c.text-count.ensures.bytes s at))) (omega arith) refl
     (c.print.ensures.serves levels x stands)

@@ -50,7 +50,7 @@ returns-in-Some-clause-serves g c = λ levels x stands.
     ∙ needing-yes (fits a u) Address (record (core old) { stack = mid.stack; steps = old.steps - u }) (with_run r x) _ within
     ∙ (λ t. print (bytes_at (sym rest t).space a u) (record (core (sym rest t)) { steps = (sym rest t).steps - sym is t }) (with_run r x))
     ∙ ap (λ l. print l (core paid) (with_run r x)) (sym c.in-Some.ensures.value))
-    (omega (arith, steps)) (blocks_popped old mid rest) (ap (λ (f : Forth g.row.D.Denot g.D.SectorDevice). f.at_end) rest)
+    (omega (arith, steps)) (blocks_popped old mid rest)
     (c.print.ensures.serves levels x (stands_popped old mid rest stands))
 
 pub returns-in-None-clause-serves : goal.returns-in-None-clause-serves

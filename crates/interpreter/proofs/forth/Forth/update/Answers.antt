@@ -15,7 +15,7 @@ returns-in-Ok-clause-consults g c = λ levels x stands.
     let count = ap (λ (s : Store g.row.D.Denot g.D.SectorDevice). g.D.SectorDevice.failures (device_of s)) e.store in
     let h = called g.D.SectorDevice update (Ok tt) (λ m. []) old.blocks c.update.new.self old.space old.space
     (λ m stands. e.runs m old.space stands) (λ m shut. refl) count model stands.rests in
-    consulted_well old _ old.stack old.space (λ v c x. Did c x) tt h (λ r. refl) (stands_on h stands) (omega arith) refl (λ y. refl)
+    consulted_well old _ old.stack old.space (λ v c x. Did c x) tt h (λ r. refl) (stands_on h stands) (omega arith) (λ y. refl)
 
 pub returns-in-Err-clause-consults : goal.returns-in-Err-clause-consults
 returns-in-Err-clause-consults g c = λ levels x stands.
@@ -26,4 +26,4 @@ returns-in-Err-clause-consults g c = λ levels x stands.
     let count = ap (λ (s : Store g.row.D.Denot g.D.SectorDevice). g.D.SectorDevice.failures (device_of s)) e.store in
     let h = called g.D.SectorDevice update (Err c.in-Err.fault) (λ m. []) old.blocks c.update.new.self old.space old.space
     (λ m stands. e.runs m old.space stands) (λ m shut. refl) (tells_none (Unit {0}) c.in-Err.fault _ _ other count) model stands.rests in
-    consulted_failed old _ old.stack old.space (λ v c x. Did c x) c.in-Err.fault c.block_fault.result h (λ r. refl) (rests_on h stands.rests) (omega arith) refl refl c.block_fault.ensures.fault
+    consulted_failed old _ old.stack old.space (λ v c x. Did c x) c.in-Err.fault c.block_fault.result h (λ r. refl) (rests_on h stands.rests) (omega arith) refl c.block_fault.ensures.fault

@@ -5,7 +5,7 @@ use Rattle.interpreter.proofs.forth.Forth.variable.Goals as goal
 pub returns-in-Ok-clause-consults : goal.returns-in-Ok-clause-consults
 returns-in-Ok-clause-consults g c = λ levels x stands.
     let h = c.in-Ok.ensures.hands levels x stands in
-    handed_altered (λ name c x. variable name c x) h c.add_variable.ensures.spares.device c.add_variable.ensures.spares.at_end (c.add_variable.ensures.alters levels h.world h.stands)
+    handed_altered (λ name c x. variable name c x) h c.add_variable.ensures.spares.device (c.add_variable.ensures.alters levels h.world h.stands)
 
 pub returns-in-Err-clause-consults : goal.returns-in-Err-clause-consults
 returns-in-Err-clause-consults g c = λ levels x stands. handed_failed (λ name c x. variable name c x) (c.in-Err.ensures.hands levels x stands)

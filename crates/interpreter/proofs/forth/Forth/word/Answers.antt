@@ -28,19 +28,19 @@ returns-in-Ok-take_word-clause-consults g c = λ levels x stands.
     let old = c.args.self.now in
     let h = c.in-Ok-take_word.ensures.hands levels x stands in
     consulted_as (λ r. on_parse ParseWord (core old) (with_run r x)) old
-    (λ r. popping-one (core old) (with_run r x) _ _ _ c.in-Ok.ensures.ok) (omega arith) refl refl
-    (handed_altered built h c.build_word.ensures.spares.device c.build_word.ensures.spares.at_end (c.build_word.ensures.alters levels h.world h.stands))
+    (λ r. popping-one (core old) (with_run r x) _ _ _ c.in-Ok.ensures.ok) (omega arith) refl
+    (handed_altered built h c.build_word.ensures.spares.device (c.build_word.ensures.alters levels h.world h.stands))
 
 pub returns-in-Err-take_word-clause-consults : goal.returns-in-Err-take_word-clause-consults
 returns-in-Err-take_word-clause-consults g c = λ levels x stands.
     let old = c.args.self.now in
     consulted_as (λ r. on_parse ParseWord (core old) (with_run r x)) old
-    (λ r. popping-one (core old) (with_run r x) _ _ _ c.in-Ok.ensures.ok) (omega arith) refl refl
+    (λ r. popping-one (core old) (with_run r x) _ _ _ c.in-Ok.ensures.ok) (omega arith) refl
     (handed_failed built (c.in-Err-take_word.ensures.hands levels x stands))
 
 pub returns-in-Err-clause-consults : goal.returns-in-Err-clause-consults
 returns-in-Err-clause-consults g c = λ levels x stands.
     let old = c.args.self.now in
     let mid = record old { stack = c.pop.new.self } in
-    consulted_quiet g.D.SectorDevice g.met.D.SectorDevice.only_now old mid stands refl refl
+    consulted_quiet g.D.SectorDevice g.met.D.SectorDevice.only_now old mid stands refl
     (refused mid stands (core old) refl (λ r. popping-none (core old) (with_run r x) _ c.in-Err.ensures.empty) (omega arith))
