@@ -1,6 +1,6 @@
 #!/bin/sh
 # Makes forth83-VERSION-x86_64-linux.tar.gz of the program as it is built, with its manual page, completions, examples, library and pages, and
-# prints its SHA-256. The same files give the same bytes at each making. The version stands in the head of share/man/man1/forth83.1.
+# prints its SHA-256. The same files give the same bytes at each making. The version is what the program tells, and the manual page has to say the same.
 # usage: ./dist.sh [FOLDER]          FOLDER is the current one where none is given
 set -eu
 folder=${1:-.}
@@ -12,8 +12,10 @@ folder=$(cd "$folder" && pwd)
 cd "$(dirname "$0")"
 program=crates/forth83/out/forth83
 [ -x "$program" ] || { echo "dist.sh: $program is not built: see README.md, \"Build it\"" >&2; exit 1; }
-version=$(sed -n 's/^\.TH FORTH83 1 "[^"]*" "forth83 \([0-9.]*\)".*/\1/p' share/man/man1/forth83.1)
-[ -n "$version" ] || { echo 'dist.sh: share/man/man1/forth83.1 has no version' >&2; exit 1; }
+version=$("$program" --version)
+version=${version#forth83 }
+grep -q "^\.TH FORTH83 1 .* \"forth83 $version\"" share/man/man1/forth83.1 ||
+    { echo "dist.sh: share/man/man1/forth83.1 is of another version than $version" >&2; exit 1; }
 name=forth83-$version-x86_64-linux
 tree=$(mktemp -d)
 trap 'rm -rf "$tree"' EXIT

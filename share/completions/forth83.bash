@@ -2,7 +2,7 @@
 _forth83() {
     local word=${COMP_WORDS[COMP_CWORD]}
     if [ "$COMP_CWORD" -eq 1 ]; then
-        COMPREPLY=($(compgen -W 'new run list put upgrade help --help -h' -- "$word"))
+        COMPREPLY=($(compgen -W 'new run list put upgrade help --help -h --version -V' -- "$word"))
         return
     fi
     case ${COMP_WORDS[1]},$word in

@@ -3,10 +3,10 @@ ghost use Rattle.std.specs.Prelude.{◌<◌};
 
 use super::streams::{Ended, Failing, Fitful, Listener, Narrow, Patient};
 use super::support::run;
+use sessions::{RunFault, laws};
 use std::cell::Cell;
 use std::process::Abort;
 use std::test::Fail;
-use terminal::{RunFault, laws};
 
 /// Runs the input through a new system, and compares what was written.
 fn check(

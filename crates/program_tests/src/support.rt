@@ -4,13 +4,13 @@ ghost use Rattle.std.specs.Prelude.{◌<◌};
 use interpreter::Forth;
 use recovery::format;
 use sector_disk::{FileDisk, MemoryDisk};
+use sessions::{RunFault, run_over};
 use std::fs::File;
 use std::io::{Read, Write};
 use std::process::Abort;
 use std::rt::Files;
 use std::test::Fail;
 use std::{fs, io};
-use terminal::{RunFault, run_over};
 
 /// What a call of the program left.
 #[derive(Debug, Drop)]

@@ -4,8 +4,8 @@ use Rattle.journal.specs.Maps.{fresh}
 use Rattle.block_words.specs.Words.{Answer, Wear}
 use Rattle.interpreter.specs.State.{Forth}
 use Rattle.interpreter.specs.Lines.{new_forth}
-use Rattle.terminal.specs.Sessions.{output_of, wear_of}
-use Rattle.terminal.specs.Playing.{Played, session}
+use Rattle.sessions.specs.Sessions.{output_of, wear_of}
+use Rattle.sessions.specs.Playing.{Played, session}
 
 -- a line and its reply, both without the byte 10 at their end
 pub record Exchange : Type 0 where

@@ -2,8 +2,8 @@
 use Rattle.std.specs.Prelude.{◌≡◌, true, false, List, [], ◌∷◌, codes, map, replicate, refl}
 use Rattle.number_io.specs.Writing.{divided, digits_of}
 use Rattle.block_words.specs.Words.{Well, Failed}
-use Rattle.terminal.specs.Sessions.{saves_of}
-use Rattle.terminal.specs.Playing.{session}
+use Rattle.sessions.specs.Sessions.{saves_of}
+use Rattle.sessions.specs.Playing.{session}
 use Rattle.rows.specs.Playing.{Exchange, ◌⇒◌, asked_lines, Replies, Plays, image, over, saved_after}
 
 -- the least recently used buffer is used again

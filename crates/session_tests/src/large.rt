@@ -1,8 +1,8 @@
 // The largest image: each of its blocks is written and saved, four at a time, and read back.
 use disk_tests::support::{block, formatted_with, opened};
 use interpreter::Forth;
+use sessions::run_over;
 use std::test::Fail;
-use terminal::run_over;
 
 /// Each block is filled with a byte and gets its number at its beginning.
 const LINES: &[u8] = b"\

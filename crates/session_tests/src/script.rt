@@ -3,9 +3,9 @@ use disk_tests::support::{block, check, formatted, opened};
 use interpreter::Forth;
 use journal::Store;
 use sector_disk::{MemoryDisk, SectorDevice};
+use sessions::{RunFault, run_over};
 use std::io::{Read, Write};
 use std::test::Fail;
-use terminal::{RunFault, run_over};
 
 /// Edits, evictions, saves and loads. `65 1 FILLED` fills block 1 with bytes 65 and then prints `1A`; a save prints `(` before
 /// it begins and `)` when it has returned. Block 9 holds `LOADED`. Each line is followed by one that shows what no line leaves.

@@ -1,10 +1,10 @@
 // Readers and writers that fail at each of their calls, or end in the middle of a line.
 use crate::script::{LINES, REPLIES, found, heard, image, play};
 use disk_tests::support::{formatted, opened};
+use sessions::RunFault;
 use std::io;
 use std::io::{Error, ErrorKind, Read, Write};
 use std::test::Fail;
-use terminal::RunFault;
 
 /// Gives a byte at each second call and is interrupted at the others. Where the bytes end, it ends or fails.
 #[derive(Drop)]

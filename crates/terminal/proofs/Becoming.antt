@@ -13,7 +13,8 @@ use Rattle.recovery.specs.Formatted.{MakingLeaves}
 use Rattle.recovery.specs.Label.{blocks_in}
 use Rattle.recovery.specs.Upgraded.{OldLeaves}
 use Rattle.interpreter.specs.Lines.{new_forth}
-use Rattle.terminal.specs.Done.{Becomes, Comes, LeavesBlocks, ListsBlock, PutsBlock, RunsFrom, RunsSession, Upgrades, blocks_on, maps_on}
+use Rattle.terminal.specs.Done.{Comes, LeavesBlocks, ListsBlock, PutsBlock, RunsFrom, RunsSession, Upgrades, blocks_on, maps_on}
+use Rattle.sessions.specs.Devices.{Becomes}
 use Rattle.terminal.specs.Files.{OpensAs}
 use Rattle.terminal.specs.Putting.{PutsSome}
 use Rattle.terminal.specs.Screen.{listing}

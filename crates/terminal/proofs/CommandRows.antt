@@ -30,4 +30,6 @@ commands_are_read = record {
   no_new_image = refl;
   unknown = refl;
   help = refl;
+  version = refl;
+  version_of_a_command = refl;
 }

@@ -8,7 +8,7 @@ use Rattle.std.specs.Io.KnownBytes.{Consumes, IsAtEnd}
 use Rattle.std.specs.Prelude.{slice_index}
 use Rattle.std.specs.Io.BufRead.{strip_last, ends_with_byte}
 use Rattle.number_io.specs.Taking.{up_to, from, after_text}
-use Rattle.terminal.specs.Cut.{blank_for_tab, line_text}
+use Rattle.sessions.specs.Cut.{blank_for_tab, line_text}
 use Rattle.terminal.specs.Screen.{longer, lines_of, texts_of, row, rows, screen_of, shown, printed}
 
 longer_cut : (b : ℕ) (bytes : List ℕ) → longer b (lines_of bytes) ≡ (b ∷ up_to 10 bytes) ∷ lines_of (drop 1 (from 10 bytes))

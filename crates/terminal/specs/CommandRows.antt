@@ -56,3 +56,5 @@ pub record CommandsAreRead : Type 0 where
   pub no_new_image : refused (codes "upgrade" ∷ codes "A" ∷ []) ≡ kind.MissingRequiredArgument ∷ []
   pub unknown : refused (codes "--steps" ∷ codes "5" ∷ []) ≡ kind.UnknownArgument ∷ []
   pub help : refused (codes "--help" ∷ []) ≡ kind.DisplayHelp ∷ []
+  pub version : refused (codes "--version" ∷ []) ≡ kind.DisplayVersion ∷ []
+  pub version_of_a_command : refused (codes "list" ∷ codes "--version" ∷ []) ≡ kind.UnknownArgument ∷ []

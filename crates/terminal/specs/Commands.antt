@@ -4,8 +4,8 @@ use Rattle.std.specs.Str.Parse.{IsNumeral, digits_value, without_leading_plus}
 use Rattle.clap.specs.Words.{App, Row, Rule, Text, first_of, new_app, new_rule, one_of, subcommand_of, with_rule, with_subcommand}
 use Rattle.clap.specs.declared.builder.action.ArgAction.TheVariants.{Set}
 use Rattle.clap.specs.declared.builder.value_parser.ValueParser.TheVariants as vp
-use Rattle.terminal.specs.declared.words.Order.{Order}
-use Rattle.terminal.specs.declared.words.Order.TheVariants.{Memory, New, Run, List as ListBlock, Put, Upgrade}
+use Rattle.terminal.specs.declared.orders.Order.{Order}
+use Rattle.terminal.specs.declared.orders.Order.TheVariants.{Memory, New, Run, List as ListBlock, Put, Upgrade}
 
 -- an argument that has to be there
 abbrev pub wanted : Text → Rule
@@ -57,10 +57,14 @@ put_app = with_rule (with_rule (with_rule (new_app (codes "put")) image) block) 
 abbrev pub upgrade_app : App
 upgrade_app = with_rule (with_rule (new_app (codes "upgrade")) old_image) new_image
 
+-- a program that tells its version
+abbrev pub with_version : App → App
+with_version app = record app { top = record app.top { has_version = true } }
+
 -- the program with its five commands
 abbrev pub forth83 : App
 forth83 =
-    with_subcommand (with_subcommand (with_subcommand (with_subcommand (with_subcommand (new_app (codes "forth83")) new_app_of.top) run_app.top) list_app.top) put_app.top) upgrade_app.top
+    with_subcommand (with_subcommand (with_subcommand (with_subcommand (with_subcommand (with_version (new_app (codes "forth83"))) new_app_of.top) run_app.top) list_app.top) put_app.top) upgrade_app.top
 
 -- the text that was given under this id
 abbrev pub HasText : List Row → Text → Text → Type 0

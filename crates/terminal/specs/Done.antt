@@ -3,7 +3,6 @@ use Rattle.std.specs.Prelude.{◌≡◌, ◌⊎◌, ◌+◌, ◌*◌, ◌<◌, �
 use Rattle.std.specs.Io.KnownBytes.{Appends}
 use Rattle.clap.specs.Words.{Text}
 use Rattle.sector_disk.specs.Disk.{Image, MayLeave}
-use Rattle.sector_disk.specs.Moments.{Elapses}
 use Rattle.sector_disk.specs.declared.device.SectorDevice.{Ghosts}
 use Rattle.journal.specs.Calls.{BeginsAtMost, ReadsAtMost, StopsLeave}
 use Rattle.journal.specs.Images.{Means, meaning}
@@ -17,19 +16,14 @@ use Rattle.recovery.specs.Upgraded.{OldLeaves}
 use Rattle.interpreter.specs.State.{Forth}
 use Rattle.interpreter.specs.Lines.{new_forth}
 use Rattle.interpreter.specs.Promise.{Keeps}
-use Rattle.terminal.specs.declared.words.Order.{Order}
-use Rattle.terminal.specs.declared.words.Order.TheVariants.{Memory, New, Run, List as ListBlock, Put, Upgrade}
+use Rattle.terminal.specs.declared.orders.Order.{Order}
+use Rattle.terminal.specs.declared.orders.Order.TheVariants.{Memory, New, Run, List as ListBlock, Put, Upgrade}
 use Rattle.terminal.specs.Commands.{IsOrderOf}
 use Rattle.terminal.specs.Screen.{listing, screen_of}
-use Rattle.terminal.specs.Sessions.{Completes}
+use Rattle.sessions.specs.Devices.{Becomes}
+use Rattle.sessions.specs.Sessions.{Completes}
 
 module _ {D : Type 0} (G : Ghosts D) where
-  -- The new device is the old one later: the same model, time gone on, and no fewer failures.
-  pub record Becomes (old new : D) : Type 0 where
-    pub model : G.keeps_model new ≡ G.keeps_model old
-    pub time : Elapses G.time G.left_since old new
-    pub failures : G.failures old ≤ G.failures new
-
   -- A stop now leaves these blocks.
   abbrev pub LeavesBlocks : D → List (List ℕ) → Type 0
   LeavesBlocks device blocks = (image : Image) → MayLeave (G.disk device) image → Means blocks image
@@ -49,7 +43,7 @@ module _ {D : Type 0} (G : Ghosts D) where
   -- A recovery of the image on the device. A stop at any moment of it leaves an image that follows one which could be left
   -- before, and no more writes, syncs and reads are begun than this image asks for.
   pub record Recovers (device begun : D) : Type 0 where
-    pub goes : Becomes device begun
+    pub goes : Becomes G device begun
     pub stops : IsTrue (G.keeps_model device) → StopsLeave G device begun (RecoveryLeaves (blocks_on device) (G.disk device))
     pub begins : IsTrue (G.keeps_model device)
         → BeginsAtMost G device begun (writes_for (blocks_on device) (G.disk device).content) (syncs_for (G.disk device).content)
@@ -58,7 +52,7 @@ module _ {D : Type 0} (G : Ghosts D) where
 
   -- `new`: the device was formatted, and has become an image of n blank blocks.
   pub record MakesBlank (n : ℕ) (device after : D) : Type 0 where
-    pub goes : Becomes device after
+    pub goes : Becomes G device after
     pub stops : IsTrue (G.keeps_model device) → StopsLeave G device after (FormatLeaves n (G.disk device))
     pub blank : IsTrue (G.keeps_model device) → LeavesBlocks after (blank_blocks n)
     pub begins : BeginsAtMost G device after (2 * n + 4) 4
@@ -77,7 +71,7 @@ module _ {D : Type 0} (G : Ghosts D) where
   pub record RunsSession (steps : ℕ) (left left' written written' : Option (List ℕ)) (device after : D) : Type 0 where
     pub begun : D
     pub recovers : Recovers device begun
-    pub goes : Becomes begun after
+    pub goes : Becomes G begun after
     pub runs : IsTrue (G.keeps_model device)
         → RunsFrom (new_forth steps (maps_on device)) left left' written written' begun after
 
@@ -86,7 +80,7 @@ module _ {D : Type 0} (G : Ghosts D) where
   pub record ListsBlock (b : ℕ) (written written' : Option (List ℕ)) (device after : D) : Type 0 where
     pub begun : D
     pub recovers : Recovers device begun
-    pub goes : Becomes begun after
+    pub goes : Becomes G begun after
     pub there : b < blocks_on device
     pub listed : IsTrue (G.keeps_model device) → Appends written written' (listing (contents (maps_on device) b))
     pub stops : IsTrue (G.keeps_model device) → StopsLeave G begun after (Means (meant_by device))
@@ -108,7 +102,7 @@ module _ {D : Type 0} (G : Ghosts D) where
   pub record PutsBlock (b : ℕ) (device after : D) : Type 0 where
     pub begun : D
     pub recovers : Recovers device begun
-    pub goes : Becomes begun after
+    pub goes : Becomes G begun after
     pub there : b < blocks_on device
     pub saves : IsTrue (G.keeps_model device) → SavesText (maps_on device) b begun after
     pub begins : BeginsAtMost G begun after 7 4
@@ -117,9 +111,9 @@ module _ {D : Type 0} (G : Ghosts D) where
   -- `upgrade`: the one device has become an image of the blocks that the image of layout 1 on the other means. That one was
   -- recovered, and means the same.
   pub record Upgrades (source source' device after : D) : Type 0 where
-    pub reads : Becomes source source'
+    pub reads : Becomes G source source'
     pub old : IsTrue (G.keeps_model source) → StopsLeave G source source' (OldLeaves (blocks_on source) (G.disk source))
-    pub goes : Becomes device after
+    pub goes : Becomes G device after
     pub stops : IsTrue (G.keeps_model source) → IsTrue (G.keeps_model device)
         → StopsLeave G device after (MakingLeaves (blocks_on source) (meant_by source) (G.disk device))
     pub new : IsTrue (G.keeps_model source) → IsTrue (G.keeps_model device) → LeavesBlocks after (meant_by source)

@@ -9,8 +9,8 @@ use Rattle.recovery.specs.declared.fault.UpgradeFault.{UpgradeFault}
 use Rattle.recovery.specs.declared.fault.UpgradeFault.TheVariants.{Old, New}
 use Rattle.terminal.specs.declared.failure.Failure.{Failure}
 use Rattle.terminal.specs.declared.failure.Failure.TheVariants.{BadSize, NoLabel, OtherVersion, WrongCount, Damaged, Device, Exists, CannotOpen, InUse, NoBlock, CannotRead, NotAScreen, CannotWrite, NoMemory}
-use Rattle.terminal.specs.declared.run_fault.RunFault.{RunFault}
-use Rattle.terminal.specs.declared.run_fault.RunFault.TheVariants.{Read, Write}
+use Rattle.sessions.specs.declared.run_fault.RunFault.{RunFault}
+use Rattle.sessions.specs.declared.run_fault.RunFault.TheVariants.{Read, Write}
 
 -- 3 where it lies with the image, 4 with input or output, 5 with memory
 abbrev pub status_of : Failure → ℕ

@@ -9,11 +9,11 @@ use Rattle.recovery.specs.Formatted.{blank_blocks}
 use Rattle.block_words.specs.Words.{Save}
 use Rattle.interpreter.specs.State.{Forth}
 use Rattle.interpreter.specs.Lines.{new_forth}
-use Rattle.terminal.specs.declared.words.Order.{Order}
-use Rattle.terminal.specs.declared.words.Order.TheVariants.{Memory}
-use Rattle.terminal.specs.declared.run_fault.RunFault.{RunFault}
+use Rattle.terminal.specs.declared.orders.Order.{Order}
+use Rattle.terminal.specs.declared.orders.Order.TheVariants.{Memory}
+use Rattle.sessions.specs.declared.run_fault.RunFault.{RunFault}
 use Rattle.terminal.specs.Commands.{forth83}
-use Rattle.terminal.specs.Sessions.{Completes, BreaksOff}
+use Rattle.sessions.specs.Sessions.{Completes, BreaksOff}
 
 -- the words are no command, and nothing in them is refused
 abbrev pub AsksForNothing : List Text → Type 0

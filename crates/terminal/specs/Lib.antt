@@ -1,14 +1,8 @@
-pub mod Cut
-pub mod Calls
-pub mod Sessions
-pub mod Playing
-pub mod Streams
 pub mod Screen
 pub mod Commands
 pub mod CommandRows
 pub mod InMemory
 pub mod Failures
-pub mod Held
 pub mod Done
 pub mod Files
 pub mod Putting

@@ -1,6 +1,6 @@
 -- A block as the lines of a screen: 16 rows of 64 bytes.
 use Rattle.std.specs.Prelude.{ℕ, zero, suc, ◌-◌, ◌==◌, ◌&&◌, nat_le, if◌then◌else◌, List, [], ◌∷◌, ◌++◌, length, map, replicate, take, drop, Option, Some, None, option_map}
-use Rattle.terminal.specs.Cut.{line_text}
+use Rattle.sessions.specs.Cut.{line_text}
 
 -- the byte is put before the first line
 abbrev pub longer : ℕ → List (List ℕ) → List (List ℕ)

@@ -2,10 +2,10 @@
 ghost use Rattle.std.specs.Prelude.{◌≡◌, ◌≤◌};
 ghost use Rattle.terminal.specs.Failures.{status_of, of_image, of_upgrade, of_file, of_store, of_run};
 
-use super::run_fault::RunFault;
 use journal::StoreFault;
 use recovery::{OpenFault, UpgradeFault};
 use sector_disk::FileFault;
+use sessions::RunFault;
 use thiserror::Error;
 
 /// Why the program didn't do what it was asked. Its text is what the user reads.

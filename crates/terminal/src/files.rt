@@ -8,7 +8,7 @@ ghost use Rattle.terminal.specs.Putting.{LeavesSome, PutsSome};
 
 use super::failure::Failure;
 use super::images::{list_block, make_over, open_over, put_text};
-use super::program::serve;
+use super::program::run_session;
 use interpreter::promise::Lines;
 use journal::Store;
 use journal::layout::MOST_BLOCKS_1;
@@ -73,7 +73,7 @@ pub fn run_image<H: HostFile + Drop, O: HostFiles<H>, F: Lines<SectorFile<H>>, R
         (W.contents output.old) (W.contents output.new)) (device_of store)) }
 {
     let store = open_image(files, path)?;
-    serve::<SectorFile<H>, F, R, W>(alloc, store, steps, input, output)
+    run_session::<SectorFile<H>, F, R, W>(alloc, store, steps, input, output)
 }
 
 /// Prints a block of an image. Nothing is written to the image, but by its recovery.

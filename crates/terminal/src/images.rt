@@ -21,12 +21,12 @@ ghost use Rattle.terminal.specs.Screen.{screen_of, listing};
 
 use super::failure::Failure;
 use super::screen::{BLOCK, listing, screen_of};
-use super::streams::{flush, read_byte, write_bytes};
 use arrayvec::ArrayVec;
 use interpreter::IoFault;
 use journal::{Store, StoreFault};
 use recovery::{format, open};
 use sector_disk::SectorDevice;
+use sessions::streams::{flush, read_byte, write_bytes};
 use std::io::{Read, Write};
 
 /// One byte more than the longest text of a screen: each of its 16 lines has 64 bytes, a carriage return and a line feed.

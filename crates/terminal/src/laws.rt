@@ -1,25 +1,6 @@
 //! Laws over the definitions alone.
 
 ghost use Rattle.terminal.specs.CommandRows.{CommandsAreRead};
-ghost use Rattle.terminal.specs.Playing.{PlayedIsSession};
-ghost use Rattle.terminal.specs.Sessions.{HasOneSession, ToldInAll};
-
-use sector_disk::SectorDevice;
-
-/// A session that is computed is a session.
-pub fn played()
-    ensures { PlayedIsSession }
-{}
-
-/// An input has at most one session without `DEVICE` and `MEMORY`, and so at most one output.
-pub fn one_session()
-    ensures { HasOneSession }
-{}
-
-/// What a session tells line by line, of failures and calls of the device, it tells in all.
-pub fn told_in_all<D: SectorDevice>()
-    ensures { ToldInAll D.SectorDevice }
-{}
 
 /// Worked command lines are read, or refused, as they should be.
 pub fn commands_are_read()

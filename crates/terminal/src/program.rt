@@ -6,25 +6,26 @@ ghost use Rattle.journal.specs.Store.{StandsFor, device_of};
 ghost use Rattle.block_words.specs.Words.{Save};
 ghost use Rattle.interpreter.specs.State.{Forth as Abstract};
 ghost use Rattle.interpreter.specs.Lines.{new_forth};
-ghost use Rattle.terminal.specs.declared.run_fault.RunFault.{RunFault as AbstractFault};
+ghost use Rattle.sessions.specs.declared.run_fault.RunFault.{RunFault as AbstractFault};
 ghost use Rattle.terminal.specs.Commands.{IsInRange, forth83};
-ghost use Rattle.terminal.specs.Done.{Becomes, IsDone, OrderIsDone, RunsFrom};
+ghost use Rattle.terminal.specs.Done.{IsDone, OrderIsDone, RunsFrom};
+ghost use Rattle.sessions.specs.Devices.{Becomes};
 ghost use Rattle.terminal.specs.Failures.{status_of};
 ghost use Rattle.terminal.specs.Files.{IsMade, IsOpened};
 ghost use Rattle.terminal.specs.InMemory.{AsksForNothing, IsForMemory, CompletesInMemory, BreaksInMemory, IsHelp};
-ghost use Rattle.terminal.specs.Sessions.{BreaksOff};
+ghost use Rattle.sessions.specs.Sessions.{BreaksOff};
 
 use super::failure::Failure;
 use super::files::{list_image, make_image, put_into_image, run_image, upgrade_image};
+use super::orders::Order;
 use super::reading::order;
-use super::serving::run_over;
-use super::words::Order;
 use clap::Error;
 use clap::error::ErrorKind;
 use interpreter::promise::Lines;
 use journal::Store;
 use recovery::format;
 use sector_disk::{FileDisk, HostFile, HostFiles, MemoryDisk, SectorDevice, SectorFile, StdFiles};
+use sessions::run_over;
 use std::alloc::Global;
 use std::convert::AsStr;
 use std::fs::{File, Files};
@@ -162,7 +163,7 @@ fn run_in_memory<M: Lines<MemoryDisk>, R: Read, W: Write>(
 {
     match MemoryDisk::new(rt.alloc(), 3 + 4 * BLOCKS as u32) {
         Ok(disk) => match format(disk, BLOCKS) {
-            Ok(store) => closed(serve::<MemoryDisk, M, R, W>(
+            Ok(store) => closed(run_session::<MemoryDisk, M, R, W>(
                 rt.alloc(),
                 store,
                 STEPS,
@@ -176,7 +177,7 @@ fn run_in_memory<M: Lines<MemoryDisk>, R: Read, W: Write>(
 }
 
 /// Runs the input over a store, and gives the store back: what was changed and not saved is given up.
-pub(crate) fn serve<D: SectorDevice + Drop, F: Lines<D>, R: Read, W: Write>(
+pub(crate) fn run_session<D: SectorDevice + Drop, F: Lines<D>, R: Read, W: Write>(
     alloc: Global,
     store: Store<D>,
     steps: u32,

@@ -4,10 +4,13 @@ ghost use Rattle.clap.specs.Words.{FailsBy, app_of, fault_of, found_of, rows_of,
 ghost use Rattle.clap.specs.declared.builder.command.Command.TheViews.{out-Command};
 ghost use Rattle.terminal.specs.Commands.{image, old_image, new_image, block, file, blocks, steps, new_app_of, run_app, list_app, put_app, upgrade_app, forth83, HasNumber, Orders, IsOrderOf, IsInRange};
 
-use super::words::Order;
+use super::orders::Order;
 use clap::{Arg, ArgAction, ArgMatches, Command, Error};
 use std::alloc::{AllocError, Global};
 use std::convert::AsStr;
+
+/// What `--version` prints beside the name.
+const VERSION: &str = "0.1.0";
 
 /// The command that the words give, of which the first is the name of the program. What they can't mean is refused with a
 /// text for the user, and so are `help` and `--help`, whose text is the help.
@@ -217,6 +220,7 @@ fn forth83<'a>(alloc: Global) -> Result<Command<'a>, AllocError>
 {
     Command::new(alloc, "forth83")
         .about("A Forth-83 system whose blocks a loss of power can't tear")
+        .version(VERSION)
         .after_help(
             "Without a command, the lines of standard input are run over 32 blocks in memory, and nothing is kept.",
         )

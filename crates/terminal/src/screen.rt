@@ -1,12 +1,12 @@
 //! A block as the lines of a screen.
 ghost use Rattle.std.specs.Prelude.{◌≡◌, ◌≤◌, ◌<◌, ◌-◌, ◌+◌, ◌++◌, ◌∷◌, [], ℕ, suc, length, map, replicate, None, option_map, IfSome, IfNone, OnSome};
 ghost use Rattle.arrayvec.specs.ArrayVec.{array_vec_len};
-ghost use Rattle.terminal.specs.Cut.{blank_for_tab};
+ghost use Rattle.sessions.specs.Cut.{blank_for_tab};
 ghost use Rattle.terminal.specs.Screen.{screen_of, rows, texts_of, row, shown, listing};
 
-use super::cut::{blank_for_tab, text};
 use arrayvec::ArrayVec;
 use number_io::take_text;
+use sessions::cut::{blank_for_tab, text};
 
 /// Rows of a screen.
 const ROWS: usize = 16;

@@ -1,10 +1,10 @@
 //! The program as it is started: its words, its streams, its status.
 ghost use Rattle.std.specs.Prelude.{◌↔◌, ◌≤ℤ◌, pos, IsTrue};
 
-use super::byte_reader::ByteReader;
 use super::program::command;
 use interpreter::promise::Lines;
 use sector_disk::{FileDisk, MemoryDisk};
+use sessions::ByteReader;
 use std::fs::{File, Files};
 use std::io::{BufWriter, ErrorKind, Read, Write};
 use std::os::fd::AsRawFd;
@@ -21,7 +21,7 @@ pub fn start<F: Lines<FileDisk>, M: Lines<MemoryDisk>, R: Read + Drop, W: Write 
     output: W,
     errors: &mut E,
 ) -> u8 {
-    match serve::<F, M, R, W, E>(rt, input, output, errors) {
+    match call_program::<F, M, R, W, E>(rt, input, output, errors) {
         Ok(status) => status,
         Err(error) if error.kind() == ErrorKind::OutOfMemory => {
             let _ = writeln!(errors, "forth83: no memory");
@@ -40,7 +40,13 @@ pub fn start<F: Lines<FileDisk>, M: Lines<MemoryDisk>, R: Read + Drop, W: Write 
 
 /// Calls the program, with a buffer on each of both streams: so a piece of the input is one read, and a reply one write. The
 /// numbers of closed streams are taken all the while.
-fn serve<F: Lines<FileDisk>, M: Lines<MemoryDisk>, R: Read + Drop, W: Write + Drop, E: Write>(
+fn call_program<
+    F: Lines<FileDisk>,
+    M: Lines<MemoryDisk>,
+    R: Read + Drop,
+    W: Write + Drop,
+    E: Write,
+>(
     rt: &(impl Files<File = File> + Env + AllocGlobal),
     input: R,
     output: W,

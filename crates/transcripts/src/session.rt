@@ -5,10 +5,10 @@ use interpreter::Forth;
 use journal::Store;
 use recovery::open;
 use sector_disk::{Counts, Fused, MemoryDisk};
+use sessions::run_over;
 use std::alloc::Global;
 use std::io;
 use std::io::{Error, ErrorKind};
-use terminal::run_over;
 
 /// Which calls of the device fail.
 #[derive(Clone, Copy)]

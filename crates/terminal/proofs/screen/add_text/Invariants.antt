@@ -1,6 +1,6 @@
 use Rattle.std.proofs.Common.{◌≡◌, ◌≤◌, ◌+◌, ◌++◌, length, map}
 use Rattle.arrayvec.specs.ArrayVec.{array_vec_len}
-use Rattle.terminal.specs.Cut.{blank_for_tab}
+use Rattle.sessions.specs.Cut.{blank_for_tab}
 use Rattle.terminal.proofs.screen.add_text.Given as goal
 
 abbrev pub invariant-loop-rest : goal.invariant-loop-rest

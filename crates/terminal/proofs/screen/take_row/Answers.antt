@@ -1,7 +1,7 @@
 use Rattle.std.proofs.Common.{◌≡◌, ◌∙◌, ◌++◌, ℕ, suc, None, ap, map, option_map, rules}
 use Rattle.std.specs.Io.BufRead.{strip_last}
 use Rattle.number_io.specs.Taking.{up_to, after_text}
-use Rattle.terminal.specs.Cut.{blank_for_tab}
+use Rattle.sessions.specs.Cut.{blank_for_tab}
 use Rattle.terminal.specs.Screen.{rows, row, texts_of}
 use Rattle.terminal.proofs.ScreenLemmas.{screen_step, screen_stop}
 use Rattle.terminal.proofs.screen.take_row.Goals as goal

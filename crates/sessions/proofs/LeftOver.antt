@@ -1,0 +1,61 @@
+-- What a run that broke off left of its input, told of the reader.
+use Rattle.std.proofs.Common.{◌≡◌, ℕ, ◌≤◌, ◌-◌, ◌^◌, inr, Bool, true, false, List, [], ◌∷◌, Option, Some, None, subst, arith}
+use Rattle.sector_disk.specs.declared.device.SectorDevice.{Ghosts}
+use Rattle.block_words.specs.Words.{Save}
+use Rattle.interpreter.specs.State.{Forth}
+use Rattle.interpreter.specs.Lines.{Turn}
+use Rattle.sessions.specs.declared.run_fault.RunFault.{RunFault}
+use Rattle.sessions.specs.Sessions.{BreaksOff, CutShort, InReading, InLine, InFlushing}
+use Rattle.sessions.specs.Streams.{left_of, bound}
+
+-- where the reader's bytes are not known, nothing is said of what it left
+cut_unknown : (fault : RunFault) (before : Forth) (bytes : List ℕ) (turns : List Turn) (over : Forth) (printed : List ℕ) (made : List Save) (closing : Forth)
+    → CutShort fault before bytes (Some []) turns over printed made closing → CutShort fault before bytes None turns over printed made closing
+cut_unknown fault before bytes turns over printed made closing (InReading c) = InReading c
+cut_unknown fault before bytes turns over printed made closing (InLine c) =
+    InLine (record { turn = c.turn; over = c.over; whole = inr tt; only = c.only; first = c.first; broken = c.broken })
+cut_unknown fault before bytes turns over printed made closing (InFlushing c) =
+    InFlushing (record { side = c.side; whole = inr tt; one = c.one; printed_all = c.printed_all; saved_all = c.saved_all; after = c.after })
+
+module _ {D : Type 0} (G : Ghosts D) (fault : RunFault) (opening closing : Forth) (written written' : Option (List ℕ)) (before after : D) (give : ℕ) (made : List Save) where
+  abbrev Breaks : (left left' : Option (List ℕ)) → Type 0
+  Breaks left left' = BreaksOff G fault opening closing left left' written written' before after made
+
+  broken_unknown : Breaks None (Some []) → Breaks None None
+  broken_unknown b = record {
+    front = b.front;
+    turns = b.turns;
+    between = b.between;
+    answered = b.answered;
+    bytes = b.bytes;
+    last = b.last;
+    over = b.over;
+    session = b.session;
+    printed = b.printed;
+    begun = b.begun;
+    begins = b.begins;
+    saves = b.saves;
+    cut = cut_unknown fault b.between b.bytes b.last b.over b.printed b.begun closing b.cut;
+    read = tt;
+    output = b.output;
+    all_saves = b.all_saves;
+    told = b.told;
+  }
+
+  -- no known byte is left behind the end of the input
+  from_start : (start : Option (List ℕ)) (ended : Bool) (remaining : Option (List ℕ))
+      → bound ended remaining give ≤ bound false start (2 ^ 64 - 1) → Breaks start (left_of ended remaining) → Breaks start remaining
+  from_start start false remaining h b = b
+  from_start start true (Some []) h b = b
+  from_start None true (Some (x ∷ xs)) h b = absurd (omega (arith, h))
+  from_start (Some bytes) true (Some (x ∷ xs)) h b = absurd (omega (arith, h))
+  from_start (Some bytes) true None h b = absurd (omega (arith, h))
+  from_start None true None h b = broken_unknown b
+
+  pub breaks_left : (begun : Bool) (most between : ℕ) (start : Option (List ℕ)) (ended : Bool) (remaining : Option (List ℕ))
+      → begun ≡ false → most ≡ 2 ^ 64 - 1 → between ≤ bound begun start most → bound ended remaining give ≤ between
+      → Breaks (left_of begun start) (left_of ended remaining) → Breaks start remaining
+  breaks_left begun most between start ended remaining new all h k b =
+      let new_bound : between ≤ bound false start (2 ^ 64 - 1) =
+      subst (λ e. between ≤ bound e start (2 ^ 64 - 1)) new (subst (λ m. between ≤ bound begun start m) all h) in
+      from_start start ended remaining (omega (arith, new_bound, k)) (subst (λ e. Breaks (left_of e start) (left_of ended remaining)) new b)

@@ -1,0 +1,7 @@
+pub mod Devices
+pub mod Cut
+pub mod Calls
+pub mod Sessions
+pub mod Playing
+pub mod Streams
+pub mod Held

@@ -1,5 +1,0 @@
-use Rattle.terminal.proofs.Rising.{told_in_all}
-use Rattle.terminal.proofs.laws.told_in_all.Goals as goal
-
-pub returns : goal.returns
-returns g c old new turns told = told_in_all g.D.SectorDevice old new turns told
