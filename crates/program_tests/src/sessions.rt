@@ -172,5 +172,5 @@ fn the_end_is_final(rt: HostRuntime) -> Result<(), Fail> {
 fn laws_are_calls(_rt: HostRuntime) {
     laws::played();
     laws::one_session();
-    laws::commands_are_read();
+    terminal::laws::commands_are_read();
 }
