@@ -1,8 +1,8 @@
 use crate::contents::are_full;
-use crate::support::{put, sector};
 use sector_disk::{FileDisk, FileFault, SectorDevice};
 use std::fs;
 use std::test::Fail;
+use stops::disks::{put, sector};
 
 #[test]
 fn a_file_keeps_what_is_written(rt: HostRuntime) -> Result<(), Fail> {

@@ -1,15 +1,13 @@
-//! Tests of disks, journal and recovery, by their public calls alone. What they share with tests of the crates above lies
-//! in `support`.
+//! Tests of devices, journal, recovery and buffers, by their public calls alone: bytes, layouts, digests, sizes and refusals. What a
+//! stop or a failing call leaves stands in the texts that `stop_texts` follows.
 #![tactic(auto)]
 
 #[cfg(test)]
+mod buffers;
+#[cfg(test)]
 mod contents;
 #[cfg(test)]
-mod faults;
-#[cfg(test)]
 mod file;
-#[cfg(test)]
-mod formats;
 #[cfg(test)]
 mod fused;
 #[cfg(test)]
@@ -18,12 +16,5 @@ mod images;
 mod memory;
 #[cfg(test)]
 mod recorded;
-#[cfg(test)]
-mod recoveries;
-#[cfg(test)]
-mod saves;
-pub mod support;
-#[cfg(test)]
-mod torn;
 #[cfg(test)]
 mod upgrades;

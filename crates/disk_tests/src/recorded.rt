@@ -1,7 +1,7 @@
 use crate::contents::are_full;
-use crate::support::{put, sector};
 use sector_disk::{Fate, MemoryDisk, Recorded, SectorDevice};
 use std::test::Fail;
+use stops::disks::{put, sector};
 
 #[test]
 fn each_moment_is_told(rt: HostRuntime) -> Result<(), Fail> {

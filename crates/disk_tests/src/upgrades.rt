@@ -1,13 +1,12 @@
 // Images of layout 1, written sector by sector, are upgraded.
 use crate::contents::holds;
-use crate::support::{
-    BLOCKS, SECTORS, WAYS, block, check, first_two, formatted, opened, put, sector, spill,
-    stopped_by, unsynced_sectors,
-};
 use journal::layout;
 use recovery::{OpenFault, UpgradeFault, format, upgrade};
 use sector_disk::{Fate, Fused, MemoryDisk};
 use std::test::Fail;
+use stops::disks::{BLOCKS, SECTORS, block, check, formatted, opened, put, sector, spill};
+use stops::fates::{count_of_stops, stopped, unsynced_sectors};
+use stops::fillings::{left_in, shown};
 
 // An image of layout 1 whose save of blocks 1 and 2, with bytes 65 and 66, has its gate open and synced. In the homes they
 // are blank, or torn.
@@ -40,11 +39,16 @@ fn before(rt: &HostRuntime, is_image: bool) -> Result<MemoryDisk, Fail> {
     Ok(store.into_device())
 }
 
-// What blocks 1 and 2 of an image of layout 1 are full of.
-fn old_two(rt: &HostRuntime, mut old: MemoryDisk) -> Result<(u8, u8), Fail> {
+// What an image holds, as `1A 2B`, or why it is refused.
+fn held(rt: &HostRuntime, disk: MemoryDisk) -> Result<String, Fail> {
+    Ok(shown(rt.alloc(), left_in(disk)?)?)
+}
+
+// What an image of layout 1 holds.
+fn old_held(rt: &HostRuntime, mut old: MemoryDisk) -> Result<String, Fail> {
     let mut new = before(rt, false)?;
     upgrade(&mut old, &mut new)?;
-    first_two(new)
+    held(rt, new)
 }
 
 #[test]
@@ -64,7 +68,8 @@ fn an_old_image_is_upgraded(rt: HostRuntime) -> Result<(), Fail> {
     assert_eq!(rt; calls, [5, 3, 67, 3]);
     holds(&rt, &mut new, 0, &layout::label(BLOCKS))?;
     holds(&rt, &mut old, 0, &layout::label_1(BLOCKS))?;
-    assert_eq!(rt; [first_two(new)?, old_two(&rt, old)?], [(65, 66); 2]);
+    assert_eq!(rt; held(&rt, new)?.as_str(), "1A 2B");
+    assert_eq!(rt; old_held(&rt, old)?.as_str(), "1A 2B");
     Ok(())
 }
 
@@ -157,22 +162,22 @@ fn upgrade_until(
 // What stops leave where the old device fails from call `k` on, or the new one from call `m` on: whether it was done.
 fn stops_at(rt: &HostRuntime, is_image: bool, k: u64, m: u64) -> Result<bool, Fail> {
     let (done, old, new) = upgrade_until(rt, is_image, k, m)?;
-    for way in WAYS {
-        let old = stopped_by(rt, &old, way)?;
-        let mut new = stopped_by(rt, &new, way)?;
+    let sectors = unsynced_sectors(rt, &old)?;
+    for n in 0..count_of_stops(&sectors) {
+        let old = stopped(rt, &old, &sectors, n)?;
         check(
-            old_two(rt, old)? == (65, 66),
+            old_held(rt, old)?.as_str() == "1A 2B",
             "the old image means the same",
         )?;
-        let has_label = sector(&mut new, 0)? == layout::label(BLOCKS);
-        if has_label {
-            match first_two(new)? {
-                (65, 66) => {}
-                (67, b' ') => check(is_image && !done, "the image before")?,
-                _ => return Err("half an image")?,
-            }
-        } else {
-            check(!done, "a label at the end")?;
+    }
+    let sectors = unsynced_sectors(rt, &new)?;
+    for n in 0..count_of_stops(&sectors) {
+        let new = stopped(rt, &new, &sectors, n)?;
+        match held(rt, new)?.as_str() {
+            "1A 2B" => {}
+            "1C" => check(is_image && !done, "the image before")?,
+            "NoLabel" => check(!done, "a label at the end")?,
+            _ => return Err("half an image")?,
         }
     }
     Ok(done)
@@ -218,15 +223,11 @@ fn a_format_over_an_old_image_leaves_its_label_to_the_last(rt: HostRuntime) -> R
         let (done, disk) = format_until(&rt, k)?;
         let sectors = unsynced_sectors(&rt, &disk)?;
         let is_last = sectors.iter().any(|unsynced| unsynced.k == 0);
-        for way in WAYS {
-            match opened(stopped_by(&rt, &disk, way)?) {
-                Ok(store) => {
-                    check(done || is_last, "a label before the end")?;
-                    let found = first_two(store.into_device())?;
-                    check(found == (b' ', b' '), "blank blocks")?;
-                }
-                Err(OpenFault::OtherVersion) => check(!done, "a label at the end")?,
-                Err(fault) => Err(fault)?,
+        for n in 0..count_of_stops(&sectors) {
+            match held(&rt, stopped(&rt, &disk, &sectors, n)?)?.as_str() {
+                "blank" => check(done || is_last, "a label before the end")?,
+                "OtherVersion" => check(!done, "a label at the end")?,
+                _ => return Err("half a format")?,
             }
         }
         is_formatted = is_formatted || done;

@@ -1,0 +1,61 @@
+// Calls over a whole image.
+use crate::calls::{Call, Caller, follow};
+use crate::disks::BLOCKS;
+use crate::fillings::Fillings;
+use crate::player::{Played, Player};
+use recovery::{format, open};
+use sector_disk::SectorDevice;
+use std::alloc::Global;
+use std::test::Fail;
+
+// A device that is lent to each call, which gives it back.
+#[derive(Drop)]
+struct Lent<D: SectorDevice> {
+    device: Option<D>,
+}
+
+impl<D: SectorDevice + Drop> Caller for Lent<D> {
+    fn call(&mut self, alloc: Global, call: Call) -> Result<String, Fail> {
+        let device = self.device.take().ok_or("a device")?;
+        let outcome = if call.word == "open" {
+            open(device)
+        } else {
+            format(device, BLOCKS)
+        };
+        match outcome {
+            Ok(store) => {
+                self.device = Some(store.into_device());
+                Ok(String::from_str(alloc, "ok")?)
+            }
+            Err((fault, device)) => {
+                self.device = Some(device);
+                Ok(format!(in alloc; "{fault:?}")?)
+            }
+        }
+    }
+}
+
+/// Opens an image (`open`) or formats one of 32 blocks (`format`).
+#[derive(Clone, Copy)]
+pub struct ImageCalls;
+
+impl Player for ImageCalls {
+    fn play<D: SectorDevice + Drop>(
+        &self,
+        alloc: Global,
+        rows: &str,
+        device: D,
+        start: Fillings,
+    ) -> Result<Played<D>, Fail> {
+        let mut lent = Lent {
+            device: Some(device),
+        };
+        let (answers, told) = follow(alloc, rows, &mut lent, start)?;
+        let device = lent.device.take().ok_or("a device")?;
+        Ok(Played {
+            device,
+            answers,
+            told,
+        })
+    }
+}
