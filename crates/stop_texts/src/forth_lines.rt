@@ -1,6 +1,7 @@
 // Lines of Forth, which tell what they do to blocks.
 use interpreter::Forth;
 use sector_disk::SectorDevice;
+use sessions::{RunFault, run_over};
 use std::alloc::{AllocError, Global};
 use std::io::{Read, Write};
 use std::test::Fail;
@@ -9,7 +10,6 @@ use stops::disks::opened;
 use stops::fillings::Fillings;
 use stops::player::{Played, Player};
 use stops::told::Told;
-use terminal::{RunFault, run_over};
 
 /// What a reply says: a digit and a letter tell that the block of this number is full of this letter, `(` that a save begins and `)`
 /// that it has returned. A closed store begins no save.

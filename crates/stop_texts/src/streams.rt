@@ -1,5 +1,6 @@
 // Readers and writers that fail at each of their calls, or end in the middle of a line.
 use super::forth_lines::{between, heard, lines_and_replies};
+use sessions::RunFault;
 use std::io;
 use std::io::{Error, ErrorKind, Read, Write};
 use std::test::Fail;
@@ -8,7 +9,6 @@ use stops::fillings::{Fillings, left_in, shown};
 use stops::report::Report;
 use stops::scenario::Scenario;
 use stops::trials::Calls;
-use terminal::RunFault;
 
 /// Gives a byte at each second call and is interrupted at the others. Where the bytes end, it ends or fails.
 #[derive(Drop)]
