@@ -1,7 +1,5 @@
 pub mod Fault
 pub mod Limits
-pub mod Meanings
-pub mod Words
 pub mod Tree
 pub mod Cells
 pub mod Division

@@ -2,9 +2,8 @@
 
 ghost use Rattle.std.specs.Prelude.{◌≡◌, int_lt};
 ghost use Rattle.cell_machine.specs.Cells.{signed, flag, unary, binary};
-ghost use Rattle.cell_machine.specs.Meanings.{unary_of, binary_of};
 
-use crate::words::{Binary, Unary};
+use system_words::words::{Binary, Unary};
 
 /// A flag as a cell: -1 or 0.
 #[inline]
@@ -17,7 +16,7 @@ pub fn truth(holds: bool) -> u16
 /// The result of a word of one cell.
 #[inline(always)]
 pub fn apply(word: Unary, w: u16) -> u16
-    ensures { result ≡ unary (unary_of word) w }
+    ensures { result ≡ unary word w }
 {
     match word {
         Unary::OneMore => w.wrapping_add(1),
@@ -37,7 +36,7 @@ pub fn apply(word: Unary, w: u16) -> u16
 /// The floor of the half of a signed cell.
 #[inline]
 fn half(w: u16) -> u16
-    ensures { result ≡ unary (unary_of Unary.Half) w }
+    ensures { result ≡ unary Unary.Half w }
 {
     if w < 32768 { w / 2 } else { 32768 + w / 2 }
 }
@@ -53,7 +52,7 @@ pub fn is_less(a: u16, b: u16) -> bool
 /// The result of a word of two cells, of which `b` is the top.
 #[inline(always)]
 pub fn combine(word: Binary, a: u16, b: u16) -> u16
-    ensures { result ≡ binary (binary_of word) a b }
+    ensures { result ≡ binary word a b }
 {
     match word {
         Binary::Add => a.wrapping_add(b),

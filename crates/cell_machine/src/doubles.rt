@@ -1,7 +1,9 @@
 //! Words of doubles and of quotients.
 
 ghost use Rattle.std.specs.Prelude.{◌≡◌, ◌+◌, ◌-◌, ◌*◌, ◌≤◌, ℕ, List, length, unsigned_abs, int_lt, OnOk, OnErr, IfOk, IfErr, ◌*ℤ◌, ◌^◌};
-ghost use Rattle.cell_machine.specs.Words.{Division, Quotient, Remainder, Both, Scaled, ScaledBoth, UnsignedDouble, Double, WideProduct, WideAdd, WideNegate, WideLess};
+ghost use Rattle.system_words.specs.declared.words.Divide.TheVariants.{Quotient, Remainder, Both, Scaled, ScaledBoth, UnsignedDouble};
+ghost use Rattle.system_words.specs.declared.words.Wide.TheVariants.{WideProduct, WideAdd, WideNegate, WideLess};
+ghost use Rattle.system_words.specs.declared.words.Own.TheVariants.{Division, Double};
 ghost use Rattle.cell_machine.specs.Cells.{signed, double, signed_double, low, high, divided};
 ghost use Rattle.cell_machine.specs.Effects.{unsigned_divided};
 ghost use Rattle.cell_machine.specs.Deeds.{held, Did, Ended, Short};
@@ -10,6 +12,7 @@ use crate::cells::truth;
 use crate::division;
 use crate::event::{Event, MachineFault};
 use crate::operands::Operands;
+use system_words::words::{Divide, Wide};
 
 /// A signed cell.
 #[inline(always)]
@@ -115,9 +118,54 @@ fn divide_double(low: u16, high: u16, by: u16) -> Result<(u16, u16), Event>
 }
 
 impl Operands {
+    /// A word that divides.
+    #[inline(always)]
+    pub fn division(
+        &mut self,
+        places: &mut [u16],
+        budget: &mut u32,
+        word: Divide,
+    ) -> Result<(), Event>
+        requires sized { length places.old ≡ 257 }
+        ensures did { OnOk result ((space : List ℕ) → Did (Division word)
+            (held places.old self.old.depth self.old.top) space budget.old
+            (held places.new self.new.depth self.new.top) space budget.new) }
+        ensures ended { IfErr result (λ e. (space : List ℕ) → Ended (Division word) e
+            (held places.old self.old.depth self.old.top) space budget.old
+            (held places.new self.new.depth self.new.top) space budget.new) }
+    {
+        match word {
+            Divide::Scaled => self.scale(places, budget),
+            Divide::ScaledBoth => self.scale_both(places, budget),
+            Divide::Quotient => self.divide(places, budget),
+            Divide::Both => self.divide_both(places, budget),
+            Divide::Remainder => self.remainder(places, budget),
+            Divide::UnsignedDouble => self.divide_unsigned(places, budget),
+        }
+    }
+
+    /// A word on doubles.
+    #[inline(always)]
+    pub fn double(&mut self, places: &mut [u16], budget: &mut u32, word: Wide) -> Result<(), Event>
+        requires sized { length places.old ≡ 257 }
+        ensures did { OnOk result ((space : List ℕ) → Did (Double word)
+            (held places.old self.old.depth self.old.top) space budget.old
+            (held places.new self.new.depth self.new.top) space budget.new) }
+        ensures ended { IfErr result (λ e. (space : List ℕ) → Ended (Double word) e
+            (held places.old self.old.depth self.old.top) space budget.old
+            (held places.new self.new.depth self.new.top) space budget.new) }
+    {
+        match word {
+            Wide::WideAdd => self.add_wide(places, budget),
+            Wide::WideLess => self.less_wide(places, budget),
+            Wide::WideNegate => self.negate_wide(places, budget),
+            Wide::WideProduct => self.multiply_wide(places, budget),
+        }
+    }
+
     /// `/`
     #[inline(always)]
-    pub fn divide(&mut self, places: &mut [u16], budget: &mut u32) -> Result<(), Event>
+    fn divide(&mut self, places: &mut [u16], budget: &mut u32) -> Result<(), Event>
         requires sized { length places.old ≡ 257 }
         ensures did { OnOk result ((space : List ℕ) → Did (Division Quotient)
             (held places.old self.old.depth self.old.top) space budget.old
@@ -135,7 +183,7 @@ impl Operands {
 
     /// `MOD`
     #[inline(always)]
-    pub fn remainder(&mut self, places: &mut [u16], budget: &mut u32) -> Result<(), Event>
+    fn remainder(&mut self, places: &mut [u16], budget: &mut u32) -> Result<(), Event>
         requires sized { length places.old ≡ 257 }
         ensures did { OnOk result ((space : List ℕ) → Did (Division Remainder)
             (held places.old self.old.depth self.old.top) space budget.old
@@ -153,7 +201,7 @@ impl Operands {
 
     /// `/MOD`
     #[inline(always)]
-    pub fn divide_both(&mut self, places: &mut [u16], budget: &mut u32) -> Result<(), Event>
+    fn divide_both(&mut self, places: &mut [u16], budget: &mut u32) -> Result<(), Event>
         requires sized { length places.old ≡ 257 }
         ensures did { OnOk result ((space : List ℕ) → Did (Division Both)
             (held places.old self.old.depth self.old.top) space budget.old
@@ -171,7 +219,7 @@ impl Operands {
 
     /// `*/`
     #[inline(always)]
-    pub fn scale(&mut self, places: &mut [u16], budget: &mut u32) -> Result<(), Event>
+    fn scale(&mut self, places: &mut [u16], budget: &mut u32) -> Result<(), Event>
         requires sized { length places.old ≡ 257 }
         ensures did { OnOk result ((space : List ℕ) → Did (Division Scaled)
             (held places.old self.old.depth self.old.top) space budget.old
@@ -189,7 +237,7 @@ impl Operands {
 
     /// `*/MOD`
     #[inline(always)]
-    pub fn scale_both(&mut self, places: &mut [u16], budget: &mut u32) -> Result<(), Event>
+    fn scale_both(&mut self, places: &mut [u16], budget: &mut u32) -> Result<(), Event>
         requires sized { length places.old ≡ 257 }
         ensures did { OnOk result ((space : List ℕ) → Did (Division ScaledBoth)
             (held places.old self.old.depth self.old.top) space budget.old
@@ -208,7 +256,7 @@ impl Operands {
 
     /// `UM/MOD`
     #[inline(always)]
-    pub fn divide_unsigned(&mut self, places: &mut [u16], budget: &mut u32) -> Result<(), Event>
+    fn divide_unsigned(&mut self, places: &mut [u16], budget: &mut u32) -> Result<(), Event>
         requires sized { length places.old ≡ 257 }
         ensures did { OnOk result ((space : List ℕ) → Did (Division UnsignedDouble)
             (held places.old self.old.depth self.old.top) space budget.old
@@ -227,7 +275,7 @@ impl Operands {
 
     /// `UM*`
     #[inline(always)]
-    pub fn multiply_wide(&mut self, places: &mut [u16], budget: &mut u32) -> Result<(), Event>
+    fn multiply_wide(&mut self, places: &mut [u16], budget: &mut u32) -> Result<(), Event>
         requires sized { length places.old ≡ 257 }
         ensures did { OnOk result ((space : List ℕ) → Did (Double WideProduct)
             (held places.old self.old.depth self.old.top) space budget.old
@@ -245,7 +293,7 @@ impl Operands {
 
     /// `DNEGATE`
     #[inline(always)]
-    pub fn negate_wide(&mut self, places: &mut [u16], budget: &mut u32) -> Result<(), Event>
+    fn negate_wide(&mut self, places: &mut [u16], budget: &mut u32) -> Result<(), Event>
         requires sized { length places.old ≡ 257 }
         ensures did { OnOk result ((space : List ℕ) → Did (Double WideNegate)
             (held places.old self.old.depth self.old.top) space budget.old
@@ -263,7 +311,7 @@ impl Operands {
 
     /// `D+`
     #[inline(always)]
-    pub fn add_wide(&mut self, places: &mut [u16], budget: &mut u32) -> Result<(), Event>
+    fn add_wide(&mut self, places: &mut [u16], budget: &mut u32) -> Result<(), Event>
         requires sized { length places.old ≡ 257 }
         ensures did { OnOk result ((space : List ℕ) → Did (Double WideAdd)
             (held places.old self.old.depth self.old.top) space budget.old
@@ -284,7 +332,7 @@ impl Operands {
 
     /// `D<`
     #[inline(always)]
-    pub fn less_wide(&mut self, places: &mut [u16], budget: &mut u32) -> Result<(), Event>
+    fn less_wide(&mut self, places: &mut [u16], budget: &mut u32) -> Result<(), Event>
         requires sized { length places.old ≡ 257 }
         ensures did { OnOk result ((space : List ℕ) → Did (Double WideLess)
             (held places.old self.old.depth self.old.top) space budget.old

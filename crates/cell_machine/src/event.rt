@@ -3,7 +3,8 @@
 /// A service that is due. Texts and parts are named by their places.
 #[derive(Clone, Copy, Debug, PartialEq, Eq)]
 pub enum Op {
-    /// A word that the machine doesn't do by itself.
+    /// A word that the machine neither does by itself nor can call: a system word that asks for something, or a user's word
+    /// of which the caller alone knows what it does.
     Word(u16),
     /// A text to print.
     Text(u16),
@@ -41,7 +42,10 @@ pub enum Event {
 /// What is to be done next: a word by itself, a body, or a part with the data address of its word.
 #[derive(Clone, Copy, Debug, PartialEq, Eq)]
 pub enum Work {
+    /// Any word, by its token: one of the machine's own, one that it asks for, or a user's.
     Primitive(u16),
+    /// The body that begins at this place.
     Body(u16),
+    /// The part that begins at this place, and the data address.
     Part(u16, u16),
 }

@@ -1,22 +1,26 @@
 //! A word that was entered by itself.
 
-ghost use Rattle.std.specs.Prelude.{◌≡◌, ◌≢◌, ℕ, List, length, OnOk, IfErr};
+ghost use Rattle.std.specs.Prelude.{◌≡◌, ℕ, List, length, OnOk, IfErr};
 ghost use Rattle.stacks.specs.Stacks.{units};
+ghost use Rattle.system_words.specs.declared.words.Return.{Return as ListWord};
+ghost use Rattle.system_words.specs.declared.words.Own.TheVariants.{OnList};
+ghost use Rattle.system_words.specs.declared.words.Return.TheVariants.{ToReturn};
+ghost use Rattle.cell_machine.specs.Effects.{arity};
 ghost use Rattle.cell_machine.specs.Events.{core_of};
 ghost use Rattle.cell_machine.specs.Deeds.{held};
-ghost use Rattle.cell_machine.specs.Moves.{OnceDid, OnceEnded, IsListWord};
+ghost use Rattle.cell_machine.specs.Moves.{OnceDid, OnceEnded};
 
-use crate::dispatch::run_word;
 use crate::event::{Event, MachineFault};
 use crate::operands::Operands;
-use crate::tokens;
+use crate::own::list_word;
 use data_space::DataSpace;
 use stacks::ReturnStack;
+use system_words::words::{Own, Return};
 
-/// A word by itself, by its token: nothing is put aside for it.
+/// A word of the machine's own by itself: nothing is put aside for it.
 #[inline(never)]
 pub fn once(
-    word: u16,
+    word: Own,
     operands: &mut Operands,
     places: &mut [u16],
     returns: &ReturnStack,
@@ -31,13 +35,34 @@ pub fn once(
         (core_of (held places.old operands.old.depth operands.old.top) space.old budget.old)
         (core_of (held places.new operands.new.depth operands.new.top) space.new budget.new)) }
 {
+    match list_word(word) {
+        Some(word) => on_list(word, operands, places, returns, budget),
+        None => operands.apart(places, space, budget, word),
+    }
+}
+
+/// A word on what is put aside.
+fn on_list(
+    word: Return,
+    operands: &mut Operands,
+    places: &mut [u16],
+    returns: &ReturnStack,
+    budget: &mut u32,
+) -> Result<(), Event>
+    requires sized { length places.old ≡ 257 }
+    ensures did { OnOk result ((space : List ℕ) → OnceDid (OnList word) (units returns.now)
+        (core_of (held places.old operands.old.depth operands.old.top) space budget.old)
+        (core_of (held places.new operands.new.depth operands.new.top) space budget.new)) }
+    ensures ended { IfErr result (λ e. (space : List ℕ) → OnceEnded (OnList word) e (units returns.now)
+        (core_of (held places.old operands.old.depth operands.old.top) space budget.old)
+        (core_of (held places.new operands.new.depth operands.new.top) space budget.new)) }
+{
     match word {
-        tokens::TO_RETURN => to_return(operands, places, returns, budget),
-        tokens::INDEX => nothing_aside(tokens::INDEX, operands, budget),
-        tokens::OUTER_INDEX => nothing_aside(tokens::OUTER_INDEX, operands, budget),
-        tokens::FROM_RETURN => nothing_aside(tokens::FROM_RETURN, operands, budget),
-        tokens::COPY_RETURN => nothing_aside(tokens::COPY_RETURN, operands, budget),
-        _ => run_word(word, operands, places, space, budget),
+        Return::ToReturn => to_return(operands, places, returns, budget),
+        Return::Index => nothing_aside(operands, budget),
+        Return::OuterIndex => nothing_aside(operands, budget),
+        Return::FromReturn => nothing_aside(operands, budget),
+        Return::CopyReturn => nothing_aside(operands, budget),
     }
 }
 
@@ -50,10 +75,10 @@ fn to_return(
     budget: &mut u32,
 ) -> Result<(), Event>
     requires sized { length places.old ≡ 257 }
-    ensures did { OnOk result ((space : List ℕ) → OnceDid 21 (units returns.now)
+    ensures did { OnOk result ((space : List ℕ) → OnceDid (OnList ToReturn) (units returns.now)
         (core_of (held places.old operands.old.depth operands.old.top) space budget.old)
         (core_of (held places.new operands.new.depth operands.new.top) space budget.new)) }
-    ensures ended { IfErr result (λ e. (space : List ℕ) → OnceEnded 21 e (units returns.now)
+    ensures ended { IfErr result (λ e. (space : List ℕ) → OnceEnded (OnList ToReturn) e (units returns.now)
         (core_of (held places.old operands.old.depth operands.old.top) space budget.old)
         (core_of (held places.new operands.new.depth operands.new.top) space budget.new)) }
 {
@@ -65,12 +90,12 @@ fn to_return(
     Ok(())
 }
 
-/// `R>`, `R@`, `I` and `J` find nothing put aside.
+/// `R>`, `R@`, `I` and `J`, which take no cell, find nothing put aside.
 #[tactic(auto, using(crate::proofs::Onces::nothing_short, crate::proofs::Onces::nothing_aside))]
-fn nothing_aside(word: u16, operands: &mut Operands, budget: &mut u32) -> Result<(), Event>
-    requires list { IsListWord word }
+fn nothing_aside(operands: &mut Operands, budget: &mut u32) -> Result<(), Event>
     ensures did { OnOk result ⊥ }
-    ensures ended { IfErr result (λ e. (units : ℕ) (places space : List ℕ) → OnceEnded word e units
+    ensures ended { IfErr result (λ e. (word : ListWord) → arity (OnList word) ≡ 0
+        → (units : ℕ) (places space : List ℕ) → OnceEnded (OnList word) e units
         (core_of (held places operands.old.depth operands.old.top) space budget.old)
         (core_of (held places operands.new.depth operands.new.top) space budget.new)) }
 {

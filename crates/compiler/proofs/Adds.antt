@@ -4,7 +4,7 @@ use Rattle.std.proofs.lemmas.Bool.Decides.{nat_tests}
 use Rattle.std.proofs.lemmas.Bool.{cases_eq}
 use Rattle.std.specs.Prelude.{slice_index, nat_le, not, ◌==◌, if◌then◌else◌}
 use Rattle.cell_machine.specs.Tree.{Trees, End, Lit, Call, Exit, Compile, append}
-use Rattle.cell_machine.specs.Words.{exit_token, compile_token}
+use Rattle.cell_machine.specs.Layout.{exit_token, compile_token}
 use Rattle.cell_machine.specs.Fault.{CodeFull, Unbalanced}
 use Rattle.cell_machine.specs.Layout.{Cell, IsIn, IsCalled, IsAdded, Reaches, literal_cell, most_cells, most_tokens}
 use Rattle.cell_machine.proofs.Laid.{at_once, stays}

@@ -1,6 +1,6 @@
 -- What the compiler's fields and the cells say of the definition that is open.
 use Rattle.std.specs.Prelude.{◌≡◌, ℕ, ◌+◌, ◌<◌, ◌≤◌, true, false, List, [], ◌∷◌, length, ◌⊎◌, slice_index, Option, Some, None}
-use Rattle.cell_machine.specs.Words.{compile_token}
+use Rattle.cell_machine.specs.Layout.{compile_token}
 use Rattle.cell_machine.specs.Tree.{Trees, End}
 use Rattle.cell_machine.specs.Layout.{Means, Cell, IsIn, IsStill, NoLeaves, test_cell, jump_cell, do_cell, does_cell, most_cells}
 use Rattle.compiler.specs.declared.opens.Open.{Open}

@@ -12,7 +12,10 @@ use Rattle.cell_machine.specs.declared.event.Event.TheVariants as event
 use Rattle.stacks.specs.declared.return_stack.Entry.{Entry}
 use Rattle.lexicon.specs.Falling.{fall_of, Paid}
 use Rattle.interpreter.specs.Falls.{WhereFree}
-use Rattle.cell_machine.specs.Words.{Service, system_word, service_of}
+use Rattle.system_words.specs.declared.words.Meaning.{Meaning as RowMeaning}
+use Rattle.system_words.specs.declared.words.Meaning.TheVariants.{Runs, Asks, Exits, Marks}
+use Rattle.system_words.specs.declared.words.Service.{Service as AskedService}
+use Rattle.interpreter.specs.Words.{Service, system_word, service_of}
 use Rattle.cell_machine.specs.Frames.{Core, Around, Level, Due, Word, Next, Goes, Asked, Finished, Stopped, around_of, need, push, on_next}
 use Rattle.cell_machine.specs.Value.{Ends, Serve, body_value}
 use Rattle.cell_machine.specs.Effects.{Item}
@@ -123,12 +126,20 @@ pub serves_as_meant : (n : ℕ) (x : World) → ((w : ℕ) (s : Service) → ser
 serves_as_meant zero x system = λ a w c h. absurd (omega (arith, h))
 serves_as_meant (suc n) x system = λ a w c h. due_meant n w a c x (omega (arith, h)) (service_of (system_word w)) refl (system w)
 
+-- a word that is a service asks for it in its row
+asks : (o : Option RowMeaning) (s : Service) → service_of o ≡ Some s → (a : AskedService) × (o ≡ Some (Asks a))
+asks (Some (Asks a)) s e = (a, refl)
+asks (Some (Runs p)) s e = absurd (cc)
+asks (Some Exits) s e = absurd (cc)
+asks (Some Marks) s e = absurd (cc)
+asks None s e = absurd (cc)
+
 -- frame steps that call too keep the value of what is left
 pub left_calls : ServicesAreOutside → (n : ℕ) (l : Lexicon) (x : World) (k : ℕ) (levels : List Level) (c : Core) → Means l (language_of x) → c.steps < n → left n levels c x ≡ next n (calling_steps (meanings (language_of x)) k levels c) x
 left_calls outside n l x k levels c means h =
     calling_keeps n (λ a due c x. serve n a due c x) (λ a c x. text n (λ a due c x. serve n a due c x) n a c x) back (meanings (language_of x)) x
     (step_keeps n (λ a due c x. serve n a due c x) (λ a due c x. serve-frugal n a due c x) (λ a c x. text n (λ a due c x. serve n a due c x) n a c x) back)
-    (serves_as_meant n x (λ w s is. outside l (language_of x) means w s is)) k levels c h
+    (serves_as_meant n x (λ w s is. let a = asks (system_word w) s is in outside l (language_of x) means w a.0 a.1)) k levels c h
 
 -- ---- where nothing is left to do above the text
 

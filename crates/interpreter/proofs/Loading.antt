@@ -12,7 +12,7 @@ use Rattle.cell_machine.proofs.Steps.{same_units}
 use Rattle.std.proofs.lemmas.Bool.{lt-ltb, le-ltb, lt-leb, le-leb}
 use Rattle.cell_machine.specs.Limits.{return_units}
 use Rattle.cell_machine.specs.Fault.{NoBlock, LoadDepth, ReturnStack, Faults}
-use Rattle.cell_machine.specs.Words.{LoadBlock}
+use Rattle.interpreter.specs.Words.{LoadBlock}
 use Rattle.cell_machine.specs.Value.{Outcome, Did, Ends, Serve, and_then}
 use Rattle.interpreter.specs.State.{World, needing, system_cell, set_cell, to_in_cell, blk_cell}
 use Rattle.interpreter.specs.Text.{serve, text, back, load, on_service}

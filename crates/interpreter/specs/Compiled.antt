@@ -1,5 +1,5 @@
 -- The structure words, and how the lexicon's refusals are called in a line.
-use Rattle.cell_machine.specs.Words.{Compile, IfWord, Else, Then, BeginWord, UntilWord, WhileWord, Repeat, Do, LoopWord, PlusLoop, LeaveWord, Does}
+use Rattle.interpreter.specs.Words.{Compile, IfWord, Else, Then, BeginWord, UntilWord, WhileWord, Repeat, Do, LoopWord, PlusLoop, LeaveWord, Does}
 use Rattle.lexicon.specs.declared.structure.Structure.{Structure}
 use Rattle.lexicon.specs.declared.structure.Structure.TheVariants as structure
 

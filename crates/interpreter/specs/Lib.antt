@@ -1,3 +1,4 @@
+pub mod Words
 pub mod Terminal
 pub mod State
 pub mod Terminals

@@ -1,6 +1,6 @@
 -- The services of the table, as those of the system words.
 use Rattle.std.specs.Prelude.{Option, Some, None}
-use Rattle.cell_machine.specs.Words.{Service, OnTerminal, OnPicture, OnParse, OnNaming, OnCompile, OnBlocks, Execute, LoadBlock, Emit, NewLine, Blank, Blanks, TypeText, Key, Expect, Begin, Finish, Digit, Digits, HoldByte, Sign, Dot, UnsignedDot, Convert, ParseWord, Comment, PrintText, DotQuote, AbortQuote, Here, Pad, Comma, Allot, Tick, Find, Body, Create, Variable, MakeConstant, Vocabulary, Forth, Definitions, Forget, Immediate, Colon, Semicolon, CompileTick, Literal, BracketCompile, Block, Buffer, Update, SaveBuffers, Flush}
+use Rattle.interpreter.specs.Words.{Service, OnTerminal, OnPicture, OnParse, OnNaming, OnCompile, OnBlocks, Execute, LoadBlock, Emit, NewLine, Blank, Blanks, TypeText, Key, Expect, Begin, Finish, Digit, Digits, HoldByte, Sign, Dot, UnsignedDot, Convert, ParseWord, Comment, PrintText, DotQuote, AbortQuote, Here, Pad, Comma, Allot, Tick, Find, Body, Create, Variable, MakeConstant, Vocabulary, Forth, Definitions, Forget, Immediate, Colon, Semicolon, CompileTick, Literal, BracketCompile, Block, Buffer, Update, SaveBuffers, Flush}
 use Rattle.interpreter.specs.Compiled.{structure_word}
 use Rattle.interpreter.specs.declared.services.table.QuietWord.{QuietWord}
 use Rattle.interpreter.specs.declared.services.table.QuietWord.TheVariants as quiet

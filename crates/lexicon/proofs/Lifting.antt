@@ -2,7 +2,7 @@
 use Rattle.std.proofs.Common.{◌≡◌, ℕ, suc, ◌+◌, ◌<◌, Bool, true, false, List, [], ◌∷◌, ◌++◌, length, refl, sym, ◌∙◌, ap, subst, arith, Option, Some, None, Result, Ok, Err}
 use Rattle.std.specs.Prelude.{OnOk, not, nat_lt, nat_le, ◌==◌, ◌/◌, if◌then◌else◌, slice_index}
 use Rattle.cell_machine.specs.Fault.{Fault, Unbalanced, CodeFull}
-use Rattle.cell_machine.specs.Words.{exit_token, compile_token}
+use Rattle.cell_machine.specs.Layout.{exit_token, compile_token}
 use Rattle.cell_machine.specs.Layout.{most_cells}
 use Rattle.cell_machine.specs.Tree.{LoopKind, TextKind, Trees, End, Lit, Call, Text, If, Until, While, Loop, Leave, Exit, Compile, append}
 use Rattle.compiler.specs.declared.Compiler.{Compiler}

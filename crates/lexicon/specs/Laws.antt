@@ -3,7 +3,9 @@ use Rattle.std.specs.Prelude.{◌≡◌, ℕ, List, [], ◌∷◌, Some, None}
 use Rattle.stacks.specs.declared.return_stack.Entry.{Entry}
 use Rattle.stacks.specs.declared.return_stack.Entry.TheVariants.{Load as LoadOf}
 use Rattle.cell_machine.specs.declared.event.Work.TheVariants as work
-use Rattle.cell_machine.specs.Words.{Service, system_word, service_of}
+use Rattle.system_words.specs.declared.words.Meaning.TheVariants.{Asks}
+use Rattle.system_words.specs.declared.words.Service.{Service}
+use Rattle.system_words.specs.Rows.{meaning_of}
 use Rattle.cell_machine.specs.Calling.{Outside}
 use Rattle.cell_machine.specs.Frames.{Level, Once, Load}
 use Rattle.cell_machine.specs.Events.{Doing, Entered}
@@ -36,4 +38,4 @@ LoadsLeave =
 -- a system word that asks for a service is none that the machine can call
 abbrev pub ServicesAreOutside : Type 0
 ServicesAreOutside =
-    (l : Lexicon) (x : Language) → Stands l x → (w : ℕ) (s : Service) → service_of (system_word w) ≡ Some s → meanings x w ≡ Outside
+    (l : Lexicon) (x : Language) → Stands l x → (w : ℕ) (s : Service) → meaning_of w ≡ Some (Asks s) → meanings x w ≡ Outside

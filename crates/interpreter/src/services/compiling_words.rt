@@ -38,7 +38,7 @@ pub(crate) fn lexicon_fault(refusal: Refusal) -> Fault
 }
 
 impl<D: SectorDevice> Forth<D> {
-    ghost use Rattle.cell_machine.specs.Words.{Literal, Semicolon, Colon, CompileTick, BracketCompile};
+    ghost use Rattle.interpreter.specs.Words.{Literal, Semicolon, Colon, CompileTick, BracketCompile};
     ghost use Rattle.cell_machine.specs.Layout.{most_tokens};
     ghost use Rattle.compiler.specs.Definition.{add_literal, add_text};
     ghost use Rattle.compiler.specs.Promise.{kind_of};

@@ -17,7 +17,7 @@ const MOST_LOADS: usize = 8;
 impl<D: SectorDevice> Forth<D> {
     ghost use Rattle.cell_machine.specs.Frames.{Level, around_of};
     ghost use Rattle.cell_machine.specs.Value.{and_then};
-    ghost use Rattle.cell_machine.specs.Words.{Execute, LoadBlock};
+    ghost use Rattle.interpreter.specs.Words.{Execute, LoadBlock};
     ghost use Rattle.interpreter.specs.State.{World, with_run};
     ghost use Rattle.interpreter.specs.Law.{left};
     ghost use Rattle.interpreter.specs.Text.{serve, on_service, may_execute};

@@ -27,7 +27,7 @@ fn moved_here(here: u16, n: u16) -> u32
 }
 
 impl<D: SectorDevice> Forth<D> {
-    ghost use Rattle.cell_machine.specs.Words.{Here, Comma, Pad, Allot, Tick, Find, Body as ToBody, Create, Variable, MakeConstant, Vocabulary as MakeVocabulary, Forth as ForthWord, Definitions, Forget, Immediate};
+    ghost use Rattle.interpreter.specs.Words.{Here, Comma, Pad, Allot, Tick, Find, Body as ToBody, Create, Variable, MakeConstant, Vocabulary as MakeVocabulary, Forth as ForthWord, Definitions, Forget, Immediate};
     ghost use Rattle.cell_machine.specs.Value.{Did};
     ghost use Rattle.dictionary.specs.Words.{Created, Constant, Vocabulary};
     ghost use Rattle.lexicon.specs.Adding.{MayBeAdded};

@@ -13,7 +13,7 @@ use sector_disk::SectorDevice;
 const LONGEST: usize = 255;
 
 impl<D: SectorDevice> Forth<D> {
-    ghost use Rattle.cell_machine.specs.Words.{Comment, ParseWord, PrintText};
+    ghost use Rattle.interpreter.specs.Words.{Comment, ParseWord, PrintText};
     ghost use Rattle.interpreter.specs.Text.{on_parse};
     ghost use Rattle.interpreter.specs.Standing.{device, IsSound};
     ghost use Rattle.lexicon.specs.Stands.{IsSound as IsSoundIn};

@@ -48,7 +48,7 @@ fn signed_text(cell: u16, base: u16) -> Held
 impl<D: SectorDevice> Forth<D> {
     ghost use Rattle.data_space.specs.Space.{cell_at};
     ghost use Rattle.interpreter.specs.Standing.{device};
-    ghost use Rattle.cell_machine.specs.Words.{Begin, Convert, Digit, Digits, Dot, Finish, HoldByte, Sign, UnsignedDot};
+    ghost use Rattle.interpreter.specs.Words.{Begin, Convert, Digit, Digits, Dot, Finish, HoldByte, Sign, UnsignedDot};
     ghost use Rattle.cell_machine.specs.Value.{Did};
     ghost use Rattle.interpreter.specs.Pictures.{convert_from};
     ghost use Rattle.lexicon.specs.Stands.{IsSound};

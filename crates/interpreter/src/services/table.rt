@@ -1,6 +1,6 @@
 //! The words that the machine asks for, by their tokens.
 ghost use Rattle.std.specs.Prelude.{◌≡◌};
-ghost use Rattle.cell_machine.specs.Words.{system_word, service_of};
+ghost use Rattle.interpreter.specs.Words.{system_word, service_of};
 ghost use Rattle.interpreter.specs.Services.{asked_of};
 
 use lexicon::Structure;

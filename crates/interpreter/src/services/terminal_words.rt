@@ -18,7 +18,7 @@ fn count_of(cell: u16) -> u16
 
 impl<D: SectorDevice> Forth<D> {
     ghost use Rattle.std.specs.Prelude.{◌∷◌, []};
-    ghost use Rattle.cell_machine.specs.Words.{Emit, NewLine, Blank, Blanks, TypeText};
+    ghost use Rattle.interpreter.specs.Words.{Emit, NewLine, Blank, Blanks, TypeText};
     ghost use Rattle.interpreter.specs.Terminals.{print, on_terminal};
     ghost use Rattle.interpreter.specs.Standing.{device};
     ghost use Rattle.interpreter.specs.Serving.{Serves, Lasts, Tells};

@@ -23,7 +23,7 @@ pub(crate) fn block_fault(fault: BlockFault) -> Fault
 }
 
 impl<D: SectorDevice> Forth<D> {
-    ghost use Rattle.cell_machine.specs.Words.{Block, Buffer, Update, SaveBuffers, Flush};
+    ghost use Rattle.interpreter.specs.Words.{Block, Buffer, Update, SaveBuffers, Flush};
     ghost use Rattle.interpreter.specs.Blocking.{on_blocks};
     ghost use Rattle.interpreter.specs.Standing.{device};
     ghost use Rattle.interpreter.specs.Serving.{Consults, LastsAlone, Tells};

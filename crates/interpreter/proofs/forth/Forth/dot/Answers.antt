@@ -2,7 +2,7 @@ use Rattle.std.proofs.Common.{◌≡◌, ◌∷◌, ◌++◌, [], true, refl, ap
 use Rattle.std.specs.Prelude.{nat_le, ◌&&◌}
 use Rattle.data_space.specs.Space.{cell_at}
 use Rattle.cell_machine.specs.Fault.{Base}
-use Rattle.cell_machine.specs.Words.{Dot}
+use Rattle.interpreter.specs.Words.{Dot}
 use Rattle.interpreter.specs.State.{with_run}
 use Rattle.interpreter.specs.Pictures.{signed_text, on_picture}
 use Rattle.interpreter.specs.Terminals.{print}

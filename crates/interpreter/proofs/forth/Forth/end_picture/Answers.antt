@@ -2,7 +2,7 @@ use Rattle.std.proofs.Common.{◌≡◌, ◌-◌, ◌∷◌, Ok, Err, drop, leng
 use Rattle.std.specs.Prelude.{nat_le}
 use Rattle.std.proofs.lemmas.Bool.{le-leb}
 use Rattle.cell_machine.specs.Fault.{StackEmpty}
-use Rattle.cell_machine.specs.Words.{Finish}
+use Rattle.interpreter.specs.Words.{Finish}
 use Rattle.cell_machine.specs.Value.{Did}
 use Rattle.interpreter.specs.State.{with_run}
 use Rattle.interpreter.specs.Pictures.{on_picture}

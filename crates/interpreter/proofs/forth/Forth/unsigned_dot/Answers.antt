@@ -3,7 +3,7 @@ use Rattle.std.specs.Prelude.{nat_le, ◌&&◌}
 use Rattle.data_space.specs.Space.{cell_at}
 use Rattle.number_io.specs.Writing.{number_text}
 use Rattle.cell_machine.specs.Fault.{Base}
-use Rattle.cell_machine.specs.Words.{UnsignedDot}
+use Rattle.interpreter.specs.Words.{UnsignedDot}
 use Rattle.interpreter.specs.State.{with_run}
 use Rattle.interpreter.specs.Pictures.{on_picture}
 use Rattle.interpreter.specs.Terminals.{print}

@@ -2,7 +2,7 @@ use Rattle.std.proofs.Common.{refl, ℕ, List, arith}
 use Rattle.data_space.specs.Space.{with_bytes}
 use Rattle.cell_machine.specs.Frames.{Core}
 use Rattle.cell_machine.specs.Value.{Outcome}
-use Rattle.cell_machine.specs.Words.{ParseWord}
+use Rattle.interpreter.specs.Words.{ParseWord}
 use Rattle.interpreter.specs.State.{World, with_run, pushing}
 use Rattle.interpreter.specs.Text.{counted, on_parse}
 use Rattle.interpreter.specs.Lexicon.{language_of}
