@@ -18,11 +18,11 @@ prove() {
 }
 
 # Two calls over one crate wait for each other: these three share none.
-prove 2 stacks data_space cell_machine compiler &
+prove 2 system_words dictionary stacks data_space cell_machine compiler &
 machine=$!
 prove 1 sector_disk journal recovery &
 disk=$!
-prove 1 number_io block_buffers system_words dictionary &
+prove 1 number_io block_buffers &
 parts=$!
 failed=0
 for lane in $machine $disk $parts; do
@@ -31,5 +31,5 @@ done
 [ $failed = 0 ] || exit 1
 
 # Lexicon and block_words share data_space, and each fills the cores but for its end.
-prove 4 lexicon block_words interpreter terminal || exit 1
+prove 4 lexicon block_words interpreter sessions terminal || exit 1
 cd forth83 && rt run --jobs 4 < /dev/null
