@@ -6,7 +6,7 @@ mod commands;
 #[cfg(test)]
 mod images;
 #[cfg(test)]
-mod sessions;
+mod lines;
 #[cfg(test)]
 mod streams;
 #[cfg(test)]

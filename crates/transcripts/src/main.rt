@@ -3,7 +3,7 @@
 #![tactic(auto)]
 
 use page::Page;
-use sessions::Sessions;
+use session_texts::Sessions;
 use std::fs::{File, Files};
 use std::process::ExitCode;
 use std::rt::Env;
@@ -14,7 +14,7 @@ mod image;
 mod page;
 mod report;
 mod session;
-mod sessions;
+mod session_texts;
 mod shell;
 
 /// Follows a text, prints what was found, and answers how many differences there are.
