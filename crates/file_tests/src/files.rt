@@ -1,7 +1,7 @@
 //! Files of this system as devices: locks, places, calls that fail, and what a save leaves in one.
 use crate::sectors::{put, sector};
 use recovery::format;
-use sector_disk::{FileDisk, FileFault, HostFiles, SectorDevice, SectorFile, StdFiles};
+use sector_disk::{FileDisk, FileFault, HostFault, HostFiles, SectorDevice, SectorFile, StdFiles};
 use std::fs;
 use std::os::unix::fs::{MetadataExt, symlink};
 use std::test::Fail;
@@ -35,6 +35,17 @@ fn a_file_is_opened_once(rt: HostRuntime) -> Result<(), Fail> {
     assert!(rt; FileDisk::open(&rt, path).is_ok());
     fs::remove_dir_all(&rt, folder)?;
     Ok(())
+}
+
+/// A name is kept by its folder's sync: where there is no such folder that is told.
+#[test]
+fn a_name_in_no_folder_is_not_kept(rt: HostRuntime) {
+    let files = StdFiles::new(&rt);
+    assert_eq!(rt;
+        files.keep_name("files_nowhere/image"),
+        Err(HostFault::Failed)
+    );
+    assert_eq!(rt; files.keep_name("image"), Ok(()));
 }
 
 /// Each sector of the largest image stands at its place, and the whole file has its room from the beginning.

@@ -8,8 +8,9 @@ use sessions::ByteReader;
 use std::fs::{File, Files};
 use std::io::{BufWriter, ErrorKind, Read, Write};
 use std::os::fd::AsRawFd;
+use std::os::unix::fs::MetadataExt;
 use std::rt::Env;
-use std::{env, io};
+use std::{env, fs, io};
 
 /// The number of the standard error, the last of the standard streams.
 const LAST_STREAM: i32 = 2;
@@ -56,8 +57,44 @@ fn call_program<
     let words: Vec<String> = env::args(rt)?.collect(rt.alloc())?;
     let mut input = ByteReader::new(input);
     let mut output = BufWriter::new(rt.alloc(), output)?;
-    let status = command::<F, M, _, _, _, _>(rt, words.as_slice(), &mut input, &mut output, errors);
+    let words = words.as_slice();
+    let mut errors = Messages { rt, words, errors };
+    let status = command::<F, M, _, _, _, _>(rt, words, &mut input, &mut output, &mut errors);
     Ok(status)
+}
+
+/// The standard error, but where it is a file that one of the words names: an image that is refused for that has to stay as it
+/// is, so no message is written over it, and the status alone tells.
+#[derive(Drop)]
+struct Messages<'a, R, E> {
+    rt: &'a R,
+    words: &'a [String],
+    errors: &'a mut E,
+}
+
+impl<R: Files<File = File>, E: Write> Write for Messages<'_, R, E> {
+    fn write(&mut self, bytes: &[u8]) -> io::Result<usize> {
+        if are_errors_named(self.rt, self.words) {
+            return Ok(bytes.len());
+        }
+        self.errors.write(bytes)
+    }
+
+    fn flush(&mut self) -> io::Result<()> {
+        self.errors.flush()
+    }
+}
+
+/// Whether the standard error is a file that one of the words names, by its device and number.
+fn are_errors_named(rt: &impl Files<File = File>, words: &[String]) -> bool {
+    let Ok(errors) = fs::metadata(rt, "/dev/stderr") else {
+        return false;
+    };
+    errors.is_file()
+        && words.iter().any(|word| match fs::metadata(rt, word.as_str()) {
+            Ok(named) => named.dev() == errors.dev() && named.ino() == errors.ino(),
+            Err(_) => false,
+        })
 }
 
 /// Takes the numbers of the standard streams that were closed when the program began. A file that is opened gets the lowest
