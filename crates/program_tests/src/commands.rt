@@ -1,6 +1,8 @@
 //! The words of the command line, and the streams of the program.
 use super::streams::{Failing, Narrow};
 use super::support::{call, check, command, fresh_folder};
+use sessions::ByteReader;
+use std::cell::Cell;
 use std::fs::{File, OpenOptions};
 use std::io::{BufReader, BufWriter, Read, Write};
 use std::process::Abort;
@@ -155,19 +157,25 @@ fn an_input_that_fails(rt: HostRuntime) -> Result<(), Fail> {
 #[derive(Drop)]
 struct Counted<'a> {
     bytes: &'a [u8],
-    calls: u32,
+    calls: &'a Cell<u32>,
+}
+
+impl Counted<'_> {
+    fn count(&self) {
+        self.calls.set(self.calls.get().wrapping_add(1));
+    }
 }
 
 impl Read for Counted<'_> {
     fn read(&mut self, buf: &mut [u8]) -> io::Result<usize> {
-        self.calls = self.calls.wrapping_add(1);
+        self.count();
         self.bytes.read(buf)
     }
 }
 
 impl Write for Counted<'_> {
     fn write(&mut self, buf: &[u8]) -> io::Result<usize> {
-        self.calls = self.calls.wrapping_add(1);
+        self.count();
         Ok(buf.len())
     }
 
@@ -176,23 +184,25 @@ impl Write for Counted<'_> {
     }
 }
 
-/// Calls the program with buffers on both streams, and tells how many calls reach them.
+/// Calls the program with buffers on both streams, as it is started with them, and tells how many calls reach them.
 fn calls_of(
     rt: &(impl Files<File = File> + AllocGlobal),
     words: &[&str],
     bytes: &[u8],
 ) -> io::Result<(u32, u32)> {
-    let mut input = BufReader::new(rt.alloc(), Counted { bytes, calls: 0 })?;
-    let mut output = BufWriter::new(
-        rt.alloc(),
-        Counted {
-            bytes: b"",
-            calls: 0,
-        },
-    )?;
+    let (reads, writes) = (Cell::new(0), Cell::new(0));
+    let mut input = ByteReader::new(Counted {
+        bytes,
+        calls: &reads,
+    });
+    let taken = Counted {
+        bytes: b"",
+        calls: &writes,
+    };
+    let mut output = BufWriter::new(rt.alloc(), taken)?;
     let mut errors: Vec<u8> = Vec::new(rt.alloc());
     command(rt, words, &mut input, &mut output, &mut errors);
-    Ok((input.get_ref().calls, output.get_ref().calls))
+    Ok((reads.get(), writes.get()))
 }
 
 /// A piece of the input is one read, and one more finds its end. A reply is one write, and so is a listing.

@@ -8,6 +8,8 @@ mod images;
 #[cfg(test)]
 mod lines;
 #[cfg(test)]
+mod stopping;
+#[cfg(test)]
 mod streams;
 #[cfg(test)]
 mod support;

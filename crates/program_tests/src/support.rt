@@ -3,7 +3,7 @@ ghost use Rattle.std.specs.Prelude.{◌<◌};
 
 use interpreter::Forth;
 use recovery::format;
-use sector_disk::{FileDisk, MemoryDisk};
+use sector_disk::{FileDisk, HostFile, HostFiles, MemoryDisk, SectorFile};
 use sessions::{RunFault, run_over};
 use std::fs::File;
 use std::io::{Read, Write};
@@ -63,6 +63,59 @@ pub(crate) fn check(
     assert_eq!(rt; left.errors.as_slice(), errors, "{words:?}");
     assert_eq!(rt; left.status, status, "{words:?}");
     assert_eq!(rt; left.output.as_slice(), output, "{words:?}");
+}
+
+/// Calls the program over a system of files, and gives its status with what it printed and told.
+pub(crate) fn call_over<H: HostFile + Drop, O: HostFiles<H>>(
+    rt: &(impl Files<File = File> + AllocGlobal),
+    files: &O,
+    words: &[&str],
+    input: &[u8],
+) -> Left {
+    let mut input = input;
+    let mut output: Vec<u8> = Vec::new(rt.alloc());
+    let mut errors: Vec<u8> = Vec::new(rt.alloc());
+    let status = terminal::command_over::<
+        _,
+        _,
+        Forth<SectorFile<H>>,
+        Forth<MemoryDisk>,
+        _,
+        _,
+        _,
+        _,
+    >(rt, files, words, &mut input, &mut output, &mut errors);
+    Left {
+        status,
+        output,
+        errors,
+    }
+}
+
+/// Makes the image `A`, of 32 blocks.
+pub(crate) fn make_over<H: HostFile + Drop, O: HostFiles<H>>(
+    rt: &(impl Files<File = File> + AllocGlobal + Abort),
+    files: &O,
+) {
+    let left = call_over(rt, files, &["forth83", "new", "A", "--blocks", "32"], b"");
+    assert_eq!(rt; (left.status, left.errors.as_slice()), (0, b"".as_slice()));
+}
+
+/// Runs a transcript over the image.
+pub(crate) fn run_over_files<H: HostFile + Drop, O: HostFiles<H>>(
+    rt: &(impl Files<File = File> + AllocGlobal + Abort),
+    files: &O,
+    text: &str,
+) -> Result<(), Fail> {
+    let (input, wanted) = transcript(rt, text)?;
+    let left = call_over(rt, files, &["forth83", "run", "A"], input.as_slice());
+    assert_eq!(rt;
+        (left.status, left.errors.as_slice()),
+        (0, b"".as_slice()),
+        "{text}"
+    );
+    assert_eq!(rt; left.output.as_slice(), wanted.as_slice(), "{text}");
+    Ok(())
 }
 
 /// Makes an empty folder.

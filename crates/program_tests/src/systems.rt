@@ -1,9 +1,6 @@
 //! The program over images that are files in memory, whose calls are short, interrupted or fail.
-use super::support::transcript;
-use interpreter::Forth;
-use sector_disk::{
-    FileFault, HostFault, HostFile, HostFiles, MemoryDisk, MemoryFile, Script, SectorFile,
-};
+use super::support::{call_over, make_over, run_over_files, transcript};
+use sector_disk::{FileFault, HostFault, HostFile, HostFiles, MemoryFile, Script};
 use std::cell::{Cell, RefCell};
 use std::fs::File;
 use std::process::Abort;
@@ -194,49 +191,15 @@ fn empty(rt: &impl AllocGlobal) -> Result<RefCell<MemoryFile>, Fail> {
     }
 }
 
-/// Calls the program over the files, and gives its status with what it printed and told.
-fn call<'a>(
-    rt: &(impl Files<File = File> + AllocGlobal),
-    files: &OneFile<'a>,
-    words: &[&str],
-    input: &[u8],
-) -> (u8, Vec<u8>, Vec<u8>) {
-    let mut input = input;
-    let mut output: Vec<u8> = Vec::new(rt.alloc());
-    let mut errors: Vec<u8> = Vec::new(rt.alloc());
-    let status = terminal::command_over::<
-        _,
-        _,
-        Forth<SectorFile<Opened<'a>>>,
-        Forth<MemoryDisk>,
-        _,
-        _,
-        _,
-        _,
-    >(rt, files, words, &mut input, &mut output, &mut errors);
-    (status, output, errors)
-}
+/// Prints the first cell of both blocks, and what comes of it before the save and after it.
+pub(crate) const BOTH: &str = "1 BLOCK @ . 2 BLOCK @ .\n";
 
-/// Makes the image.
-fn made(rt: &(impl Files<File = File> + AllocGlobal + Abort), files: &OneFile<'_>) {
-    let (status, _, errors) = call(rt, files, &["forth83", "new", "A", "--blocks", "32"], b"");
-    assert_eq!(rt; (status, errors.as_slice()), (0, b"".as_slice()));
-}
+pub(crate) const BLANK: &str = "8224 8224  ok\n";
 
-/// Runs a transcript over the image.
-fn runs(
-    rt: &(impl Files<File = File> + AllocGlobal + Abort),
-    files: &OneFile<'_>,
-    text: &str,
-) -> Result<(), Fail> {
-    let (input, wanted) = transcript(rt, text)?;
-    let (status, output, errors) = call(rt, files, &["forth83", "run", "A"], input.as_slice());
-    assert_eq!(rt; (status, errors.as_slice()), (0, b"".as_slice()), "{text}");
-    assert_eq!(rt; output.as_slice(), wanted.as_slice(), "{text}");
-    Ok(())
-}
+pub(crate) const SEVENS: &str = "7 7  ok\n";
 
-const SAVED: &str = "\
+/// Saves 7 in two blocks at once.
+pub(crate) const SAVED: &str = "\
 > : PUT ( n block -- )  BLOCK ! UPDATE ;
  ok
 > : GET ( block -- )  BLOCK @ . ;
@@ -260,9 +223,9 @@ fn sessions_over_short_calls(rt: HostRuntime) -> Result<(), Fail> {
         };
         calls.most.set(most);
         calls.interrupted.set(3);
-        made(&rt, &files);
-        runs(&rt, &files, SAVED)?;
-        runs(&rt, &files, "> 1 BLOCK @ . 2 BLOCK @ .\n7 7  ok\n")?;
+        make_over(&rt, &files);
+        run_over_files(&rt, &files, SAVED)?;
+        run_over_files(&rt, &files, "> 1 BLOCK @ . 2 BLOCK @ .\n7 7  ok\n")?;
     }
     Ok(())
 }
@@ -278,20 +241,15 @@ fn sessions_whose_calls_fail(rt: HostRuntime) -> Result<(), Fail> {
             calls: &calls,
             is_there: Cell::new(false),
         };
-        made(&rt, &files);
+        make_over(&rt, &files);
         calls.begin(k);
         let (input, _) = transcript(&rt, SAVED)?;
-        let _ = call(&rt, &files, &["forth83", "run", "A"], input.as_slice());
+        let _ = call_over(&rt, &files, &["forth83", "run", "A"], input.as_slice());
         assert_eq!(rt; calls.openings.get(), 1, "at {k}");
         calls.begin(u64::MAX);
-        let (_, output, _) = call(
-            &rt,
-            &files,
-            &["forth83", "run", "A"],
-            b"1 BLOCK @ . 2 BLOCK @ .\n",
-        );
-        let is_so = output.as_slice() == b"8224 8224  ok\n".as_slice()
-            || output.as_slice() == b"7 7  ok\n".as_slice();
+        let left = call_over(&rt, &files, &["forth83", "run", "A"], BOTH.as_bytes());
+        let is_so = left.output.as_slice() == BLANK.as_bytes()
+            || left.output.as_slice() == SEVENS.as_bytes();
         assert!(rt; is_so, "at {k}");
     }
     Ok(())
@@ -307,7 +265,7 @@ fn images_whose_making_fails(rt: HostRuntime) -> Result<(), Fail> {
         calls: &calls,
         is_there: Cell::new(false),
     };
-    made(&rt, &files);
+    make_over(&rt, &files);
     for k in (0..calls.made.get()).rev().step_by(16) {
         making_fails(&rt, k)?;
     }
@@ -326,11 +284,11 @@ fn making_fails(rt: &(impl Files<File = File> + AllocGlobal + Abort), k: u64) ->
     };
     calls.begin(k);
     let words = ["forth83", "new", "A", "--blocks", "32"].as_slice();
-    let (status, output, _) = call(rt, &files, words, b"");
-    assert_eq!(rt; (status, output.is_empty()), (3, true), "at {k}");
-    let (status, _, errors) = call(rt, &files, words, b"");
+    let left = call_over(rt, &files, words, b"");
+    assert_eq!(rt; (left.status, left.output.is_empty()), (3, true), "at {k}");
+    let left = call_over(rt, &files, words, b"");
     assert_eq!(rt;
-        (status, errors.as_slice()),
+        (left.status, left.errors.as_slice()),
         (3, b"forth83: image: exists\n".as_slice()),
         "at {k}"
     );
@@ -347,13 +305,13 @@ fn what_is_put_aside_is_given_up(rt: HostRuntime) -> Result<(), Fail> {
         calls: &calls,
         is_there: Cell::new(false),
     };
-    made(&rt, &files);
-    runs(&rt, &files, SAVED)?;
+    make_over(&rt, &files);
+    run_over_files(&rt, &files, SAVED)?;
     let aside = "> 9 1 BLOCK ! UPDATE 3 BLOCK 4 BLOCK 5 BLOCK 6 BLOCK 1 BLOCK @ .\n9  ok\n";
-    runs(&rt, &files, aside)?;
+    run_over_files(&rt, &files, aside)?;
     calls.begin(u64::MAX);
-    runs(&rt, &files, "> 1 BLOCK @ . 2 BLOCK @ .\n7 7  ok\n")?;
-    let (status, _, _) = call(&rt, &files, &["forth83", "list", "A", "1"], b"");
-    assert_eq!(rt; (status, calls.writes.get()), (0, 0));
-    runs(&rt, &files, "> 1 BLOCK @ . 2 BLOCK @ .\n7 7  ok\n")
+    run_over_files(&rt, &files, "> 1 BLOCK @ . 2 BLOCK @ .\n7 7  ok\n")?;
+    let left = call_over(&rt, &files, &["forth83", "list", "A", "1"], b"");
+    assert_eq!(rt; (left.status, calls.writes.get()), (0, 0));
+    run_over_files(&rt, &files, "> 1 BLOCK @ . 2 BLOCK @ .\n7 7  ok\n")
 }
