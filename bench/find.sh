@@ -45,3 +45,8 @@ for name in ']' '!' DUP BEGIN '*/MOD' CONSTANT VOCABULARY DEFINITIONS SAVE-BUFFE
     done
     echo
 done
+for name in A-MISSING-NAME UNKNOWN; do
+    few=$(($(instructions 100 $name 100 shared) - $(instructions 100 $name 0 shared)))
+    many=$(($(instructions 200 $name 100 shared) - $(instructions 200 $name 0 shared)))
+    awk -v name="$name" -v more="$((many - few))" 'BEGIN { printf "%s, for each word that shares its strand: %.1f\n", name, more / 100 / 100 }'
+done
