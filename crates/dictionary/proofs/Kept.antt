@@ -9,7 +9,7 @@ use Rattle.dictionary.specs.declared.Kind.TheVariants as Kind
 use Rattle.std.proofs.lemmas.Option.{slice_get_past}
 use Rattle.dictionary.specs.Words.{same_text, find_in, entry}
 use Rattle.dictionary.specs.Dictionary.{Named, kind_of, body_of, cell_of}
-use Rattle.dictionary.specs.Chains.{header_word, strand, vocabulary_of, strand_of, last_in, IsLinked, IsChained}
+use Rattle.dictionary.specs.Chains.{header_word, number_of, strand, vocabulary_of, strand_of, last_in, IsLinked, IsChained}
 use Rattle.dictionary.proofs.Links.{get_at, get-map, get-below, get-append, get-end, get-take, last_in-same, last_in-below, last_in-chain, fits, named_in, named_in-last, find_in-strand}
 
 pub length-words : (hs : List Header) → length (map header_word hs) ≡ length hs
@@ -91,8 +91,8 @@ linked_push chain most link hs last h l linked range =
       ];
     }
 
-chained_push : (hs : List Header) (last newest : List ℕ) (h : Header) → IsChained hs last newest → length hs < 4096 → h.previous ≡ get_or last h.vocabulary 0 → h.older ≡ get_or newest (strand_of (header_word h)) 0 → h.vocabulary ≤ 4096 → 0 < h.len → h.len ≤ 31 → h.body ≡ body_of (kind_of h.kind) → h.cell ≡ cell_of (kind_of h.kind) → IsChained (hs ++ h ∷ []) (set last h.vocabulary (length hs + 1)) (set newest (strand_of (header_word h)) (length hs + 1))
-chained_push hs last newest h c lt prev older voc some short body cell =
+chained_push : (hs : List Header) (last newest : List ℕ) (h : Header) → IsChained hs last newest → length hs < 4096 → h.previous ≡ get_or last h.vocabulary 0 → h.older ≡ get_or newest (strand_of (header_word h)) 0 → h.vocabulary ≤ 4096 → 0 < h.len → h.len ≤ 31 → h.number ≡ number_of h.vocabulary (take h.len h.name) → h.body ≡ body_of (kind_of h.kind) → h.cell ≡ cell_of (kind_of h.kind) → IsChained (hs ++ h ∷ []) (set last h.vocabulary (length hs + 1)) (set newest (strand_of (header_word h)) (length hs + 1))
+chained_push hs last newest h c lt prev older voc some short number body cell =
     let len : length (hs ++ h ∷ []) ≡ suc (length hs) = grind (arith, common_steps) in
     record {
       room = omega arith;
@@ -101,6 +101,10 @@ chained_push hs last newest h c lt prev older voc some short body cell =
       names = λ k g at. elim (at_pushed hs h k g at) [
         | inl p ↦ c.names k g p.1
         | inr p ↦ rw p.1 (some, short)
+      ];
+      numbers = λ k g at. elim (at_pushed hs h k g at) [
+        | inl p ↦ c.numbers k g p.1
+        | inr p ↦ rw p.1 number
       ];
       bodies = λ k g at. elim (at_pushed hs h k g at) [
         | inl p ↦ c.bodies k g p.1
@@ -121,10 +125,10 @@ copied_name (x ∷ name) (y ∷ copied) rest e =
     rw (first, copied_name name copied rest others) refl
 
 -- with the name as it was before it was copied
-pub chained_named : (hs : List Header) (last newest : List ℕ) (h : Header) (name : List ℕ) → take h.len h.name ≡ name → IsChained hs last newest → length hs < 4096 → h.previous ≡ get_or last h.vocabulary 0 → h.older ≡ get_or newest (strand h.vocabulary name) 0 → h.vocabulary ≤ 4096 → 0 < h.len → h.len ≤ 31 → h.body ≡ body_of (kind_of h.kind) → h.cell ≡ cell_of (kind_of h.kind) → IsChained (hs ++ h ∷ []) (set last h.vocabulary (length hs + 1)) (set newest (strand h.vocabulary name) (length hs + 1))
-chained_named hs last newest h name is c lt prev older voc some short body cell =
+pub chained_named : (hs : List Header) (last newest : List ℕ) (h : Header) (name : List ℕ) → take h.len h.name ≡ name → IsChained hs last newest → length hs < 4096 → h.previous ≡ get_or last h.vocabulary 0 → h.older ≡ get_or newest (strand h.vocabulary name) 0 → h.vocabulary ≤ 4096 → 0 < h.len → h.len ≤ 31 → h.number ≡ number_of h.vocabulary name → h.body ≡ body_of (kind_of h.kind) → h.cell ≡ cell_of (kind_of h.kind) → IsChained (hs ++ h ∷ []) (set last h.vocabulary (length hs + 1)) (set newest (strand h.vocabulary name) (length hs + 1))
+chained_named hs last newest h name is c lt prev older voc some short own body cell =
     subst (λ n. IsChained (hs ++ h ∷ []) (set last h.vocabulary (length hs + 1)) (set newest (strand h.vocabulary n) (length hs + 1))) is
-    (chained_push hs last newest h c lt prev (subst (λ n. h.older ≡ get_or newest (strand h.vocabulary n) 0) (sym is) older) voc some short body cell)
+    (chained_push hs last newest h c lt prev (subst (λ n. h.older ≡ get_or newest (strand h.vocabulary n) 0) (sym is) older) voc some short (subst (λ n. h.number ≡ number_of h.vocabulary n) (sym is) own) body cell)
 
 -- ---- pop
 
@@ -169,6 +173,7 @@ chained_pop hs last newest k h c n at =
       vocabularies = linked_pop vocabulary_of 4097 (λ h. h.previous) hs last k h c.vocabularies n at;
       strands = linked_pop strand_of 4096 (λ h. h.older) hs newest k h c.strands n at;
       names = λ i g found. c.names i g (at_kept hs k i g found).1;
+      numbers = λ i g found. c.numbers i g (at_kept hs k i g found).1;
       bodies = λ i g found. c.bodies i g (at_kept hs k i g found).1;
       cells = λ i g found. c.cells i g (at_kept hs k i g found).1;
     }
@@ -192,8 +197,9 @@ set-here [] i x y e = cc
 set-here (z ∷ zs) zero x y e = refl
 set-here (z ∷ zs) (suc i) x y e = set-here zs i x y e
 
--- the same links, name and vocabulary; body and cell are the kind's
+-- the same links, number, name and vocabulary; body and cell are the kind's
 pub record IsAlike (h g : Header) : Type 0 where
+  pub number : g.number ≡ h.number
   pub previous : g.previous ≡ h.previous
   pub older : g.older ≡ h.older
   pub vocabulary : g.vocabulary ≡ h.vocabulary
@@ -249,6 +255,12 @@ chained_edit hs last newest i h g c at alike =
             let is : f ≡ g = set-same hs i g f (subst (λ j. slice_get (set hs i g) j ≡ Some f) same found) in
             rw (is, alike.len) (c.names i h at)
         | inr other ↦ c.names k f (sym (set-other hs i k g other) ∙ found)
+      ];
+      numbers = λ k f found. elim (one_place k i) [
+        | inl same ↦
+            let is : f ≡ g = set-same hs i g f (subst (λ j. slice_get (set hs i g) j ≡ Some f) same found) in
+            rw (is, alike.number, alike.vocabulary, alike.len, alike.name) (c.numbers i h at)
+        | inr other ↦ c.numbers k f (sym (set-other hs i k g other) ∙ found)
       ];
       bodies = λ k f found. elim (one_place k i) [
         | inl same ↦
@@ -351,6 +363,7 @@ chained_none last newest e f = record {
   vocabularies = linked_none vocabulary_of 4097 (λ h. h.previous) last e;
   strands = linked_none strand_of 4096 (λ h. h.older) newest f;
   names = λ k h at. cc;
+  numbers = λ k h at. cc;
   bodies = λ k h at. cc;
   cells = λ k h at. cc;
 }

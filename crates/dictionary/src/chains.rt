@@ -3,13 +3,13 @@
 //! A header has the token of the next older word of its vocabulary, and a table that of each vocabulary's newest one.
 //! Which strand a word is in, its vocabulary and its name say. There are as many strands as there may be words, so
 //! a search reads few headers, the newest first, however many words there are. Contracts see a list of words, oldest first.
-ghost use Rattle.std.specs.Prelude.{◌≡◌, ◌+◌, ◌-◌, ◌<◌, ◌≤◌, ◌==◌, ◌&&◌, [], ◌∷◌, ◌++◌, length, take, option_map, is_some, IfOk, IfSome, IsTrue};
+ghost use Rattle.std.specs.Prelude.{◌≡◌, ◌+◌, ◌-◌, ◌/◌, ◌<◌, ◌≤◌, ◌==◌, ◌&&◌, [], ◌∷◌, ◌++◌, length, take, option_map, is_some, IfOk, IfSome, IsTrue};
 ghost use Rattle.std.specs.Bool.{OnTrue, OnFalse};
 ghost use Rattle.std.specs.Int.{from_le_bytes, Width};
 ghost use Rattle.std.specs.Int.Width.{w32};
 ghost use Rattle.dictionary.specs.Words.{same_text, is_name, find_in, entry, with_immediate, with_part};
 ghost use Rattle.dictionary.specs.Dictionary.{word_of, kind_of, body_of, cell_of, body_of_word, cell_of_word};
-ghost use Rattle.dictionary.specs.Chains.{joined, mixed, strand_at, strand};
+ghost use Rattle.dictionary.specs.Chains.{joined, mixed, number_of};
 
 use crate::{Kind, NAME_LIMIT, NoMemory, Place, Token, WORD_LIMIT, Word};
 use std::alloc::Global;
@@ -54,26 +54,28 @@ pub(crate) fn mixed(name: &[u8]) -> u32
     joined(mix, last_piece(rest))
 }
 
-/// The strand of the words in the vocabulary whose name is mixed to this number.
+/// The number of the words in the vocabulary whose name is mixed to `mix`.
 #[inline]
-fn strand_at(vocabulary: Token, mix: u32) -> usize
-    ensures strand { result ≡ strand_at vocabulary mix }
-    ensures below { result < 4096 }
+fn number(vocabulary: Token, mix: u32) -> u32
+    ensures { result ≡ joined mix vocabulary }
 {
-    (joined(mix, u32::from(vocabulary)) / 1_048_576) as usize
+    joined(mix, u32::from(vocabulary))
 }
 
-/// The strand of the words of this name in the vocabulary.
-fn strand(vocabulary: Token, name: &[u8]) -> usize
-    ensures strand { result ≡ strand vocabulary name.now }
+/// The strand of the words of this number: its high bits.
+#[inline]
+fn strand(number: u32) -> usize
+    ensures strand { result ≡ number / 1048576 }
     ensures below { result < 4096 }
 {
-    strand_at(vocabulary, mixed(name))
+    (number / 1_048_576) as usize
 }
 
 /// What is kept of a word. What a search reads of each word comes first.
 #[derive(Clone, Copy)]
 pub(crate) struct Header {
+    // Vocabulary and name as a number. Words of another number have another name or vocabulary: a search looks at it alone.
+    number: u32,
     // The word before this one in the same strand, or 0.
     older: Token,
     vocabulary: Token,
@@ -90,19 +92,16 @@ pub(crate) struct Header {
 }
 
 impl Header {
-    fn is_of(&self, vocabulary: Token, name: &[u8]) -> bool
-        requires { self.now.len ≤ 31 }
+    #[inline]
+    fn is_of(&self, number: u32, vocabulary: Token, name: &[u8]) -> bool
+        requires len { self.now.len ≤ 31 }
+        requires own { self.now.number ≡ number_of self.now.vocabulary (take self.now.len self.now.name) }
+        requires number { number ≡ number_of vocabulary name.now }
         ensures { result ≡ ((self.now.vocabulary == vocabulary) && same_text (take self.now.len self.now.name) name.now) }
     {
-        self.vocabulary == vocabulary && &self.name[..self.len as usize] == name
-    }
-
-    fn strand(&self) -> usize
-        requires { self.now.len ≤ 31 }
-        ensures strand { result ≡ strand self.now.vocabulary (take self.now.len self.now.name) }
-        ensures below { result < 4096 }
-    {
-        strand(self.vocabulary, &self.name[..self.len as usize])
+        self.number == number
+            && self.vocabulary == vocabulary
+            && &self.name[..self.len as usize] == name
     }
 }
 
@@ -182,8 +181,10 @@ impl Chains {
         let len = word.name.len();
         let mut name = [0; NAME_LIMIT];
         name[..len].copy_from_slice(word.name);
-        let strand = strand(word.vocabulary, word.name);
+        let number = number(word.vocabulary, mixed(word.name));
+        let strand = strand(number);
         let header = Header {
+            number,
             older: self.newest[strand],
             vocabulary: word.vocabulary,
             len: len as u8,
@@ -209,7 +210,7 @@ impl Chains {
     {
         if let Some(header) = self.headers.pop() {
             self.last[header.vocabulary as usize] = header.previous;
-            self.newest[header.strand()] = header.older;
+            self.newest[strand(header.number)] = header.older;
         }
     }
 
@@ -231,10 +232,11 @@ impl Chains {
         ensures token { IfSome result (λ token. (0 < token)) }
         ensures within { IfSome result (λ token. token ≤ length self.now) }
     {
-        let mut token = self.newest[strand_at(vocabulary, mix)];
+        let number = number(vocabulary, mix);
+        let mut token = self.newest[strand(number)];
         while token != 0 {
             let header = &self.headers[token as usize - 1];
-            if header.is_of(vocabulary, name) {
+            if header.is_of(number, vocabulary, name) {
                 return Some(token);
             }
             token = header.older;

@@ -7,7 +7,7 @@ pub invariant_of-self : goal.invariant_of-self
 invariant_of-self c =
     let s = c.self.inside in
     let at = last_read s.headers.items c.args.self.now c.len-last.result c.index_mut.result.now c.self.view_is c.requires (omega (arith, c.len-last.ensures)) c.index_mut.ensures.value in
-    (chained_last s.headers.items c.args.self.now s.last.items s.newest.items c.len-last.result c.index_mut.result.now _ c.self.view_is c.requires (omega (arith, c.len-last.ensures)) c.index_mut.ensures.value c.self.invariant.0 (record { previous = refl; older = refl; vocabulary = refl; len = refl; name = refl; body = c.self.invariant.0.bodies (c.len-last.result - 1) c.index_mut.result.now at; cell = c.self.invariant.0.cells (c.len-last.result - 1) c.index_mut.result.now at }), c.self.invariant.1)
+    (chained_last s.headers.items c.args.self.now s.last.items s.newest.items c.len-last.result c.index_mut.result.now _ c.self.view_is c.requires (omega (arith, c.len-last.ensures)) c.index_mut.ensures.value c.self.invariant.0 (record { number = refl; previous = refl; older = refl; vocabulary = refl; len = refl; name = refl; body = c.self.invariant.0.bodies (c.len-last.result - 1) c.index_mut.result.now at; cell = c.self.invariant.0.cells (c.len-last.result - 1) c.index_mut.result.now at }), c.self.invariant.1)
 
 pub returns-clause-set : goal.returns-clause-set
 returns-clause-set c =

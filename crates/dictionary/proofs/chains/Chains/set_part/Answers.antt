@@ -15,7 +15,7 @@ invariant_of-self c =
     let was = last_read s.headers.items c.args.self.now c.len-last.result c.index.result.now c.self.view_is c.requires (omega (arith, c.len-last.ensures)) c.index.ensures in
     let same : c.index.result.now ≡ c.index_mut-header.result.now = cc in
     let body : c.index_mut-header.result.now.body ≡ None = c.self.invariant.0.bodies (c.len-last.result - 1) c.index_mut-header.result.now at ∙ ap (λ k. body_of (kind_of k)) (sym (ap (λ h. h.kind) same) ∙ c.in-Created.is) in
-    (chained_last s.headers.items c.args.self.now s.last.items s.newest.items c.len-last.result c.index_mut-header.result.now (record c.index_mut-header.result.now { kind = Kind.Created c.in-Created.data (Some c.args.part); cell = None }) c.self.view_is c.requires (omega (arith, c.len-last.ensures)) c.index_mut-header.ensures.value c.self.invariant.0 (record { previous = refl; older = refl; vocabulary = refl; len = refl; name = refl; body = body; cell = refl }), c.self.invariant.1)
+    (chained_last s.headers.items c.args.self.now s.last.items s.newest.items c.len-last.result c.index_mut-header.result.now (record c.index_mut-header.result.now { kind = Kind.Created c.in-Created.data (Some c.args.part); cell = None }) c.self.view_is c.requires (omega (arith, c.len-last.ensures)) c.index_mut-header.ensures.value c.self.invariant.0 (record { number = refl; previous = refl; older = refl; vocabulary = refl; len = refl; name = refl; body = body; cell = refl }), c.self.invariant.1)
 
 -- the last header is read twice, as f and as h
 part_set : (hs : List Header) (ws : List Named) (n : ℕ) (h f : Header) (p a : ℕ) (old : Option ℕ) (g : Header) → map header_word hs ≡ ws → 0 < length ws → n ≡ length hs → h ≡ get_or hs (n - 1) h → f ≡ get_or hs (n - 1) f → f.kind ≡ Kind.Created a old → header_word g ≡ record (header_word h) { kind = Created a (Some p) } → with_part ws p ≡ Some (map header_word (set hs (n - 1) g))
