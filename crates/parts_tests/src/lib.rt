@@ -8,6 +8,8 @@ mod names;
 #[cfg(test)]
 mod numbers;
 #[cfg(test)]
+mod rows;
+#[cfg(test)]
 mod two_stacks;
 #[cfg(test)]
 mod words;

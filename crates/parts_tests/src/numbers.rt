@@ -1,119 +1,220 @@
 //! Numbers as texts, and words and texts taken from a stream.
 
+use crate::rows::{Caller, Row, follow, number_in};
 use number_io::{
     Held, Number, NumberFault, convert, digit_char, digit_value, laws, read_number, take_text,
     take_word,
 };
 
-/// What decimal texts say.
-const DECIMAL: [(&str, Result<Number, NumberFault>); 24] = [
-    ("0", Ok(Number::Single(0))),
-    ("-0", Ok(Number::Single(0))),
-    ("007", Ok(Number::Single(7))),
-    ("-7", Ok(Number::Single(65529))),
-    ("65535", Ok(Number::Single(65535))),
-    ("65536", Err(NumberFault::OutOfRange)),
-    ("-32768", Ok(Number::Single(32768))),
-    ("-32769", Err(NumberFault::OutOfRange)),
-    ("1.", Ok(Number::Double(1))),
-    ("-1.", Ok(Number::Double(4_294_967_295))),
-    ("4294967295.", Ok(Number::Double(4_294_967_295))),
-    ("4294967296.", Err(NumberFault::OutOfRange)),
-    ("-2147483648.", Ok(Number::Double(2_147_483_648))),
-    ("-2147483649.", Err(NumberFault::OutOfRange)),
-    ("99999999999999999999", Err(NumberFault::OutOfRange)),
-    ("", Err(NumberFault::NotANumber)),
-    ("-", Err(NumberFault::NotANumber)),
-    (".", Err(NumberFault::NotANumber)),
-    ("-.", Err(NumberFault::NotANumber)),
-    ("1.5", Err(NumberFault::NotANumber)),
-    ("1..", Err(NumberFault::NotANumber)),
-    ("--1", Err(NumberFault::NotANumber)),
-    ("1-", Err(NumberFault::NotANumber)),
-    ("FF", Err(NumberFault::NotANumber)),
-];
+/// Calls over a text that is held.
+#[derive(Drop)]
+struct Numbers {
+    held: Held,
+}
+
+impl Caller for Numbers {
+    fn call(&mut self, row: Row<'_>) -> bool {
+        match row.word {
+            "read" => is_read(row),
+            "convert" => is_converted(row),
+            "word" => is_taken(row, take_word(row.text(), row.byte(0))),
+            "text" => is_taken(row, take_text(row.text(), row.byte(0))),
+            "char" => is_char(row),
+            "value" => is_value(row),
+            _ => self.held(row),
+        }
+    }
+}
+
+impl Numbers {
+    fn new() -> Self {
+        Numbers { held: Held::new() }
+    }
+
+    fn held(&mut self, row: Row<'_>) -> bool {
+        match row.word {
+            "begin" => self.begin(),
+            "hold" => row.is(self.held.hold(row.byte(0))),
+            "stars" => self.stars(row.cell(0)),
+            "digit" => self.digit(row),
+            "digits" => self.digits(row),
+            "held" => row.shows(self.held.finish()),
+            "length" => row.gives(u32::try_from(self.held.finish().len()).ok()),
+            "first" => row.gives(self.held.finish().first().map(|first| u32::from(*first))),
+            _ => false,
+        }
+    }
+
+    fn begin(&mut self) -> bool {
+        self.held.begin();
+        true
+    }
+
+    fn stars(&mut self, count: u16) -> bool {
+        for _ in 0..count {
+            self.held.hold(b'*');
+        }
+        true
+    }
+
+    fn digit(&mut self, row: Row<'_>) -> bool {
+        let base = row.cell(1);
+        2 <= base && base <= 72 && row.gives(self.held.digit(row.number(0), base))
+    }
+
+    fn digits(&mut self, row: Row<'_>) -> bool {
+        let base = row.cell(1);
+        2 <= base && base <= 72 && row.is(self.held.digits(row.number(0), base))
+    }
+}
+
+/// `read BASE [TEXT] | single N`, `double N`, `range` or `none`.
+fn is_read(row: Row<'_>) -> bool {
+    let base = row.cell(0);
+    if base < 2 || base > 72 {
+        return false;
+    }
+    let (kind, number) = row.answer.split_once(" ").unwrap_or((row.answer, ""));
+    match read_number(row.text(), base) {
+        Ok(Number::Single(n)) => kind == "single" && number_in(number, 0) == u32::from(n),
+        Ok(Number::Double(d)) => kind == "double" && number_in(number, 0) == d,
+        Err(NumberFault::OutOfRange) => kind == "range",
+        Err(NumberFault::NotANumber) => kind == "none",
+    }
+}
+
+/// `convert D BASE [TEXT] | D COUNT`.
+fn is_converted(row: Row<'_>) -> bool {
+    let base = row.cell(1);
+    if base < 2 || base > 72 {
+        return false;
+    }
+    let (number, count) = convert(row.number(0), row.text(), base);
+    number == number_in(row.answer, 0) && u32::try_from(count) == Ok(number_in(row.answer, 1))
+}
+
+/// What is taken of the stream, and how much it is with its delimiters.
+fn is_taken(row: Row<'_>, taken: (&[u8], usize)) -> bool {
+    row.shows(taken.0) && row.gives(u32::try_from(taken.1).ok())
+}
+
+fn is_char(row: Row<'_>) -> bool {
+    let digit = row.byte(0);
+    digit < 72 && row.shows(&[digit_char(digit)])
+}
+
+fn is_value(row: Row<'_>) -> bool {
+    let base = row.cell(0);
+    if base > 72 {
+        return false;
+    }
+    match row.text() {
+        [c] => row.gives(digit_value(*c, base).map(u32::from)),
+        _ => false,
+    }
+}
 
 #[test]
 fn decimal_numbers_are_read(rt: HostRuntime) {
-    for (text, number) in DECIMAL {
-        assert_eq!(rt; read_number(text.as_bytes(), 10), number);
-    }
+    let text = "read 10 [0] | single 0
+read 10 [-0] | single 0
+read 10 [007] | single 7
+read 10 [-7] | single 65529
+read 10 [65535] | single 65535
+read 10 [65536] | range
+read 10 [-32768] | single 32768
+read 10 [-32769] | range
+read 10 [1.] | double 1
+read 10 [-1.] | double 4294967295
+read 10 [4294967295.] | double 4294967295
+read 10 [4294967296.] | range
+read 10 [-2147483648.] | double 2147483648
+read 10 [-2147483649.] | range
+read 10 [99999999999999999999] | range
+read 10 [] | none
+read 10 [-] | none
+read 10 [.] | none
+read 10 [-.] | none
+read 10 [1.5] | none
+read 10 [1..] | none
+read 10 [--1] | none
+read 10 [1-] | none
+read 10 [FF] | none";
+    follow(&rt, &mut Numbers::new(), text);
 }
 
 #[test]
 fn numbers_in_other_bases_are_read(rt: HostRuntime) {
-    assert_eq!(rt; read_number(b"FF", 16), Ok(Number::Single(255)));
-    assert_eq!(rt; read_number(b"ff", 16), Err(NumberFault::NotANumber));
-    assert_eq!(rt; read_number(b"-8000", 16), Ok(Number::Single(32768)));
-    assert_eq!(rt; read_number(b"10000", 16), Err(NumberFault::OutOfRange));
-    assert_eq!(rt;
-        read_number(b"1111111111111111", 2),
-        Ok(Number::Single(65535))
-    );
-    assert_eq!(rt; read_number(b"2", 2), Err(NumberFault::NotANumber));
-    assert_eq!(rt; read_number(b"~~", 72), Ok(Number::Single(5183)));
+    let text = "read 16 [FF] | single 255
+read 16 [ff] | none
+read 16 [-8000] | single 32768
+read 16 [10000] | range
+read 2 [1111111111111111] | single 65535
+read 2 [2] | none
+read 72 [~~] | single 5183";
+    follow(&rt, &mut Numbers::new(), text);
 }
 
 #[test]
 fn digits_go_past_the_letters(rt: HostRuntime) {
-    assert_eq!(rt; digit_char(9), b'9');
-    assert_eq!(rt; digit_char(10), b'A');
-    assert_eq!(rt; digit_char(71), b'~');
-    assert_eq!(rt; digit_value(b'~', 72), Some(71));
-    assert_eq!(rt; digit_value(b'~', 71), None);
-    assert_eq!(rt; digit_value(b':', 72), None);
+    let text = "char 9 | [9]
+char 10 | [A]
+char 71 | [~]
+value 72 [~] | 71
+value 71 [~] | none
+value 72 [:] | none";
+    follow(&rt, &mut Numbers::new(), text);
 }
 
 #[test]
 fn digits_are_converted_up_to_another_byte(rt: HostRuntime) {
-    assert_eq!(rt; convert(0, b"1234X", 10), (1234, 4));
-    assert_eq!(rt; convert(1, b"", 10), (1, 0));
-    assert_eq!(rt; convert(12, b"34 5", 10), (1234, 2));
-    assert_eq!(rt; convert(0, b"FG", 16), (15, 1));
-    assert_eq!(rt; convert(429_496_730, b"0", 10), (4, 1));
+    let text = "convert 0 10 [1234X] | 1234 4
+convert 1 10 [] | 1 0
+convert 12 10 [34 5] | 1234 2
+convert 0 16 [FG] | 15 1
+convert 429496730 10 [0] | 4 1";
+    follow(&rt, &mut Numbers::new(), text);
 }
 
 #[test]
 fn a_text_is_held_from_its_end(rt: HostRuntime) {
-    let mut held = Held::new();
-    assert!(rt; held.digits(0, 10));
-    assert_eq!(rt; held.finish(), b"0".as_slice());
-    held.begin();
-    assert_eq!(rt; held.digit(1234, 10), Some(123));
-    assert!(rt; held.hold(b'.'));
-    assert!(rt; held.digits(123, 10));
-    assert_eq!(rt; held.finish(), b"123.4".as_slice());
+    let text = "digits 0 10 | true
+held | [0]
+begin
+digit 1234 10 | 123
+hold 46 | true
+digits 123 10 | true
+held | [123.4]";
+    follow(&rt, &mut Numbers::new(), text);
 }
 
 #[test]
 fn a_sign_is_held_before_its_digits(rt: HostRuntime) {
-    let mut held = Held::new();
-    assert!(rt; held.digits(5, 10));
-    assert!(rt; held.hold(b'-'));
-    assert_eq!(rt; held.finish(), b"-5".as_slice());
-    held.begin();
-    assert!(rt; held.digits(255, 16));
-    assert_eq!(rt; held.finish(), b"FF".as_slice());
-    held.begin();
-    assert!(rt; held.digits(4_294_967_295, 2));
-    assert_eq!(rt; held.finish().len(), 32);
-    held.begin();
-    assert!(rt; held.digits(5183, 72));
-    assert_eq!(rt; held.finish(), b"~~".as_slice());
+    let text = "digits 5 10 | true
+hold 45 | true
+held | [-5]
+begin
+digits 255 16 | true
+held | [FF]
+begin
+digits 4294967295 2 | true
+length | 32
+begin
+digits 5183 72 | true
+held | [~~]";
+    follow(&rt, &mut Numbers::new(), text);
 }
 
 #[test]
 fn no_more_than_66_bytes_are_held(rt: HostRuntime) {
-    let mut held = Held::new();
-    for _ in 0..65 {
-        held.hold(b'*');
-    }
-    assert!(rt; !held.digits(12, 10));
-    assert_eq!(rt; held.finish().len(), 66);
-    assert_eq!(rt; held.finish()[0], b'2');
-    assert!(rt; !held.hold(b'!'));
-    assert_eq!(rt; held.digit(7, 10), None);
-    assert_eq!(rt; held.finish()[0], b'2');
+    let text = "stars 65
+digits 12 10 | false
+length | 66
+first | 50
+hold 33 | false
+digit 7 10 | none
+first | 50";
+    follow(&rt, &mut Numbers::new(), text);
 }
 
 #[test]
@@ -126,18 +227,13 @@ fn laws_are_calls(_rt: HostRuntime) {
 
 #[test]
 fn words_are_taken_without_delimiters(rt: HostRuntime) {
-    let (word, length) = take_word(b"  DUP .", 32);
-    assert_eq!(rt; word, b"DUP".as_slice());
-    assert_eq!(rt; length, 6);
-    let (none, whole) = take_word(b"   ", 32);
-    assert!(rt; none.is_empty());
-    assert_eq!(rt; whole, 3);
-    assert_eq!(rt; take_word(b"A B", 32).1, 2);
-    assert_eq!(rt; take_word(b"A", 32).1, 1);
-    assert_eq!(rt; take_word(b"XXAXB", b'X').0, b"A".as_slice());
-    assert_eq!(rt; take_text(b" HI ", b'"').0, b" HI ".as_slice());
-    assert_eq!(rt; take_text(b" HI \" 1", b'"'), (b" HI ".as_slice(), 5));
-    let (text, after) = take_text(b") 1", b')');
-    assert!(rt; text.is_empty());
-    assert_eq!(rt; after, 1);
+    let text = "word 32 [  DUP .] | 6 [DUP]
+word 32 [   ] | 3 []
+word 32 [A B] | 2 [A]
+word 32 [A] | 1 [A]
+word 88 [XXAXB] | 4 [A]
+text 34 [ HI ] | 4 [ HI ]
+text 34 [ HI \" 1] | 5 [ HI ]
+text 41 [) 1] | 1 []";
+    follow(&rt, &mut Numbers::new(), text);
 }
