@@ -32,6 +32,13 @@ list A 70000 : error: invalid value '70000' for '<BLOCK>'
 list A -1 : error: unexpected argument '-1'
 list A 0x1 : error: invalid value '0x1'
 list A 1 2 : error: unexpected argument '2'
+export A 1 : error: the following required arguments
+export A 1 65536 : error: invalid value '65536' for '<LAST>'
+export A 1 2 3 : error: unexpected argument '3'
+import A 1 : error: the following required arguments
+import A 65536 F : error: invalid value '65536' for '<FIRST>'
+import A 1 F 2 : error: unexpected argument '2'
+import A 1 F --check=1 : error: unexpected value '1' for '--check'
 put A 1 : error: the following required arguments
 run : error: the following required arguments
 run A --steps 0 : error: invalid value '0'
@@ -110,6 +117,7 @@ fn outputs_that_fail(rt: HostRuntime) -> Result<(), Fail> {
         check_narrow(&rt, &["forth83"], 3, failing);
         check_narrow(&rt, &["forth83", "run", path], 0, failing);
         check_narrow(&rt, &["forth83", "list", path, "1"], 1000, failing);
+        check_narrow(&rt, &["forth83", "export", path, "1", "2"], 20, failing);
         check_narrow(&rt, &["forth83", "--help"], 10, failing);
     }
     fs::remove_dir_all(&rt, "program_outputs")?;
@@ -216,6 +224,10 @@ fn calls_are_few(rt: HostRuntime) -> Result<(), Fail> {
     assert_eq!(rt; calls_of(&rt, &["forth83", "run", path], lines)?, (2, 3));
     assert_eq!(rt;
         calls_of(&rt, &["forth83", "list", path, "0"], lines)?,
+        (0, 1)
+    );
+    assert_eq!(rt;
+        calls_of(&rt, &["forth83", "export", path, "0", "31"], lines)?,
         (0, 1)
     );
     fs::remove_dir_all(&rt, "program_calls")?;

@@ -8,7 +8,7 @@ use std::rt::Files;
 use std::test::Fail;
 
 /// Makes an empty folder with an image of 32 blocks in it.
-fn with_image(
+pub(crate) fn with_image(
     rt: &(impl Files<File = File> + AllocGlobal + Abort),
     folder: &str,
 ) -> Result<(), Fail> {
@@ -29,7 +29,7 @@ fn listing(rt: &impl AllocGlobal, text: &str) -> Result<String, Fail> {
 }
 
 /// Compares a block of the image with lines.
-fn check_block(
+pub(crate) fn check_block(
     rt: &(impl Files<File = File> + AllocGlobal + Abort),
     path: &str,
     block: &str,
@@ -190,7 +190,13 @@ fn check_refused(
     path: &str,
     text: &str,
 ) -> Result<(), Fail> {
-    for words in ["list PATH 0", "run PATH", "put PATH 1 PATH"] {
+    for words in [
+        "list PATH 0",
+        "run PATH",
+        "put PATH 1 PATH",
+        "export PATH 0 0",
+        "import PATH 0 PATH",
+    ] {
         let words = words.replace(rt.alloc(), "PATH", path)?;
         let script = format!(in rt.alloc(); "3 image: {text} : {words}")?;
         follow(rt, folder, &script)?;

@@ -15,3 +15,5 @@ mod streams;
 mod support;
 #[cfg(test)]
 mod systems;
+#[cfg(test)]
+mod transferring;

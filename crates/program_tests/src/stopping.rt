@@ -1,8 +1,9 @@
 //! The program over an image on a disk that loses its power at each call: what wasn't synced is lost or kept, sector by sector.
 use super::support::{call_over, make_over, transcript};
-use super::systems::{BLANK, BOTH, SAVED, SEVENS};
+use super::systems::{BLANK, BOTH, SAVED, SEVENS, SEVENS_FILE};
 use sector_disk::{FileFault, HostFault, HostFile, HostFiles};
 use std::cell::{Cell, RefCell};
+use std::fs;
 use std::fs::File;
 use std::process::Abort;
 use std::rt::Files;
@@ -277,25 +278,44 @@ fn is_whole(rt: &(impl Files<File = File> + AllocGlobal), files: &OneDisk<'_>) -
 /// both as saved.
 #[test]
 fn sessions_that_are_stopped(rt: HostRuntime) -> Result<(), Fail> {
-    let disk = Disk::new(&rt)?;
-    let files = OneDisk { disk: &disk };
-    make_over(&rt, &files);
-    let made = disk.copy(&rt)?;
     let (input, _) = transcript(&rt, SAVED)?;
+    saves_are_stopped(&rt, &["forth83", "run", "A"], input.as_slice())
+}
+
+/// And so is an import of two blocks.
+#[test]
+fn imports_that_are_stopped(rt: HostRuntime) -> Result<(), Fail> {
+    fs::write(&rt, "program_stopped", SEVENS_FILE)?;
+    let words = ["forth83", "import", "A", "1", "program_stopped"];
+    saves_are_stopped(&rt, &words, b"")?;
+    fs::remove_file(&rt, "program_stopped")?;
+    Ok(())
+}
+
+/// Stops a command that saves 7 in two blocks at once.
+fn saves_are_stopped(
+    rt: &(impl Files<File = File> + AllocGlobal + Abort),
+    words: &[&str],
+    input: &[u8],
+) -> Result<(), Fail> {
+    let disk = Disk::new(rt)?;
+    let files = OneDisk { disk: &disk };
+    make_over(rt, &files);
+    let made = disk.copy(rt)?;
     disk.begin(u64::MAX);
-    let _ = call_over(&rt, &files, &["forth83", "run", "A"], input.as_slice());
+    let _ = call_over(rt, &files, words, input);
     let calls = disk.made.get();
     assert!(rt; (20..100).contains(&calls), "{calls}");
     for k in 0..calls {
         for fate in FATES {
             disk.set(made.as_slice());
             disk.begin(k);
-            let _ = call_over(&rt, &files, &["forth83", "run", "A"], input.as_slice());
+            let _ = call_over(rt, &files, words, input);
             disk.restart(fate);
             if fate == Fate::EvenKept {
-                recovery_is_stopped(&rt, &files, fate)?;
+                recovery_is_stopped(rt, &files, fate)?;
             }
-            assert!(rt; is_whole(&rt, &files), "{fate:?} at {k}");
+            assert!(rt; is_whole(rt, &files), "{fate:?} at {k}");
         }
     }
     Ok(())

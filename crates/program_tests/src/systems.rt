@@ -1,7 +1,8 @@
 //! The program over images that are files in memory, whose calls are short, interrupted or fail.
-use super::support::{call_over, make_over, run_over_files, transcript};
+use super::support::{Left, call_over, make_over, run_over_files, transcript};
 use sector_disk::{FileFault, HostFault, HostFile, HostFiles, MemoryFile, Script};
 use std::cell::{Cell, RefCell};
+use std::fs;
 use std::fs::File;
 use std::process::Abort;
 use std::rt::Files;
@@ -210,6 +211,9 @@ pub(crate) const SAVED: &str = "\
 7 7  ok
 ";
 
+/// A text of two blocks whose first cells are 7.
+pub(crate) const SEVENS_FILE: &[u8] = b"\x07\x00\n\n\n\n\n\n\n\n\n\n\n\n\n\n\n\n\x07\x00";
+
 /// What a session saves is there, whatever number of bytes a call moves, and where each third one is interrupted.
 #[test]
 fn sessions_over_short_calls(rt: HostRuntime) -> Result<(), Fail> {
@@ -253,6 +257,54 @@ fn sessions_whose_calls_fail(rt: HostRuntime) -> Result<(), Fail> {
         assert!(rt; is_so, "at {k}");
     }
     Ok(())
+}
+
+/// Each call of an import fails once: it is told, and afterwards both blocks are as before, or both as the file has them. A check makes no
+/// call.
+#[test]
+fn imports_whose_calls_fail(rt: HostRuntime) -> Result<(), Fail> {
+    fs::write(&rt, "program_import", SEVENS_FILE)?;
+    let words = ["forth83", "import", "A", "1", "program_import", "--check"].as_slice();
+    let (import, _) = words.split_at(5);
+    assert_eq!(rt; import_fails(&rt, words, u64::MAX)?, (0, 0));
+    let (status, calls) = import_fails(&rt, import, u64::MAX)?;
+    assert_eq!(rt; status, 0);
+    for k in 0..calls {
+        let (status, _) = import_fails(&rt, import, k)?;
+        assert_eq!(rt; status, 3, "at {k}");
+    }
+    fs::remove_file(&rt, "program_import")?;
+    Ok(())
+}
+
+/// Imports two blocks, where the call of this number fails, and gives the status and how many calls there were.
+fn import_fails(
+    rt: &(impl Files<File = File> + AllocGlobal + Abort),
+    words: &[&str],
+    fails_at: u64,
+) -> Result<(u8, u64), Fail> {
+    let file = empty(rt)?;
+    let calls = Calls::new();
+    let files = OneFile {
+        file: &file,
+        calls: &calls,
+        is_there: Cell::new(false),
+    };
+    make_over(rt, &files);
+    calls.begin(fails_at);
+    let Left { status, output, .. } = call_over(rt, &files, words, b"");
+    assert_eq!(rt;
+        (output.len(), calls.openings.get()),
+        (0, 1),
+        "at {fails_at}"
+    );
+    let made = calls.made.get();
+    calls.begin(u64::MAX);
+    let left = call_over(rt, &files, &["forth83", "run", "A"], BOTH.as_bytes());
+    let is_blank = left.output.as_slice() == BLANK.as_bytes();
+    let is_imported = left.output.as_slice() == SEVENS.as_bytes();
+    assert!(rt; is_blank || is_imported, "at {fails_at}");
+    Ok((status, made))
 }
 
 /// Each sixteenth call of `new` fails once, the last one too, and the one that makes the name stay: it is told, and the file stays.

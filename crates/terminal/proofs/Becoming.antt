@@ -1,5 +1,5 @@
 -- What a command makes of a device, of what its store makes of it; and how many blocks an image on a device has.
-use Rattle.std.proofs.Common.{◌≡◌, ◌∙◌, ◌+◌, ◌*◌, ◌<◌, ℕ, zero, suc, Bool, false, List, Option, Result, Ok, Err, IsTrue, refl, cond, sym, subst, arith}
+use Rattle.std.proofs.Common.{◌≡◌, ◌∙◌, ◌+◌, ◌-◌, ◌*◌, ◌<◌, ◌≤◌, ℕ, zero, suc, Bool, false, List, length, Option, None, Result, Ok, Err, IsTrue, refl, cond, sym, subst, arith}
 use Rattle.std.specs.Prelude.{IfOk}
 use Rattle.std.specs.Io.KnownBytes.{Appends}
 use Rattle.sector_disk.specs.declared.device.SectorDevice.{Ghosts}
@@ -13,11 +13,16 @@ use Rattle.recovery.specs.Formatted.{MakingLeaves}
 use Rattle.recovery.specs.Label.{blocks_in}
 use Rattle.recovery.specs.Upgraded.{OldLeaves}
 use Rattle.interpreter.specs.Lines.{new_forth}
-use Rattle.terminal.specs.Done.{Comes, LeavesBlocks, ListsBlock, PutsBlock, RunsFrom, RunsSession, Upgrades, blocks_on, maps_on}
+use Rattle.terminal.specs.Done.{Comes, Exports, ImportsBlocks, LeavesBlocks, ListsBlock, PutsBlock, RunsFrom, RunsSession, Upgrades, blocks_on, maps_on}
 use Rattle.sessions.specs.Devices.{Becomes}
 use Rattle.terminal.specs.Files.{OpensAs}
+use Rattle.terminal.specs.Findings.{blocks_for, refusal, said, told}
+use Rattle.terminal.specs.Imported.{ImportsSome}
 use Rattle.terminal.specs.Putting.{PutsSome}
 use Rattle.terminal.specs.Screen.{listing}
+use Rattle.terminal.specs.Transfer.{ReadsStore, exports}
+use Rattle.terminal.specs.declared.orders.Form.{Form}
+use Rattle.terminal.proofs.Saving.{length_blocks}
 
 module _ {D : Type 0} (G : Ghosts D) where
   -- The session over a store that was opened on a device.
@@ -62,6 +67,42 @@ module _ {D : Type 0} (G : Ghosts D) where
     begins = few;
     reads = reads;
   }
+
+  -- Blocks of a store that was opened on a device were exported.
+  pub exported : (device : D) (old new : Store D G) (form : Form) (first last : ℕ) (written written' : Option (List ℕ)) → OpensAs G device old
+      → first ≤ last → last < blocks_of old
+      → ((m : Maps) → StandsFor old m → Appends written written' (exports form m first (last + 1 - first)))
+      → ReadsStore old new (2 * (last + 1 - first)) → Exports G form first last written written' device (device_of new)
+  exported device old new form first last written written' opens ordered below printed read = record {
+    begun = device_of old;
+    recovers = opens.recovers;
+    goes = continued old new read.continues;
+    ordered = ordered;
+    there = there_on device old last opens below;
+    printed = λ keeps. printed (maps_on G device) (opens.stands keeps);
+    stops = λ keeps. read.stops (maps_on G device) (opens.stands keeps) refl;
+    same = λ keeps. let now = read.state (maps_on G device) (opens.stands keeps) in now.left (sym now.closed);
+    begins = read.begins;
+    reads = read.reads;
+  }
+
+  -- Blocks were imported into a store that was opened on a device.
+  pub imported : (device : D) (old new : Store D G) (form : Form) (first : ℕ) → OpensAs G device old → Continues old new
+      → ImportsSome form first old new → ImportsBlocks G form first device (device_of new)
+  imported device old new form first opens on some =
+      let count = length_blocks (said form some.file) in
+      record {
+        begun = device_of old;
+        recovers = opens.recovers;
+        goes = continued old new on;
+        file = some.file;
+        sound = subst (λ (n : ℕ). refusal (told form (n - first) some.file) ≡ None) opens.size some.sound;
+        below = subst (λ (n : ℕ). first < n) opens.size some.below;
+        there = subst (λ (n : ℕ). first + blocks_for (length (said form some.file)) ≤ n) opens.size some.there;
+        saves = λ keeps. (some.imports.saved (maps_on G device) (opens.stands keeps)).1;
+        begins = record { few_writes = omega (arith, opens.pending, count, some.imports.begins.few_writes); few_syncs = some.imports.begins.few_syncs };
+        reads = omega (arith, opens.pending, count, some.imports.reads);
+      }
 
   -- A block was put into a store that was opened on a device.
   pub puts : (device : D) (old new : Store D G) (b : ℕ) → OpensAs G device old → b < blocks_of old → Continues old new

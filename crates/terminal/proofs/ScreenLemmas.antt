@@ -1,6 +1,6 @@
 -- How a text is cut into the rows of a screen.
 use Rattle.std.proofs.Common.{◌≡◌, ◌≤◌, ◌<◌, ◌+◌, ◌-◌, ◌&&◌, ◌==◌, ℕ, zero, suc, Bool, true, false, List, [], ◌∷◌, ◌++◌, length, take, drop, map, Option, Some, None, option_map, refl, ap, sym, ◌∙◌, arith, append-nil, length-append, ◌*◌, length-take, if◌then◌else◌, nat_lt, nat_le}
-use Rattle.std.proofs.lemmas.List.{length-map, take-map}
+use Rattle.std.proofs.lemmas.List.{length-drop, length-map, take-map}
 use Rattle.std.proofs.Math.ListN.{get_or-map}
 use Rattle.std.proofs.lemmas.Grind.{common_steps}
 use Rattle.std.proofs.lemmas.Bool.{leb-true, ltb-true, ltb-false}
@@ -58,6 +58,23 @@ rows_cut n (b ∷ bytes) = ap (λ l. rows (suc n) (map line_text l)) (lines_cut 
 
 text_is : (bytes line : List ℕ) → line ≡ strip_last 13 (up_to 10 bytes) → line_text (up_to 10 bytes) ≡ map blank_for_tab line
 text_is bytes line is = strip_tabs (up_to 10 bytes) ∙ ap (map blank_for_tab) (sym is)
+
+-- the first line of a text as it is read, and those after it
+pub texts_cut : (bytes line : List ℕ) → 0 < length bytes → line ≡ strip_last 13 (up_to 10 bytes)
+    → texts_of bytes ≡ map blank_for_tab line ∷ texts_of (after_text 10 bytes)
+texts_cut [] line some is = absurd (omega (arith, some))
+texts_cut (b ∷ bytes) line some is = ap (map line_text) (lines_cut b bytes) ∙ ap (λ l. l ∷ texts_of (after_text 10 (b ∷ bytes))) (text_is (b ∷ bytes) line is)
+
+from_length : (bytes : List ℕ) → length (from 10 bytes) ≤ length bytes
+from_length [] = omega arith
+from_length (b ∷ bytes) = go (b == 10) (from_length bytes)
+  where
+    go : (t : Bool) → length (from 10 bytes) ≤ length bytes → length (if t then b ∷ bytes else from 10 bytes) ≤ length (b ∷ bytes)
+    go true less = omega arith
+    go false less = omega (arith, less)
+
+pub after_shorter : (bytes : List ℕ) → 0 < length bytes → length (after_text 10 bytes) < length bytes
+after_shorter bytes some = omega (arith, some, from_length bytes, length-drop 1 (from 10 bytes))
 
 -- one row more
 pub screen_step : (n : ℕ) (block bytes line : List ℕ) → line ≡ strip_last 13 (up_to 10 bytes) → length line ≤ 64

@@ -21,6 +21,22 @@ abbrev pub read_images : List Text → Option (Text × Option Text × Option Tex
 read_images words = option_map (λ given. (given.0, first_of (codes "OLD") given.1, first_of (codes "NEW") given.1))
     (subcommand_of forth83 (codes "forth83" ∷ words))
 
+-- the name of the command, the texts under the image and the file, the numbers of the first block and the last, and the flag
+abbrev pub read_many : List Text → Option (Text × Option Text × Option Text × Option Text × Option Text × Option Text)
+read_many words = option_map (λ given. (
+  given.0,
+  first_of (codes "IMAGE") given.1,
+  first_of (codes "FILE") given.1,
+  one_of (codes "FIRST") given.1,
+  one_of (codes "LAST") given.1,
+  one_of (codes "raw") given.1,
+))
+    (subcommand_of forth83 (codes "forth83" ∷ words))
+
+-- whether a check is asked for
+abbrev pub read_check : List Text → Option (Option Text)
+read_check words = option_map (λ given. one_of (codes "check") given.1) (subcommand_of forth83 (codes "forth83" ∷ words))
+
 -- which refusals there may be
 abbrev pub refused : List Text → Kinds
 refused words = fault_of forth83 (codes "forth83" ∷ words)
@@ -51,6 +67,23 @@ pub record CommandsAreRead : Type 0 where
   pub no_such_block : refused (codes "list" ∷ codes "A" ∷ codes "70000" ∷ []) ≡ kind.ValueValidation ∷ []
   pub last_block : refused (codes "list" ∷ codes "A" ∷ codes "65535" ∷ []) ≡ []
   pub no_file : refused (codes "put" ∷ codes "A" ∷ codes "1" ∷ []) ≡ kind.MissingRequiredArgument ∷ []
+  pub exports : read_many (codes "export" ∷ codes "A" ∷ codes "1" ∷ codes "9" ∷ [])
+      ≡ Some (codes "export", Some (codes "A"), None, Some (codes "1"), Some (codes "9"), Some (codes "false"))
+  pub exports_fits : refused (codes "export" ∷ codes "A" ∷ codes "1" ∷ codes "9" ∷ []) ≡ []
+  pub exports_raw : read_many (codes "export" ∷ codes "--raw" ∷ codes "A" ∷ codes "0" ∷ codes "65535" ∷ [])
+      ≡ Some (codes "export", Some (codes "A"), None, Some (codes "0"), Some (codes "65535"), Some (codes "true"))
+  pub exports_raw_fits : refused (codes "export" ∷ codes "A" ∷ codes "1" ∷ codes "9" ∷ codes "--raw" ∷ []) ≡ []
+  pub no_last_block : refused (codes "export" ∷ codes "A" ∷ codes "1" ∷ []) ≡ kind.MissingRequiredArgument ∷ []
+  pub no_such_last_block : refused (codes "export" ∷ codes "A" ∷ codes "1" ∷ codes "65536" ∷ []) ≡ kind.ValueValidation ∷ []
+  pub imports : read_many (codes "import" ∷ codes "A" ∷ codes "1" ∷ codes "F" ∷ [])
+      ≡ Some (codes "import", Some (codes "A"), Some (codes "F"), Some (codes "1"), None, Some (codes "false"))
+  pub imports_fits : refused (codes "import" ∷ codes "A" ∷ codes "1" ∷ codes "F" ∷ []) ≡ []
+  pub imports_unchecked : read_check (codes "import" ∷ codes "A" ∷ codes "1" ∷ codes "F" ∷ []) ≡ Some (Some (codes "false"))
+  pub checks : read_check (codes "import" ∷ codes "A" ∷ codes "1" ∷ codes "F" ∷ codes "--check" ∷ []) ≡ Some (Some (codes "true"))
+  pub checks_raw : read_many (codes "import" ∷ codes "--check" ∷ codes "--raw" ∷ codes "A" ∷ codes "0" ∷ codes "F" ∷ [])
+      ≡ Some (codes "import", Some (codes "A"), Some (codes "F"), Some (codes "0"), None, Some (codes "true"))
+  pub checks_fits : refused (codes "import" ∷ codes "A" ∷ codes "1" ∷ codes "F" ∷ codes "--raw" ∷ codes "--check" ∷ []) ≡ []
+  pub no_source : refused (codes "import" ∷ codes "A" ∷ codes "1" ∷ []) ≡ kind.MissingRequiredArgument ∷ []
   pub upgrades : read_images (codes "upgrade" ∷ codes "A" ∷ codes "B" ∷ []) ≡ Some (codes "upgrade", Some (codes "A"), Some (codes "B"))
   pub upgrades_fits : refused (codes "upgrade" ∷ codes "A" ∷ codes "B" ∷ []) ≡ []
   pub no_new_image : refused (codes "upgrade" ∷ codes "A" ∷ []) ≡ kind.MissingRequiredArgument ∷ []

@@ -1,11 +1,13 @@
 -- What the words of a command line may be, and the order that they give.
-use Rattle.std.specs.Prelude.{◌≡◌, ◌≤◌, ℕ, pos, true, List, [], ◌∷◌, Option, Some, None, codes, ⊤}
+use Rattle.std.specs.Prelude.{◌≡◌, ◌≢◌, ◌≤◌, ℕ, pos, true, List, [], ◌∷◌, Option, Some, None, codes, ⊤}
 use Rattle.std.specs.Str.Parse.{IsNumeral, digits_value, without_leading_plus}
-use Rattle.clap.specs.Words.{App, Row, Rule, Text, first_of, new_app, new_rule, one_of, subcommand_of, with_rule, with_subcommand}
-use Rattle.clap.specs.declared.builder.action.ArgAction.TheVariants.{Set}
+use Rattle.clap.specs.Words.{App, Row, Rule, Text, fault_of, first_of, is_simple, is_simple_and_free, new_app, new_rule, one_of, subcommand_of, with_rule, with_subcommand}
+use Rattle.clap.specs.declared.builder.action.ArgAction.TheVariants.{Set, SetTrue}
 use Rattle.clap.specs.declared.builder.value_parser.ValueParser.TheVariants as vp
+use Rattle.terminal.specs.declared.orders.Form.{Form}
+use Rattle.terminal.specs.declared.orders.Form.TheVariants.{Text as Lines, Raw}
 use Rattle.terminal.specs.declared.orders.Order.{Order}
-use Rattle.terminal.specs.declared.orders.Order.TheVariants.{Memory, New, Run, List as ListBlock, Put, Upgrade}
+use Rattle.terminal.specs.declared.orders.Order.TheVariants.{Memory, New, Run, List as ListBlock, Put, Export, Import, CheckImport, Upgrade}
 
 -- an argument that has to be there
 abbrev pub wanted : Text → Rule
@@ -20,8 +22,28 @@ old_image = wanted (codes "OLD")
 abbrev pub new_image : Rule
 new_image = wanted (codes "NEW")
 
+-- a number of a block
+abbrev pub number : Text → Rule
+number id = record (wanted id) { parser = Some (vp.Signed (pos 0) (pos 65535)) }
+
 abbrev pub block : Rule
-block = record (wanted (codes "BLOCK")) { parser = Some (vp.Signed (pos 0) (pos 65535)) }
+block = number (codes "BLOCK")
+
+abbrev pub first_block : Rule
+first_block = number (codes "FIRST")
+
+abbrev pub last_block : Rule
+last_block = number (codes "LAST")
+
+-- an option without a value
+abbrev pub flag : Text → Rule
+flag id = record (new_rule id) { long = Some id; action = Some SetTrue }
+
+abbrev pub raw : Rule
+raw = flag (codes "raw")
+
+abbrev pub check : Rule
+check = flag (codes "check")
 
 abbrev pub file : Rule
 file = wanted (codes "FILE")
@@ -54,6 +76,15 @@ list_app = with_rule (with_rule (new_app (codes "list")) image) block
 abbrev pub put_app : App
 put_app = with_rule (with_rule (with_rule (new_app (codes "put")) image) block) file
 
+abbrev pub export_app : App
+export_app = with_rule (with_rule (with_rule (with_rule (new_app (codes "export")) image) first_block) last_block) raw
+
+abbrev pub import_without_flags : App
+import_without_flags = with_rule (with_rule (with_rule (new_app (codes "import")) image) first_block) file
+
+abbrev pub import_app : App
+import_app = with_rule (with_rule import_without_flags raw) check
+
 abbrev pub upgrade_app : App
 upgrade_app = with_rule (with_rule (new_app (codes "upgrade")) old_image) new_image
 
@@ -61,10 +92,29 @@ upgrade_app = with_rule (with_rule (new_app (codes "upgrade")) old_image) new_im
 abbrev pub with_version : App → App
 with_version app = record app { top = record app.top { has_version = true } }
 
--- the program with its five commands
+-- the commands over the blocks of an image
+abbrev pub over_blocks : App → App
+over_blocks app =
+    with_subcommand (with_subcommand (with_subcommand (with_subcommand app list_app.top) put_app.top) export_app.top) import_app.top
+
+-- the program without a command
+abbrev pub program : App
+program = with_version (new_app (codes "forth83"))
+
+-- the program with its seven commands
 abbrev pub forth83 : App
-forth83 =
-    with_subcommand (with_subcommand (with_subcommand (with_subcommand (with_subcommand (with_version (new_app (codes "forth83"))) new_app_of.top) run_app.top) list_app.top) put_app.top) upgrade_app.top
+forth83 = with_subcommand (over_blocks (with_subcommand (with_subcommand program new_app_of.top) run_app.top)) upgrade_app.top
+
+-- One program makes of the words what the other does, by simple rules.
+pub record ReadsAs (a b : App) (words : List Text) : Type 0 where
+  pub simple : is_simple a ≡ true
+  pub free : is_simple_and_free a ≡ true
+  pub subcommand : subcommand_of a words ≡ subcommand_of b words
+  pub fault : fault_of a words ≡ fault_of b words
+
+-- Words whose second one is this name are read by this program as by the one with all commands.
+abbrev pub SufficesFor : App → Text → Type 0
+SufficesFor app name = (first : Text) (rest : List Text) → ReadsAs app forth83 (first ∷ name ∷ rest)
 
 -- the text that was given under this id
 abbrev pub HasText : List Row → Text → Text → Type 0
@@ -74,6 +124,18 @@ HasText rows id text = first_of id rows ≡ Some text
 abbrev pub HasNumber : List Row → Text → ℕ → Type 0
 HasNumber rows id n = (text : Text) × (one_of id rows ≡ Some text) × IsNumeral 10 (without_leading_plus text)
     × (n ≡ digits_value 10 (without_leading_plus text))
+
+-- the form that the flag `--raw` gives
+abbrev pub HasForm : List Row → Form → Type 0
+HasForm rows form = (one_of (codes "raw") rows ≡ Some (codes "true") → form ≡ Raw)
+    × (one_of (codes "raw") rows ≡ Some (codes "false") → form ≡ Lines)
+
+-- the flag isn't given, or is
+abbrev pub IsUnset : List Row → Text → Type 0
+IsUnset rows id = one_of id rows ≢ Some (codes "true")
+
+abbrev pub IsSet : List Row → Text → Type 0
+IsSet rows id = one_of id rows ≢ Some (codes "false")
 
 -- the order that a command with these arguments gives
 abbrev pub Orders : Option (Text × List Row) → Order → Type 0
@@ -86,6 +148,12 @@ Orders (Some given) (ListBlock path b) = (given.0 ≡ codes "list") × HasText g
     × HasNumber given.1 (codes "BLOCK") b
 Orders (Some given) (Put path b text) = (given.0 ≡ codes "put") × HasText given.1 (codes "IMAGE") path.now
     × HasNumber given.1 (codes "BLOCK") b × HasText given.1 (codes "FILE") text.now
+Orders (Some given) (Export path first last form) = (given.0 ≡ codes "export") × HasText given.1 (codes "IMAGE") path.now
+    × HasNumber given.1 (codes "FIRST") first × HasNumber given.1 (codes "LAST") last × HasForm given.1 form
+Orders (Some given) (Import path first source form) = (given.0 ≡ codes "import") × HasText given.1 (codes "IMAGE") path.now
+    × HasNumber given.1 (codes "FIRST") first × HasText given.1 (codes "FILE") source.now × HasForm given.1 form × IsUnset given.1 (codes "check")
+Orders (Some given) (CheckImport path first source form) = (given.0 ≡ codes "import") × HasText given.1 (codes "IMAGE") path.now
+    × HasNumber given.1 (codes "FIRST") first × HasText given.1 (codes "FILE") source.now × HasForm given.1 form × IsSet given.1 (codes "check")
 Orders (Some given) (Upgrade old new) = (given.0 ≡ codes "upgrade") × HasText given.1 (codes "OLD") old.now
     × HasText given.1 (codes "NEW") new.now
 Orders _ _ = ⊥

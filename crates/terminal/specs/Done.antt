@@ -1,5 +1,5 @@
 -- What a command over images does, on any device: from the device that it opens or makes to what that has become.
-use Rattle.std.specs.Prelude.{◌≡◌, ◌⊎◌, ◌+◌, ◌*◌, ◌<◌, ◌≤◌, ℕ, false, IsTrue, List, Option, Some, ⊤}
+use Rattle.std.specs.Prelude.{◌≡◌, ◌⊎◌, ◌+◌, ◌-◌, ◌*◌, ◌<◌, ◌≤◌, ℕ, false, IsTrue, List, length, Option, Some, None, ⊤}
 use Rattle.std.specs.Io.KnownBytes.{Appends}
 use Rattle.clap.specs.Words.{Text}
 use Rattle.sector_disk.specs.Disk.{Image, MayLeave}
@@ -16,10 +16,13 @@ use Rattle.recovery.specs.Upgraded.{OldLeaves}
 use Rattle.interpreter.specs.State.{Forth}
 use Rattle.interpreter.specs.Lines.{new_forth}
 use Rattle.interpreter.specs.Promise.{Keeps}
+use Rattle.terminal.specs.declared.orders.Form.{Form}
 use Rattle.terminal.specs.declared.orders.Order.{Order}
-use Rattle.terminal.specs.declared.orders.Order.TheVariants.{Memory, New, Run, List as ListBlock, Put, Upgrade}
+use Rattle.terminal.specs.declared.orders.Order.TheVariants.{Memory, New, Run, List as ListBlock, Put, Export, Import, CheckImport, Upgrade}
 use Rattle.terminal.specs.Commands.{IsOrderOf}
+use Rattle.terminal.specs.Findings.{blocks_for, refusal, said, told}
 use Rattle.terminal.specs.Screen.{listing, screen_of}
+use Rattle.terminal.specs.Transfer.{as_blocks, exports, spilled_from}
 use Rattle.sessions.specs.Devices.{Becomes}
 use Rattle.sessions.specs.Sessions.{Completes}
 
@@ -94,6 +97,11 @@ module _ {D : Type 0} (G : Ghosts D) where
     pub stops : StopsLeave G old new (λ image. Means m.saved image ⊎ Means (latest (spilled m b bytes)) image)
     pub after : LeavesBlocks new (latest (spilled m b bytes))
 
+  -- The same of these blocks from block b on, where no fault has closed the store.
+  pub record SavesBlocks (m : Maps) (b : ℕ) (blocks : List (List ℕ)) (old new : D) : Type 0 where
+    pub stops : m.closed ≡ false → StopsLeave G old new (λ image. Means m.saved image ⊎ Means (latest (spilled_from m b blocks)) image)
+    pub after : LeavesBlocks new (latest (spilled_from m b blocks))
+
   -- The same of the lines of some text.
   abbrev pub SavesText : Maps → ℕ → (old new : D) → Type 0
   SavesText m b old new = (text : List ℕ) × (bytes : List ℕ) × (screen_of text ≡ Some bytes) × SavesBlock m b bytes old new
@@ -107,6 +115,43 @@ module _ {D : Type 0} (G : Ghosts D) where
     pub saves : IsTrue (G.keeps_model device) → SavesText (maps_on device) b begun after
     pub begins : BeginsAtMost G begun after 7 4
     pub reads : ReadsAtMost G begun after 4
+
+  -- `export`: a recovery, and the blocks from the first to the last, which are there, were printed in this form. Nothing was
+  -- written for it, and each block was read once, so a stop at any moment after the recovery, and at the end, leaves the blocks
+  -- as they were.
+  pub record Exports (form : Form) (first last : ℕ) (written written' : Option (List ℕ)) (device after : D) : Type 0 where
+    pub begun : D
+    pub recovers : Recovers device begun
+    pub goes : Becomes G begun after
+    pub ordered : first ≤ last
+    pub there : last < blocks_on device
+    pub printed : IsTrue (G.keeps_model device) → Appends written written' (exports form (maps_on device) first (last + 1 - first))
+    pub stops : IsTrue (G.keeps_model device) → StopsLeave G begun after (Means (meant_by device))
+    pub same : IsTrue (G.keeps_model device) → LeavesBlocks after (meant_by device)
+    pub begins : BeginsAtMost G begun after 0 0
+    pub reads : ReadsAtMost G begun after (2 * (last + 1 - first))
+
+  -- `import`: a recovery, and the blocks that some file says, of which nothing is refused, were made those from the first on, in
+  -- one save, and no other block was changed.
+  pub record ImportsBlocks (form : Form) (first : ℕ) (device after : D) : Type 0 where
+    pub begun : D
+    pub recovers : Recovers device begun
+    pub goes : Becomes G begun after
+    pub file : List ℕ
+    pub sound : refusal (told form (blocks_on device - first) file) ≡ None
+    pub below : first < blocks_on device
+    pub there : first + blocks_for (length (said form file)) ≤ blocks_on device
+    pub saves : IsTrue (G.keeps_model device) → SavesBlocks (maps_on device) first (as_blocks (said form file)) begun after
+    pub begins : BeginsAtMost G begun after (4 * blocks_for (length (said form file)) + 3) 4
+    pub reads : ReadsAtMost G begun after (4 * blocks_for (length (said form file)))
+
+  -- `import --check`: nothing is refused of some file, for which there are blocks from the first on. No call of the device was made.
+  pub record LooksAt (form : Form) (first : ℕ) (device after : D) : Type 0 where
+    pub same : after ≡ device
+    pub file : List ℕ
+    pub sound : refusal (told form (blocks_on device - first) file) ≡ None
+    pub below : first < blocks_on device
+    pub there : first + blocks_for (length (said form file)) ≤ blocks_on device
 
   -- `upgrade`: the one device has become an image of the blocks that the image of layout 1 on the other means. That one was
   -- recovered, and means the same.
@@ -143,6 +188,12 @@ module _ {D : Type 0} (G : Ghosts D) where
       DoneOn (opened path.now) (RunsSession steps left left' written written')
   IsDone opened made (ListBlock path b) left left' written written' = DoneOn (opened path.now) (ListsBlock b written written')
   IsDone opened made (Put path b text) left left' written written' = DoneOn (opened path.now) (PutsBlock b)
+  IsDone opened made (Export path first last form) left left' written written' =
+      DoneOn (opened path.now) (Exports form first last written written')
+  IsDone opened made (Import path first source form) left left' written written' =
+      DoneOn (opened path.now) (ImportsBlocks form first)
+  IsDone opened made (CheckImport path first source form) left left' written written' =
+      DoneOn (opened path.now) (LooksAt form first)
   IsDone opened made (Upgrade old new) left left' written written' = UpgradeDone (opened old.now) (made new.now)
 
   -- What the words order was done.

@@ -6,3 +6,6 @@ pub mod Failures
 pub mod Done
 pub mod Files
 pub mod Putting
+pub mod Transfer
+pub mod Findings
+pub mod Imported

@@ -2,16 +2,19 @@
 ghost use Rattle.std.specs.Prelude.{◌≡◌, ◌≢◌, ◌⊎◌, ◌<◌, ◌≤◌, ◌+◌, ◌*◌, ◌↔◌, true, OnOk, IfOk, IfErr, IsErrOf};
 ghost use Rattle.journal.specs.Layout.{sectors_for};
 ghost use Rattle.journal.specs.Store.{Continues, DeviceBegins, DeviceFailed, DeviceReads, blocks_of, closed_of, device_of, pending_count};
-ghost use Rattle.terminal.specs.Done.{Comes, ListsBlock, MakesBlank, PutsBlock, RunsSession, Upgraded};
+ghost use Rattle.terminal.specs.Done.{Comes, Exports, ImportsBlocks, ListsBlock, LooksAt, MakesBlank, PutsBlock, RunsSession, Upgraded};
 ghost use Rattle.terminal.specs.Files.{IsMade, IsOpened, OpensOn};
 ghost use Rattle.terminal.specs.Putting.{LeavesSome, PutsSome};
 
+use super::exporting::export_blocks;
 use super::failure::Failure;
 use super::images::{list_block, make_over, open_over, put_text};
+use super::importing::{import_file, read_blocks};
+use super::orders::Form;
 use super::program::run_session;
 use interpreter::promise::Lines;
 use journal::Store;
-use journal::layout::MOST_BLOCKS_1;
+use journal::layout::{MOST_BLOCKS, MOST_BLOCKS_1};
 use recovery::{blocks_of_size, upgrade};
 use sector_disk::{HostFile, HostFiles, SectorDevice, SectorFile, create_disk, open_disk};
 use std::alloc::Global;
@@ -94,6 +97,27 @@ pub fn list_image<H: HostFile + Drop, O: HostFiles<H>, W: Write>(
     }
 }
 
+/// Prints the blocks of an image from the one to the other. Nothing is written to the image, but by its recovery.
+pub fn export_image<H: HostFile + Drop, O: HostFiles<H>, W: Write>(
+    files: &O,
+    path: &str,
+    first: u16,
+    last: u16,
+    form: Form,
+    output: &mut W,
+) -> Result<Store<SectorFile<H>>, Failure>
+    ensures exported { IfOk result (λ store. Comes ⟦<SectorFile<H> as SectorDevice>⟧
+        (IsOpened H.HostFile (O.opens files.now path.now))
+        (Exports ⟦<SectorFile<H> as SectorDevice>⟧ form first last (W.contents output.old) (W.contents output.new))
+        (device_of store)) }
+{
+    let mut store = open_image(files, path)?;
+    match export_blocks(&mut store, first, last, form, output) {
+        Ok(()) => Ok(store),
+        Err(failure) => Err(failure),
+    }
+}
+
 /// Makes the lines of a text file a block of an image, in one save.
 pub fn put_into_image<H: HostFile + Drop, O: HostFiles<H>>(
     rt: &(impl Files<File = File> + AllocGlobal),
@@ -109,6 +133,53 @@ pub fn put_into_image<H: HostFile + Drop, O: HostFiles<H>>(
     let mut store = open_image(files, path)?;
     match put_file(rt, &mut store, block, text) {
         Ok(()) => Ok(store),
+        Err(failure) => Err(failure),
+    }
+}
+
+/// Makes the blocks that a file says those of an image from `first` on, in one save. What keeps it from that is told in
+/// lines of `errors`, and then nothing is written to the image, but by its recovery.
+pub fn import_image<H: HostFile + Drop, O: HostFiles<H>, E: Write>(
+    rt: &(impl Files<File = File> + AllocGlobal),
+    files: &O,
+    path: &str,
+    first: u16,
+    source: &str,
+    form: Form,
+    errors: &mut E,
+) -> Result<Store<SectorFile<H>>, Failure>
+    ensures imported { IfOk result (λ store. Comes ⟦<SectorFile<H> as SectorDevice>⟧
+        (IsOpened H.HostFile (O.opens files.now path.now))
+        (ImportsBlocks ⟦<SectorFile<H> as SectorDevice>⟧ form first) (device_of store)) }
+{
+    let mut store = open_image(files, path)?;
+    match import_file(rt, &mut store, first, source, form, errors) {
+        Ok(()) => Ok(store),
+        Err(failure) => Err(failure),
+    }
+}
+
+/// Tells in lines of `errors` whatever is told of a file that would be imported. Of the image only the size is looked at, and no
+/// call of its device is made.
+pub fn check_import<H: HostFile + Drop, O: HostFiles<H>, E: Write>(
+    rt: &(impl Files<File = File> + AllocGlobal),
+    files: &O,
+    path: &str,
+    first: u16,
+    source: &str,
+    form: Form,
+    errors: &mut E,
+) -> Result<SectorFile<H>, Failure>
+    ensures looked { IfOk result (λ disk. Comes ⟦<SectorFile<H> as SectorDevice>⟧
+        (IsOpened H.HostFile (O.opens files.now path.now))
+        (LooksAt ⟦<SectorFile<H> as SectorDevice>⟧ form first) disk) }
+{
+    let disk = open_disk(files, path)?;
+    let Some(blocks) = blocks_of_size(disk.sectors(), MOST_BLOCKS) else {
+        return Err(Failure::BadSize);
+    };
+    match read_blocks(rt, blocks, first, source, form, true, errors) {
+        Ok(_) => Ok(disk),
         Err(failure) => Err(failure),
     }
 }

@@ -6,9 +6,12 @@ pub use program::{command, command_over};
 pub use reading::order;
 pub use starting::start;
 
+mod exporting;
 mod failure;
 mod files;
+mod findings;
 mod images;
+mod importing;
 pub mod laws;
 pub mod orders;
 mod program;

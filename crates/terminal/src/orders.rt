@@ -1,5 +1,14 @@
 //! What the words of a command line may ask for.
 
+/// How blocks are written to a file, and read from one.
+#[derive(Clone, Copy, Debug, PartialEq, Eq)]
+pub enum Form {
+    /// As 16 lines each.
+    Text,
+    /// As they are, 1,024 bytes each.
+    Raw,
+}
+
 /// What the program is to do.
 #[derive(Clone, Copy, Debug, PartialEq, Eq)]
 pub enum Order<'a> {
@@ -13,6 +22,12 @@ pub enum Order<'a> {
     List(&'a str, u16),
     /// Make the lines of a file a block of an image.
     Put(&'a str, u16, &'a str),
+    /// Print the blocks of an image from the one to the other.
+    Export(&'a str, u16, u16, Form),
+    /// Make the blocks that a file says those of an image from this one on, in one save.
+    Import(&'a str, u16, &'a str, Form),
+    /// Tell what keeps a file from being imported there, and what else looks wrong in it.
+    CheckImport(&'a str, u16, &'a str, Form),
     /// Make an image of layout 2 of the blocks of one of layout 1.
     Upgrade(&'a str, &'a str),
 }

@@ -16,7 +16,10 @@ ghost use Rattle.terminal.specs.InMemory.{AsksForNothing, IsForMemory, Completes
 ghost use Rattle.sessions.specs.Sessions.{BreaksOff};
 
 use super::failure::Failure;
-use super::files::{list_image, make_image, put_into_image, run_image, upgrade_image};
+use super::files::{
+    check_import, export_image, import_image, list_image, make_image, put_into_image, run_image,
+    upgrade_image,
+};
 use super::orders::Order;
 use super::reading::order;
 use clap::Error;
@@ -89,14 +92,14 @@ pub fn command_over<
 {
     match order(rt.alloc(), words) {
         Ok(asked) => {
-            let outcome = perform::<H, O, F, M, R, W>(rt, files, asked, input, output);
+            let outcome = perform::<H, O, F, M, R, W, E>(rt, files, asked, input, output, errors);
             told(outcome, errors)
         }
         Err(error) => explain(&error, output, errors),
     }
 }
 
-/// Does what is asked.
+/// Does what is asked. What is told of a file that is to be imported goes to `errors`.
 fn perform<
     H: HostFile + Drop,
     O: HostFiles<H>,
@@ -104,12 +107,14 @@ fn perform<
     M: Lines<MemoryDisk>,
     R: Read,
     W: Write,
+    E: Write,
 >(
     rt: &(impl Files<File = File> + AllocGlobal),
     files: &O,
     asked: Order<'_>,
     input: &mut R,
     output: &mut W,
+    errors: &mut E,
 ) -> Result<(), Failure>
     requires { IsInRange asked }
     ensures well { IsForMemory asked.entry → OnOk result (CompletesInMemory ⟦<MemoryDisk as SectorDevice>⟧
@@ -136,6 +141,15 @@ fn perform<
         Order::Put(path, block, text) => {
             closed(put_into_image::<H, O>(rt, files, path, block, text))
         }
+        Order::Export(path, first, last, form) => closed(export_image::<H, O, W>(
+            files, path, first, last, form, output,
+        )),
+        Order::Import(path, first, source, form) => closed(import_image::<H, O, E>(
+            rt, files, path, first, source, form, errors,
+        )),
+        Order::CheckImport(path, first, source, form) => closed(check_import::<H, O, E>(
+            rt, files, path, first, source, form, errors,
+        )),
         Order::Upgrade(old, new) => closed(upgrade_image::<H, O>(files, old, new)),
     }
 }

@@ -1,10 +1,10 @@
 //! The words of a command line are read.
 ghost use Rattle.std.specs.Prelude.{◌≡◌, ◌≤◌, ℕ, List, false, Some, map, codes, IfOk, IfSome};
-ghost use Rattle.clap.specs.Words.{FailsBy, app_of, fault_of, found_of, rows_of, rule_of};
+ghost use Rattle.clap.specs.Words.{FailsBy, app_of, fault_of, found_of, rows_of, rule_of, with_subcommand};
 ghost use Rattle.clap.specs.declared.builder.command.Command.TheViews.{out-Command};
-ghost use Rattle.terminal.specs.Commands.{image, old_image, new_image, block, file, blocks, steps, new_app_of, run_app, list_app, put_app, upgrade_app, forth83, HasNumber, Orders, IsOrderOf, IsInRange};
+ghost use Rattle.terminal.specs.Commands.{image, old_image, new_image, block, first_block, last_block, file, raw, check, blocks, steps, new_app_of, run_app, list_app, put_app, export_app, import_app, import_without_flags, upgrade_app, program, forth83, over_blocks, ReadsAs, SufficesFor, HasForm, HasNumber, HasText, Orders, IsOrderOf, IsInRange};
 
-use super::orders::Order;
+use super::orders::{Form, Order};
 use clap::{Arg, ArgAction, ArgMatches, Command, Error};
 use std::alloc::{AllocError, Global};
 use std::convert::AsStr;
@@ -20,7 +20,7 @@ pub fn order<'a, S: AsStr>(alloc: Global, words: &'a [S]) -> Result<Order<'a>, E
     // An order is given only where the command refuses nothing. What is refused is so for its reasons, or for want of memory.
     ensures fits { FailsBy (fault_of forth83 (map S.text words.entry.now)) result }
 {
-    let mut command = forth83(alloc)?;
+    let mut command = command_for(alloc, words)?;
     let matches = command.try_get_matches_from_mut(words)?;
     let Some((name, given)) = matches.subcommand() else {
         return Ok(Order::Memory);
@@ -52,9 +52,43 @@ fn order_over_image<'a>(name: &str, given: &ArgMatches<'a>) -> Option<Order<'a>>
     match name {
         "new" => Some(Order::New(image, blocks_of(given)?)),
         "run" => Some(Order::Run(image, steps_of(given)?)),
-        "list" => Some(Order::List(image, block_of(given)?)),
-        "put" => Some(Order::Put(image, block_of(given)?, given.get_str("FILE")?)),
+        "list" => Some(Order::List(image, block_of(given, "BLOCK")?)),
+        "put" => Some(Order::Put(image, block_of(given, "BLOCK")?, given.get_str("FILE")?)),
+        _ => order_over_blocks(name, image, given),
+    }
+}
+
+/// The order of a command over many blocks.
+fn order_over_blocks<'a>(name: &str, image: &'a str, given: &ArgMatches<'a>) -> Option<Order<'a>>
+    requires { HasText (rows_of (found_of given.now)) (codes "IMAGE") image.now }
+    ensures given { IfSome result (λ o. Orders (Some (name.now, rows_of (found_of given.now))) o) }
+    ensures ranges { IfSome result (λ o. IsInRange o) }
+{
+    match name {
+        "export" => Some(Order::Export(
+            image,
+            block_of(given, "FIRST")?,
+            block_of(given, "LAST")?,
+            form_of(given),
+        )),
+        "import" => order_of_import(image, block_of(given, "FIRST")?, given),
         _ => None,
+    }
+}
+
+/// The order of an import, or of a look at one.
+fn order_of_import<'a>(image: &'a str, first: u16, given: &ArgMatches<'a>) -> Option<Order<'a>>
+    requires image { HasText (rows_of (found_of given.now)) (codes "IMAGE") image.now }
+    requires first { HasNumber (rows_of (found_of given.now)) (codes "FIRST") first }
+    ensures given { IfSome result (λ o. Orders (Some (codes "import", rows_of (found_of given.now))) o) }
+    ensures ranges { IfSome result (λ o. IsInRange o) }
+{
+    let file = given.get_str("FILE")?;
+    let form = form_of(given);
+    if given.get_flag("check") {
+        Some(Order::CheckImport(image, first, file, form))
+    } else {
+        Some(Order::Import(image, first, file, form))
     }
 }
 
@@ -80,10 +114,20 @@ fn steps_of(given: &ArgMatches<'_>) -> Option<u32>
     }
 }
 
-fn block_of(given: &ArgMatches<'_>) -> Option<u16>
-    ensures { IfSome result (λ n. HasNumber (rows_of (found_of given.now)) (codes "BLOCK") n) }
+fn block_of(given: &ArgMatches<'_>, id: &str) -> Option<u16>
+    ensures { IfSome result (λ n. HasNumber (rows_of (found_of given.now)) id.now n) }
 {
-    given.get_one("BLOCK")
+    given.get_one(id)
+}
+
+fn form_of(given: &ArgMatches<'_>) -> Form
+    ensures { HasForm (rows_of (found_of given.now)) result }
+{
+    if given.get_flag("raw") {
+        Form::Raw
+    } else {
+        Form::Text
+    }
 }
 
 fn image_argument<'a>(alloc: Global) -> Arg<'a>
@@ -127,6 +171,28 @@ fn block_argument<'a>(alloc: Global) -> Arg<'a>
         .help("The number of the block, from 0")
 }
 
+fn first_argument<'a>(alloc: Global) -> Arg<'a>
+    ensures rule { rule_of result ≡ first_block }
+    ensures local { result.global ≡ false }
+{
+    Arg::new(alloc, "FIRST")
+        .required(true)
+        .action(ArgAction::Set)
+        .value_parser(clap::value_parser!(u16))
+        .help("The number of the first block, from 0")
+}
+
+fn last_argument<'a>(alloc: Global) -> Arg<'a>
+    ensures rule { rule_of result ≡ last_block }
+    ensures local { result.global ≡ false }
+{
+    Arg::new(alloc, "LAST")
+        .required(true)
+        .action(ArgAction::Set)
+        .value_parser(clap::value_parser!(u16))
+        .help("The number of the last block")
+}
+
 fn file_argument<'a>(alloc: Global) -> Arg<'a>
     ensures rule { rule_of result ≡ file }
     ensures local { result.global ≡ false }
@@ -135,6 +201,16 @@ fn file_argument<'a>(alloc: Global) -> Arg<'a>
         .required(true)
         .action(ArgAction::Set)
         .help("A text of at most 16 lines of at most 64 bytes")
+}
+
+fn source_argument<'a>(alloc: Global) -> Arg<'a>
+    ensures rule { rule_of result ≡ file }
+    ensures local { result.global ≡ false }
+{
+    Arg::new(alloc, "FILE")
+        .required(true)
+        .action(ArgAction::Set)
+        .help("A text of lines of at most 64 bytes, 16 for a block")
 }
 
 fn blocks_option<'a>(alloc: Global) -> Arg<'a>
@@ -161,6 +237,26 @@ fn steps_option<'a>(alloc: Global) -> Arg<'a>
         .value_parser(clap::value_parser!(u32).range(1..=1_000_000_000))
         .default_value("1000000")
         .help("How many steps a line may take, 1 to 1000000000")
+}
+
+fn raw_option<'a>(alloc: Global) -> Arg<'a>
+    ensures rule { rule_of result ≡ raw }
+    ensures local { result.global ≡ false }
+{
+    Arg::new(alloc, "raw")
+        .long("raw")
+        .action(ArgAction::SetTrue)
+        .help("Blocks as they are, 1024 bytes each")
+}
+
+fn check_option<'a>(alloc: Global) -> Arg<'a>
+    ensures rule { rule_of result ≡ check }
+    ensures local { result.global ≡ false }
+{
+    Arg::new(alloc, "check")
+        .long("check")
+        .action(ArgAction::SetTrue)
+        .help("Tell what looks wrong in FILE, and write nothing")
 }
 
 fn new_command<'a>(alloc: Global) -> Result<Command<'a>, AllocError>
@@ -204,6 +300,39 @@ fn put_command<'a>(alloc: Global) -> Result<Command<'a>, AllocError>
         .arg(file_argument(alloc))
 }
 
+fn export_command<'a>(alloc: Global) -> Result<Command<'a>, AllocError>
+    ensures app { IfOk result (λ c. app_of c ≡ export_app) }
+    ensures local { IfOk result (λ c. (out-Command c).has_globals ≡ false) }
+{
+    Command::new(alloc, "export")
+        .about("Print blocks as 16 lines each")
+        .arg(image_argument(alloc))?
+        .arg(first_argument(alloc))?
+        .arg(last_argument(alloc))?
+        .arg(raw_option(alloc))
+}
+
+/// `import` without its flags.
+fn import_arguments<'a>(alloc: Global) -> Result<Command<'a>, AllocError>
+    ensures app { IfOk result (λ c. app_of c ≡ import_without_flags) }
+    ensures local { IfOk result (λ c. (out-Command c).has_globals ≡ false) }
+{
+    Command::new(alloc, "import")
+        .about("Make the lines of a file blocks of an image, in one save")
+        .arg(image_argument(alloc))?
+        .arg(first_argument(alloc))?
+        .arg(source_argument(alloc))
+}
+
+fn import_command<'a>(alloc: Global) -> Result<Command<'a>, AllocError>
+    ensures app { IfOk result (λ c. app_of c ≡ import_app) }
+    ensures local { IfOk result (λ c. (out-Command c).has_globals ≡ false) }
+{
+    import_arguments(alloc)?
+        .arg(raw_option(alloc))?
+        .arg(check_option(alloc))
+}
+
 fn upgrade_command<'a>(alloc: Global) -> Result<Command<'a>, AllocError>
     ensures app { IfOk result (λ c. app_of c ≡ upgrade_app) }
     ensures local { IfOk result (λ c. (out-Command c).has_globals ≡ false) }
@@ -214,9 +343,67 @@ fn upgrade_command<'a>(alloc: Global) -> Result<Command<'a>, AllocError>
         .arg(new_argument(alloc))
 }
 
+/// The program with the commands that these words may be for: only one, where the second word is its name. Each command
+/// that is made costs a start time, and none but that one is asked then.
+fn command_for<'a, S: AsStr>(alloc: Global, words: &[S]) -> Result<Command<'a>, AllocError>
+    ensures { IfOk result (λ c. ReadsAs (app_of c) forth83 (map S.text words.now)) }
+{
+    let Some(name) = words.get(1) else {
+        return Ok(program(alloc));
+    };
+    command_named(alloc, name.as_str())
+}
+
+/// The program with the command of this name alone, or with all of them where none has it.
+fn command_named<'a>(alloc: Global, name: &str) -> Result<Command<'a>, AllocError>
+    ensures { IfOk result (λ c. SufficesFor (app_of c) name.now) }
+{
+    match name {
+        "new" => alone(alloc, new_command(alloc)?),
+        "run" => alone(alloc, run_command(alloc)?),
+        "list" => alone(alloc, list_command(alloc)?),
+        "put" => alone(alloc, put_command(alloc)?),
+        "export" => alone(alloc, export_command(alloc)?),
+        "import" => alone(alloc, import_command(alloc)?),
+        "upgrade" => alone(alloc, upgrade_command(alloc)?),
+        _ => forth83(alloc),
+    }
+}
+
+/// The program with one command.
+fn alone<'a>(alloc: Global, command: Command<'a>) -> Result<Command<'a>, AllocError>
+    requires { (out-Command command).has_globals ≡ false }
+    ensures { IfOk result (λ c. app_of c ≡ with_subcommand program (app_of command.entry).top) }
+{
+    program(alloc).subcommand(command)
+}
+
+/// Adds the commands over the blocks of an image.
+fn with_blocks<'a>(alloc: Global, command: Command<'a>) -> Result<Command<'a>, AllocError>
+    ensures app { IfOk result (λ c. app_of c ≡ over_blocks (app_of command.entry)) }
+    ensures local { (out-Command command.entry).has_globals ≡ false → IfOk result (λ c. (out-Command c).has_globals ≡ false) }
+{
+    command
+        .subcommand(list_command(alloc)?)?
+        .subcommand(put_command(alloc)?)?
+        .subcommand(export_command(alloc)?)?
+        .subcommand(import_command(alloc)?)
+}
+
 fn forth83<'a>(alloc: Global) -> Result<Command<'a>, AllocError>
     ensures app { IfOk result (λ c. app_of c ≡ forth83) }
     ensures local { IfOk result (λ c. (out-Command c).has_globals ≡ false) }
+{
+    let command = program(alloc)
+        .subcommand(new_command(alloc)?)?
+        .subcommand(run_command(alloc)?)?;
+    with_blocks(alloc, command)?.subcommand(upgrade_command(alloc)?)
+}
+
+/// The program without a command.
+fn program<'a>(alloc: Global) -> Command<'a>
+    ensures app { app_of result ≡ program }
+    ensures local { (out-Command result).has_globals ≡ false }
 {
     Command::new(alloc, "forth83")
         .about("A Forth-83 system whose blocks a loss of power can't tear")
@@ -224,9 +411,4 @@ fn forth83<'a>(alloc: Global) -> Result<Command<'a>, AllocError>
         .after_help(
             "Without a command, the lines of standard input are run over 32 blocks in memory, and nothing is kept.",
         )
-        .subcommand(new_command(alloc)?)?
-        .subcommand(run_command(alloc)?)?
-        .subcommand(list_command(alloc)?)?
-        .subcommand(put_command(alloc)?)?
-        .subcommand(upgrade_command(alloc)?)
 }

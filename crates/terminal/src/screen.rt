@@ -9,10 +9,10 @@ use number_io::take_text;
 use sessions::cut::{blank_for_tab, text};
 
 /// Rows of a screen.
-const ROWS: usize = 16;
+pub const ROWS: usize = 16;
 
 /// Bytes of a row.
-const COLUMNS: usize = 64;
+pub const COLUMNS: usize = 64;
 
 /// Bytes of a block.
 pub const BLOCK: usize = 1024;
@@ -78,7 +78,7 @@ fn add_text(block: &mut ArrayVec<u8, BLOCK>, text: &[u8])
 }
 
 /// Adds so many blanks.
-fn add_blanks(block: &mut ArrayVec<u8, BLOCK>, count: usize)
+pub fn add_blanks(block: &mut ArrayVec<u8, BLOCK>, count: usize)
     requires { array_vec_len block.old + count ≤ 1024 }
     ensures { block.new.items ≡ block.old.items ++ replicate count 32 }
 {
@@ -104,7 +104,7 @@ pub fn listing(block: &[u8; BLOCK]) -> ArrayVec<u8, LISTING>
 }
 
 /// Adds a row and a line feed.
-fn add_line(lines: &mut ArrayVec<u8, LISTING>, row: &[u8])
+pub fn add_line(lines: &mut ArrayVec<u8, LISTING>, row: &[u8])
     requires { array_vec_len lines.old + length row.now < 1040 }
     ensures items { lines.new.items ≡ lines.old.items ++ map shown row.now ++ 10 ∷ [] }
     ensures len { array_vec_len lines.new ≡ array_vec_len lines.old + length row.now + 1 }

@@ -21,3 +21,15 @@ returns-in-Put-clause-done g c =
 pub returns-in-Upgrade-clause-done : goal.returns-in-Upgrade-clause-done
 returns-in-Upgrade-clause-done g c =
     rw c.in-Upgrade.is (done_of c.upgrade_image.result c.closed-in-Upgrade.result c.closed-in-Upgrade.ensures _ _ (λ both made. (both.0, both.1, made)) c.upgrade_image.ensures.made)
+
+pub returns-in-Export-clause-done : goal.returns-in-Export-clause-done
+returns-in-Export-clause-done g c =
+    rw c.in-Export.is (done_of c.export_image.result c.closed-in-Export.result c.closed-in-Export.ensures _ _ (λ store exported. (device_of store, exported)) c.export_image.ensures.exported)
+
+pub returns-in-Import-clause-done : goal.returns-in-Import-clause-done
+returns-in-Import-clause-done g c =
+    rw c.in-Import.is (done_of c.import_image.result c.closed-in-Import.result c.closed-in-Import.ensures _ _ (λ store imported. (device_of store, imported)) c.import_image.ensures.imported)
+
+pub returns-in-CheckImport-clause-done : goal.returns-in-CheckImport-clause-done
+returns-in-CheckImport-clause-done g c =
+    rw c.in-CheckImport.is (done_of c.check_import.result c.closed-in-CheckImport.result c.closed-in-CheckImport.ensures _ _ (λ disk looked. (disk, looked)) c.check_import.ensures.looked)

@@ -31,3 +31,6 @@ returns-in_ok-get_str-in-put-clause-given c = (
   c.in_ok-block_of-in-put.ensures,
   text_given c.args.given.now (codes "FILE") c.in_ok-get_str-in-put.field-0.now c.in_ok-get_str-in-put.ensures,
 )
+
+pub order_over_blocks-requires : goal.order_over_blocks-requires
+order_over_blocks-requires c = text_given c.args.given.now (codes "IMAGE") c.in_ok-image.image.now c.in_ok-image.ensures

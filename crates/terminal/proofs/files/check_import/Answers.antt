@@ -1,0 +1,24 @@
+use Rattle.std.proofs.Common.{◌≡◌, ◌∙◌, ◌+◌, ◌-◌, ◌<◌, ◌≤◌, ℕ, List, None, ap, length, refl, subst}
+use Rattle.recovery.specs.Label.{blocks_in}
+use Rattle.terminal.specs.Findings.{blocks_for, refusal, said, told}
+use Rattle.terminal.proofs.files.check_import.Goals as goal
+
+pub returns-in-Ok : goal.returns-in-Ok
+returns-in-Ok g c =
+    let disk = c.in_ok-disk.disk in
+    let are : c.in-Some.blocks ≡ blocks_in disk.sectors = c.in-Some.ensures.some.0 ∙ ap blocks_in c.sectors.ensures in
+    let read = c.in-Ok.ensures.said in
+    record {
+      looked = (
+        disk,
+        record { file = c.in_ok-disk.ensures.file; sectors = c.in_ok-disk.ensures.sectors },
+        record {
+          same = refl;
+          file = read.0;
+          sound = subst (λ (n : ℕ). refusal (told c.args.form (n - c.args.first) read.0) ≡ None) are read.1;
+          below = subst (λ (n : ℕ). c.args.first < n) are c.in-Ok.ensures.below;
+          there = subst (λ (n : ℕ). c.args.first + blocks_for (length (said c.args.form read.0)) ≤ n) are
+              (subst (λ (l : List ℕ). c.args.first + blocks_for (length l) ≤ c.in-Some.blocks) read.2 c.in-Ok.ensures.there);
+        },
+      );
+    }

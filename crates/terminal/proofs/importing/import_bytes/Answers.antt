@@ -1,0 +1,41 @@
+use Rattle.std.proofs.Common.{◌∙◌, Err, ap, inl, arith}
+use Rattle.terminal.specs.Transfer.{as_blocks, spilled_from}
+use Rattle.terminal.proofs.Saving.{fails_then, saves_then}
+use Rattle.terminal.proofs.importing.import_bytes.Goals as goal
+
+pub returns-in-Ok-clause-imported : goal.returns-in-Ok-clause-imported
+returns-in-Ok-clause-imported g c =
+    let sp = c.in_ok-spill_blocks.ensures.spilled in
+    let mid = c.spill_blocks.new.store in
+    let blocks = as_blocks c.args.bytes.now in
+    record {
+      saved = λ m stands. (
+        c.in-Ok.ensures.ok (spilled_from m c.args.first blocks) (sp.stands m stands),
+        record {
+          stops = saves_then c.args.store.now mid c.commit.new.self c.args.first blocks c.spill_blocks.ensures.continues c.commit.ensures.continues
+              sp.stands c.spill_blocks.ensures.stops c.commit.ensures.stops m stands;
+          after = c.in-Ok.ensures.after (spilled_from m c.args.first blocks) (sp.stands m stands);
+        },
+      );
+      begins = record {
+        few_writes = omega (arith, sp.few, sp.begins.few_writes, c.commit.ensures.begins.few_writes);
+        few_syncs = omega (arith, sp.begins.few_syncs, c.commit.ensures.begins.few_syncs);
+      };
+      reads = omega (arith, sp.few, sp.reads, c.commit.ensures.reads);
+    }
+
+pub returns-in-Ok-clause-kept : goal.returns-in-Ok-clause-kept
+returns-in-Ok-clause-kept g c = saves_then c.args.store.now c.spill_blocks.new.store c.commit.new.self c.args.first (as_blocks c.args.bytes.now)
+    c.spill_blocks.ensures.continues c.commit.ensures.continues
+    c.in_ok-spill_blocks.ensures.spilled.stands c.spill_blocks.ensures.stops c.commit.ensures.stops
+
+pub returns-in-Err-clause-kept : goal.returns-in-Err-clause-kept
+returns-in-Err-clause-kept g c = saves_then c.args.store.now c.spill_blocks.new.store c.commit.new.self c.args.first (as_blocks c.args.bytes.now)
+    c.spill_blocks.ensures.continues c.commit.ensures.continues
+    c.in_ok-spill_blocks.ensures.spilled.stands c.spill_blocks.ensures.stops c.commit.ensures.stops
+
+pub returns-in-Err-clause-device : goal.returns-in-Err-clause-device
+returns-in-Err-clause-device g c =
+    let sp = c.in_ok-spill_blocks.ensures.spilled in
+    fails_then c.args.store.now c.spill_blocks.new.store c.commit.new.self c.in-Err.field-0 sp.shuts sp.well
+    (λ is. c.in-Err.ensures.closed.0 (ap Err is)) (λ is. c.in-Err.ensures.device (ap Err is))

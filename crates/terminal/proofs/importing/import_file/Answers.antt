@@ -1,0 +1,39 @@
+use Rattle.std.proofs.Common.{◌≡◌, ◌∙◌, ◌+◌, ◌-◌, ◌<◌, ◌≤◌, ℕ, List, None, inl, inr, ⊎_elim, length, subst}
+use Rattle.std.proofs.lemmas.Result.{on_ok_weaker}
+use Rattle.journal.specs.Images.{Means}
+use Rattle.journal.specs.Maps.{latest}
+use Rattle.terminal.specs.Findings.{blocks_for, refusal, said, told}
+use Rattle.terminal.specs.Imported.{Imports}
+use Rattle.terminal.specs.Transfer.{as_blocks, spilled_from}
+use Rattle.terminal.proofs.Saving.{keeps_none}
+use Rattle.terminal.proofs.importing.import_file.Goals as goal
+
+pub returns-in-Ok-clause-imported : goal.returns-in-Ok-clause-imported
+returns-in-Ok-clause-imported g c =
+    let read = c.in-Ok.ensures.said in
+    let is : c.as_slice.result.now ≡ said c.args.form read.0 = c.as_slice.ensures.value ∙ read.2 in
+    let count = c.blocks-2.ensures.value in
+    on_ok_weaker c.import_bytes.result (λ imports. record {
+      file = read.0;
+      sound = subst (λ (n : ℕ). refusal (told c.args.form (n - c.args.first) read.0) ≡ None) count read.1;
+      below = subst (λ (n : ℕ). c.args.first < n) count c.in-Ok.ensures.below;
+      there = subst (λ (n : ℕ). c.args.first + blocks_for (length (said c.args.form read.0)) ≤ n) count
+          (subst (λ (l : List ℕ). c.args.first + blocks_for (length l) ≤ c.blocks-2.result) read.2 c.in-Ok.ensures.there);
+      imports = subst (λ (l : List ℕ). Imports c.args.first (as_blocks l) c.args.store.now c.import_bytes.new.store) is imports;
+    }) c.import_bytes.ensures.imported
+
+pub returns-in-Ok-clause-kept : goal.returns-in-Ok-clause-kept
+returns-in-Ok-clause-kept g c = λ m stands live image left.
+    let read = c.in-Ok.ensures.said in
+    let is : c.as_slice.result.now ≡ said c.args.form read.0 = c.as_slice.ensures.value ∙ read.2 in
+    ⊎_elim (λ old. inl old)
+    (λ new. inr (
+      read.0,
+      subst (λ (n : ℕ). refusal (told c.args.form (n - c.args.first) read.0) ≡ None) c.blocks-2.ensures.value read.1,
+      subst (λ (l : List ℕ). Means (latest (spilled_from m c.args.first (as_blocks l))) image) is new,
+    ))
+    (c.import_bytes.ensures.kept m stands live image left)
+
+pub returns-in-Err-clause-kept : goal.returns-in-Err-clause-kept
+returns-in-Err-clause-kept g c = λ m stands live image left.
+    inl (keeps_none g.met.D.SectorDevice.only_now c.args.store.now m stands live image left)
