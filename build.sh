@@ -1,6 +1,7 @@
 #!/bin/sh
 # Proves the program and all that it stands on, from a fresh clone: the crates that don't stand on each other side by side, the
-# long ones with four jobs. It leaves the program as crates/forth83/out/forth83. What is built already is taken as it is.
+# long ones with four jobs. It leaves the program as crates/forth83/out/forth83, and the library for C as crates/embed/out/libembed.a. What is
+# built already is taken as it is.
 cd "$(dirname "$0")/crates" || exit 1
 
 # A crate whose libraries are built is read once, as it is proved: so they come lowest first, each by a call of its own.
@@ -31,5 +32,5 @@ done
 [ $failed = 0 ] || exit 1
 
 # Lexicon and block_words share data_space, and each fills the cores but for its end.
-prove 4 lexicon block_words interpreter sessions terminal || exit 1
+prove 4 lexicon block_words interpreter sessions embed terminal || exit 1
 cd forth83 && rt run --jobs 4 < /dev/null

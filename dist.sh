@@ -1,6 +1,7 @@
 #!/bin/sh
 # Makes forth83-VERSION-x86_64-linux.tar.gz of the program as it is built, with its manual page, completions, examples, library and pages, and
 # prints its SHA-256. The same files give the same bytes at each making. The version is what the program tells, and the manual page has to say the same.
+# The page of playground/ is in it where playground/build.sh has made it. The library for C isn't: embed/library.sh builds that from a clone.
 # usage: ./dist.sh [FOLDER]          FOLDER is the current one where none is given
 set -eu
 folder=${1:-.}
@@ -22,6 +23,9 @@ trap 'rm -rf "$tree"' EXIT
 mkdir -p "$tree/$name/bin"
 cp "$program" "$tree/$name/bin/forth83"
 cp -R README.md docs examples library share "$tree/$name/"
+if [ -f playground/out/silgwyrad.wasm ]; then
+    cp -R playground/out "$tree/$name/playground"
+fi
 # times, owners, rights and the order of names are those of no machine
 find "$tree/$name" -type d -exec chmod 755 {} +
 find "$tree/$name" -type f -exec chmod 644 {} +

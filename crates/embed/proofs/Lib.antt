@@ -1,0 +1,6 @@
+pub mod Devices
+pub mod Hosts
+pub mod Outcomes
+pub mod Runs
+pub mod Spills
+pub mod Stores

@@ -1,0 +1,21 @@
+use Rattle.std.proofs.Common.{◌≡◌, subst, sym}
+use Rattle.sector_disk.specs.Disk.{MayLeave}
+use Rattle.embed.proofs.Stores.{commits_then}
+use Rattle.embed.proofs.block_calls.save_to.Goals as goal
+
+pub returns-in-Ok-commit-clause-saved : goal.returns-in-Ok-commit-clause-saved
+returns-in-Ok-commit-clause-saved g c = λ m stands image may.
+    c.in-Ok-commit.ensures.after _ (c.in-Ok.ensures.ok m stands) image
+    (subst (λ device. MayLeave (g.D.SectorDevice.disk device) image) c.into_device.ensures.device may)
+
+pub returns-in-Ok-commit-clause-stops : goal.returns-in-Ok-commit-clause-stops
+returns-in-Ok-commit-clause-stops g c = λ m stands.
+    commits_then g.D.SectorDevice c.args.store c.spill_all.new.store c.commit.new.self _ m c.args.blocks.now c.args.bytes.now
+    c.into_device.ensures.device c.spill_all.ensures.continues c.commit.ensures.continues c.spill_all.ensures.stops c.commit.ensures.stops
+    stands c.requires.live (c.in-Ok.ensures.ok m stands)
+
+pub returns-in-Err-commit-clause-stops : goal.returns-in-Err-commit-clause-stops
+returns-in-Err-commit-clause-stops g c = λ m stands.
+    commits_then g.D.SectorDevice c.args.store c.spill_all.new.store c.commit.new.self _ m c.args.blocks.now c.args.bytes.now
+    c.into_device-in-Err-commit.ensures.device c.spill_all.ensures.continues c.commit.ensures.continues c.spill_all.ensures.stops
+    c.commit.ensures.stops stands c.requires.live (c.in-Ok.ensures.ok m stands)

@@ -1,0 +1,47 @@
+use Rattle.std.proofs.Common.{◌≡◌, ◌∙◌}
+use Rattle.std.proofs.lemmas.Bool.{false_from_ne_true}
+use Rattle.std.specs.Prelude.{nat_lt}
+use Rattle.journal.specs.Maps.{spilled}
+use Rattle.journal.specs.Store.{blocks_of, closed_of}
+use Rattle.embed.proofs.Spills.{fewer_left, holds_after, spilled_one}
+use Rattle.embed.proofs.Stores.{continues_then, keeps_then}
+use Rattle.embed.proofs.block_calls.spill_all.Goals as goal
+
+pub returns-in_err-spill-clause-stops : goal.returns-in_err-spill-clause-stops
+returns-in_err-spill-clause-stops g c = λ m stands live.
+    let before = c.loop-block.invariant in
+    let now = before.left m stands in
+    keeps_then g.D.SectorDevice c.args.store.now c.loop-block.store c.spill.new.self m now.0 before.continues c.spill.ensures.continues
+    before.stops c.spill.ensures.stops stands live now.1 now.3 now.4
+
+pub returns-in_err-spill-clause-continues : goal.returns-in_err-spill-clause-continues
+returns-in_err-spill-clause-continues g c =
+    continues_then g.D.SectorDevice c.args.store.now c.loop-block.store c.spill.new.self g.met.D.SectorDevice.widens
+    c.loop-block.invariant.continues c.spill.ensures.continues
+
+pub loop-block-preserved : goal.loop-block-preserved
+loop-block-preserved g c =
+    let before = c.loop-block.invariant in
+    let i = c.loop-block.block-index in
+    record {
+      left = λ m stands.
+          let now = before.left m stands in (
+            spilled now.0 _ c.split_at.result.0.now,
+            c.in_ok-spill.ensures.ok now.0 now.1,
+            spilled_one now.0 m c.args.blocks.now c.args.bytes.now c.loop-block.rest.now c.split_at.result.0.now c.split_at.result.1.now i
+                c.loop-block-test.true c.split_at.ensures.front c.split_at.ensures.back now.2,
+            now.3,
+            now.4,
+          );
+      live = false_from_ne_true (closed_of c.spill.new.self) (λ is. let no = c.in_ok-spill.ensures.shuts.1 is in cc);
+      there = holds_after (λ b. nat_lt b (blocks_of c.args.store.now)) c.args.blocks.now i c.loop-block-test.true before.there;
+      whole = fewer_left c.args.blocks.now i _ _ c.loop-block-test.true before.whole c.split_at.ensures.back_len;
+      stops = λ m stands live.
+          let now = before.left m stands in
+          keeps_then g.D.SectorDevice c.args.store.now c.loop-block.store c.spill.new.self m now.0 before.continues c.spill.ensures.continues
+          before.stops c.spill.ensures.stops stands live now.1 now.3 now.4;
+      continues =
+          continues_then g.D.SectorDevice c.args.store.now c.loop-block.store c.spill.new.self g.met.D.SectorDevice.widens
+          before.continues c.spill.ensures.continues;
+      well = c.in_ok-spill.ensures.well ∙ before.well;
+    }

@@ -1,0 +1,45 @@
+-- A session over an image on a device.
+use Rattle.std.specs.Prelude.{◌≡◌, ℕ, false, IsTrue, List, Option}
+use Rattle.sector_disk.specs.declared.device.SectorDevice.{Ghosts}
+use Rattle.journal.specs.Calls.{StopsLeave}
+use Rattle.journal.specs.Maps.{fresh}
+use Rattle.block_words.specs.Words.{Save}
+use Rattle.interpreter.specs.State.{Forth}
+use Rattle.interpreter.specs.Lines.{new_forth}
+use Rattle.interpreter.specs.Promise.{Keeps}
+use Rattle.sessions.specs.declared.run_fault.RunFault.{RunFault}
+use Rattle.sessions.specs.Devices.{Becomes}
+use Rattle.sessions.specs.Sessions.{Completes, BreaksOff}
+use Rattle.embed.specs.Calls.{LeavesBlocks, MayRecover, meant_by}
+
+module _ {D : Type 0} (G : Ghosts D) where
+  -- A new system over the blocks that the image on the device means.
+  abbrev pub system_on : (steps : ℕ) → D → Forth
+  system_on steps device = new_forth steps (fresh (meant_by G device))
+
+  -- The session of a system: the input was read to its end, and the output is its replies. What a stop may have left are blocks
+  -- as they were saved, and at the end those that were saved last.
+  pub record RunsFrom (opening : Forth) (left left' written written' : Option (List ℕ)) (old new : D) : Type 0 where
+    pub closing : Forth
+    pub made : List Save
+    pub completes : Completes G opening closing left left' written written' old new made
+    pub keeps : Keeps G opening closing old new made
+    pub saved : closing.world.maps.closed ≡ false → LeavesBlocks G new closing.world.maps.saved
+
+  -- A recovery of the image on the device, and then a session over its blocks.
+  pub record RunsSession (steps : ℕ) (left left' written written' : Option (List ℕ)) (device after : D) : Type 0 where
+    pub begun : D
+    pub goes : Becomes G device begun
+    pub runs_on : Becomes G begun after
+    pub stops : IsTrue (G.keeps_model device) → StopsLeave G device begun (MayRecover G device)
+    pub runs : IsTrue (G.keeps_model device) → RunsFrom (system_on steps device) left left' written written' begun after
+
+  -- The same, where input or output failed: the session broke off there.
+  pub record BreaksSession (fault : RunFault) (steps : ℕ) (left left' written written' : Option (List ℕ)) (device : D) : Type 0 where
+    pub begun : D
+    pub after : D
+    pub closing : Forth
+    pub made : List Save
+    pub stops : StopsLeave G device begun (MayRecover G device)
+    pub breaks : BreaksOff G fault (system_on steps device) closing left left' written written' begun after made
+    pub keeps : Keeps G (system_on steps device) closing begun after made

@@ -1,0 +1,65 @@
+//! What a call is given, looked at before the device is asked for anything.
+ghost use Rattle.std.specs.Prelude.{◌≡◌, ◌<◌, ◌*◌, ◌==◌, true, nat_lt, None, Some, length, OnOk, MatchResult};
+ghost use Rattle.std.specs.List.{list_all};
+ghost use Rattle.recovery.specs.Label.{blocks_in, is_size};
+ghost use Rattle.embed.specs.Refusals.{read_refusal, save_refusal};
+
+use crate::refusal::Refusal;
+use journal::layout::MOST_BLOCKS;
+use recovery::blocks_of_size;
+
+/// The bytes of a block.
+pub const BLOCK: usize = 1024;
+
+/// Refuses to read a block that isn't there, or to a place of another size.
+pub fn check_read(sectors: u32, block: u16, room: usize) -> Result<(), Refusal>
+    ensures exact { MatchResult result (λ _. read_refusal sectors block room ≡ None)
+        (λ e. read_refusal sectors block room ≡ Some e) }
+    ensures sized { OnOk result (is_size sectors ≡ true) }
+    ensures there { OnOk result (block < blocks_in sectors) }
+    ensures whole { OnOk result (room ≡ 1024) }
+{
+    let Some(count) = blocks_of_size(sectors, MOST_BLOCKS) else {
+        return Err(Refusal::BadSize);
+    };
+    if block >= count {
+        return Err(Refusal::NoBlock);
+    }
+    if room != BLOCK {
+        return Err(Refusal::BadLength);
+    }
+    Ok(())
+}
+
+/// Refuses to save blocks that aren't there, or of other than 1,024 bytes each.
+pub fn check_save(sectors: u32, blocks: &[u16], room: usize) -> Result<(), Refusal>
+    ensures exact { MatchResult result (λ _. save_refusal sectors blocks.now room ≡ None)
+        (λ e. save_refusal sectors blocks.now room ≡ Some e) }
+    ensures sized { OnOk result (is_size sectors ≡ true) }
+    ensures there { OnOk result (list_all (λ b. nat_lt b (blocks_in sectors)) blocks.now ≡ true) }
+    ensures whole { OnOk result (room ≡ 1024 * length blocks.now) }
+{
+    let Some(count) = blocks_of_size(sectors, MOST_BLOCKS) else {
+        return Err(Refusal::BadSize);
+    };
+    if !are_below(blocks, count) {
+        return Err(Refusal::NoBlock);
+    }
+    if !are_whole(room, blocks.len()) {
+        return Err(Refusal::BadLength);
+    }
+    Ok(())
+}
+
+fn are_below(blocks: &[u16], count: u16) -> bool
+    ensures { result ≡ list_all (λ b. nat_lt b count) blocks.now }
+{
+    blocks.iter().all(|b| *b < count)
+}
+
+/// Whether so many bytes are those of so many blocks.
+fn are_whole(room: usize, count: usize) -> bool
+    ensures { result ≡ (room == 1024 * count) }
+{
+    room % BLOCK == 0 && room / BLOCK == count
+}

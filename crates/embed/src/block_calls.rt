@@ -1,0 +1,239 @@
+//! Blocks on a device: made, recovered, read, and saved all or none. Each call opens the image anew and takes no memory.
+ghost use Rattle.std.specs.Prelude.{◌≡◌, ◌≢◌, ◌⊎◌, ◌<◌, ◌*◌, ℕ, true, false, None, Some, length, nat_lt, IsTrue, OnOk, OnErr, IfOk, IfErr, IfSome, MatchBool, MatchResult, Err};
+ghost use Rattle.std.specs.List.{list_all};
+ghost use Rattle.sector_disk.specs.Counting.{count_up};
+ghost use Rattle.journal.specs.Calls.{StopsLeave};
+ghost use Rattle.journal.specs.Images.{Means};
+ghost use Rattle.journal.specs.Layout.{sectors_for};
+ghost use Rattle.journal.specs.Maps.{Maps, block_in, contents, latest};
+ghost use Rattle.journal.specs.Store.{StandsFor, Continues, KeepsSaved, DeviceFailed, DeviceWentWell, blocks_of, closed_of, device_of};
+ghost use Rattle.recovery.specs.Formatted.{FormatLeaves, blank_blocks};
+ghost use Rattle.recovery.specs.Label.{is_size, is_size_for};
+ghost use Rattle.recovery.specs.Opened.{first_of};
+ghost use Rattle.sessions.specs.Devices.{Becomes};
+ghost use Rattle.embed.specs.Calls.{AllOrNone, KeepsBlocks, LeavesBlocks, MayRecover, OpensOn, blocks_on, device_after, meant_by};
+ghost use Rattle.embed.specs.Refusals.{IsOfImage, read_refusal, save_refusal, refusal_of};
+ghost use Rattle.embed.specs.Saving.{with_blocks};
+ghost use Rattle.embed.specs.Spilling.{all_spilled};
+
+use crate::arguments::{BLOCK, check_read, check_save};
+use crate::refusal::Refusal;
+use journal::{Store, StoreFault};
+use recovery::{format, open};
+use sector_disk::SectorDevice;
+
+/// Makes an image of `blocks` blank blocks. A refusal hands the device back.
+pub fn make_image<D: SectorDevice>(device: D, blocks: u16) -> Result<D, (Refusal, D)>
+    ensures blank { IsTrue (D.keeps_model device)
+        → IfOk result (λ after. LeavesBlocks D.SectorDevice after (blank_blocks blocks)) }
+    // At any moment a stop leaves no good label, or the blank image, or what was there.
+    ensures stops { IsTrue (D.keeps_model device) → (n : ℕ) → D.sector_count device ≡ sectors_for n
+        → StopsLeave D.SectorDevice device (device_after result) (FormatLeaves n (D.disk device)) }
+    ensures sized { IfOk result (λ _. is_size_for blocks (D.sector_count device) ≡ true) }
+    ensures refusal { IfErr result (λ e. MatchBool (is_size_for blocks (D.sector_count device))
+        (e.0 ≡ Refusal.Device) (e.0 ≡ Refusal.BadSize)) }
+    ensures unasked { IfErr result (λ e. e.0 ≡ Refusal.BadSize → e.1 ≡ device) }
+    ensures well { IfOk result (λ after. D.failures after ≡ D.failures device) }
+    ensures failed { IfErr result (λ e. e.0 ≡ Refusal.Device → D.failures e.1 ≡ count_up (D.failures device)) }
+    ensures goes { Becomes D.SectorDevice device (device_after result) }
+{
+    match format(device, blocks) {
+        Ok(store) => Ok(store.into_device()),
+        Err((fault, device)) => Err((Refusal::from(fault), device)),
+    }
+}
+
+/// Opens the image: what a stop has left half done is finished first.
+pub fn opened<D: SectorDevice>(device: D) -> Result<Store<D>, (Refusal, D)>
+    ensures ok { IfOk result (λ store. OpensOn D.SectorDevice device store) }
+    ensures sized { IfOk result (λ _. is_size (D.sector_count device) ≡ true) }
+    ensures bad_size { IfErr result (λ e. MatchBool (is_size (D.sector_count device))
+        (e.0 ≢ Refusal.BadSize) (e.0 ≡ Refusal.BadSize)) }
+    ensures image { IfErr result (λ e. IsOfImage e.0) }
+    // Each refusal tells the first test that the image fails.
+    ensures exact { IsTrue (D.keeps_model device) → MatchResult result
+        (λ _. refusal_of (D.sector_count device) (D.disk device).content ≡ None)
+        (λ e. (e.0 ≡ Refusal.Device) ⊎ (refusal_of (D.sector_count device) (D.disk device).content ≡ Some e.0)) }
+    ensures well { IfOk result (λ store. D.failures (device_of store) ≡ D.failures device) }
+    ensures failed { IfErr result (λ e. e.0 ≡ Refusal.Device → D.failures e.1 ≡ count_up (D.failures device)) }
+    ensures unfailed { IfErr result (λ e. e.0 ≢ Refusal.Device → D.failures e.1 ≡ D.failures device) }
+    ensures content { IsTrue (D.keeps_model device)
+        → IfErr result (λ e. e.0 ≢ Refusal.Device → (D.disk e.1).content ≡ (D.disk device).content) }
+    ensures goes { IfErr result (λ e. Becomes D.SectorDevice device e.1) }
+    ensures stops { IsTrue (D.keeps_model device) → IfErr result (λ e.
+        StopsLeave D.SectorDevice device e.1 (MayRecover D.SectorDevice device)) }
+{
+    match open(device) {
+        Ok(store) => Ok(store),
+        Err((fault, device)) => Err((Refusal::from(fault), device)),
+    }
+}
+
+/// Finishes what a stop has left half done. A refusal hands the device back.
+pub fn recover<D: SectorDevice>(device: D) -> Result<D, (Refusal, D)>
+    ensures ok { IsTrue (D.keeps_model device)
+        → IfOk result (λ after. LeavesBlocks D.SectorDevice after (meant_by D.SectorDevice device)) }
+    ensures stops { IsTrue (D.keeps_model device)
+        → StopsLeave D.SectorDevice device (device_after result) (MayRecover D.SectorDevice device) }
+    ensures sized { IfOk result (λ _. is_size (D.sector_count device) ≡ true) }
+    ensures bad_size { IfErr result (λ e. MatchBool (is_size (D.sector_count device))
+        (e.0 ≢ Refusal.BadSize) (e.0 ≡ Refusal.BadSize)) }
+    ensures exact { IsTrue (D.keeps_model device) → MatchResult result
+        (λ _. refusal_of (D.sector_count device) (D.disk device).content ≡ None)
+        (λ e. (e.0 ≡ Refusal.Device) ⊎ (refusal_of (D.sector_count device) (D.disk device).content ≡ Some e.0)) }
+    ensures well { IfOk result (λ after. D.failures after ≡ D.failures device) }
+    ensures failed { IfErr result (λ e. e.0 ≡ Refusal.Device → D.failures e.1 ≡ count_up (D.failures device)) }
+    ensures unfailed { IfErr result (λ e. e.0 ≢ Refusal.Device → D.failures e.1 ≡ D.failures device) }
+    ensures content { IsTrue (D.keeps_model device)
+        → IfErr result (λ e. e.0 ≢ Refusal.Device → (D.disk e.1).content ≡ (D.disk device).content) }
+    ensures goes { Becomes D.SectorDevice device (device_after result) }
+{
+    match opened(device) {
+        Ok(store) => Ok(store.into_device()),
+        Err(refused) => Err(refused),
+    }
+}
+
+/// Reads block `block` into `out`, of 1,024 bytes. A refusal hands the device back, and leaves `out`.
+pub fn read_block<D: SectorDevice>(device: D, block: u16, out: &mut [u8]) -> Result<D, (Refusal, D)>
+    ensures bytes { IsTrue (D.keeps_model device)
+        → OnOk result (out.new ≡ block_in (meant_by D.SectorDevice device) block) }
+    ensures kept { OnErr result (out.new ≡ out.old) }
+    ensures same { IsTrue (D.keeps_model device)
+        → IfOk result (λ after. LeavesBlocks D.SectorDevice after (meant_by D.SectorDevice device)) }
+    ensures stops { IsTrue (D.keeps_model device)
+        → StopsLeave D.SectorDevice device (device_after result) (KeepsBlocks D.SectorDevice device) }
+    // What is wrong with the arguments is told first, with no call of the device.
+    ensures arguments { IfSome (read_refusal (D.sector_count device) block (length out.old))
+        (λ e. result ≡ Err (e, device)) }
+    ensures fits { OnOk result (read_refusal (D.sector_count device) block (length out.old) ≡ None) }
+    ensures exact { IsTrue (D.keeps_model device) → MatchResult result
+        (λ _. refusal_of (D.sector_count device) (D.disk device).content ≡ None)
+        (λ e. (e.0 ≡ Refusal.Device) ⊎ (first_of (read_refusal (D.sector_count device) block (length out.old))
+        (refusal_of (D.sector_count device) (D.disk device).content) ≡ Some e.0)) }
+    ensures well { IfOk result (λ after. D.failures after ≡ D.failures device) }
+    ensures failed { IfErr result (λ e. e.0 ≡ Refusal.Device → D.failures e.1 ≡ count_up (D.failures device)) }
+    ensures unfailed { IfErr result (λ e. e.0 ≢ Refusal.Device → D.failures e.1 ≡ D.failures device) }
+    ensures goes { Becomes D.SectorDevice device (device_after result) }
+{
+    match check_read(device.sectors(), block, out.len()) {
+        Ok(()) => match opened(device) {
+            Ok(store) => read_from(store, block, out),
+            Err(refused) => Err(refused),
+        },
+        Err(refusal) => Err((refusal, device)),
+    }
+}
+
+/// Reads a block of a store that was opened.
+fn read_from<D: SectorDevice>(
+    mut store: Store<D>,
+    block: u16,
+    out: &mut [u8],
+) -> Result<D, (Refusal, D)>
+    requires below { block < blocks_of store }
+    requires whole { length out.old ≡ 1024 }
+    requires live { closed_of store ≡ false }
+    ensures bytes { (m : Maps) → StandsFor store m → OnOk result (out.new ≡ contents m block) }
+    ensures kept { OnErr result (out.new ≡ out.old) }
+    ensures same { (m : Maps) → StandsFor store m → LeavesBlocks D.SectorDevice (device_after result) m.saved }
+    ensures stops { (m : Maps) → StandsFor store m
+        → StopsLeave D.SectorDevice (device_of store) (device_after result) (Means m.saved) }
+    ensures refusal { IfErr result (λ e. e.0 ≡ Refusal.Device) }
+    ensures well { IfOk result (λ after. D.failures after ≡ D.failures (device_of store)) }
+    ensures failed { IfErr result (λ e. D.failures e.1 ≡ count_up (D.failures (device_of store))) }
+    ensures goes { Becomes D.SectorDevice (device_of store) (device_after result) }
+{
+    match store.read_block(block, out) {
+        Ok(()) => Ok(store.into_device()),
+        Err(_) => Err((Refusal::Device, store.into_device())),
+    }
+}
+
+/// Saves `blocks`, all or none, each with its 1,024 of `bytes`; of a block that stands twice the last bytes count. A refusal
+/// hands the device back.
+pub fn save_blocks<D: SectorDevice>(
+    device: D,
+    blocks: &[u16],
+    bytes: &[u8],
+) -> Result<D, (Refusal, D)>
+    ensures saved { IsTrue (D.keeps_model device) → IfOk result (λ after.
+        LeavesBlocks D.SectorDevice after (with_blocks (meant_by D.SectorDevice device) blocks.now bytes.now)) }
+    // A stop at any moment leaves all of them or none.
+    ensures stops { IsTrue (D.keeps_model device) → StopsLeave D.SectorDevice device (device_after result)
+        (AllOrNone D.SectorDevice device blocks.now bytes.now) }
+    // What is wrong with the arguments is told first, with no call of the device.
+    ensures arguments { IfSome (save_refusal (D.sector_count device) blocks.now (length bytes.now))
+        (λ e. result ≡ Err (e, device)) }
+    ensures fits { OnOk result (save_refusal (D.sector_count device) blocks.now (length bytes.now) ≡ None) }
+    ensures exact { IsTrue (D.keeps_model device) → MatchResult result
+        (λ _. refusal_of (D.sector_count device) (D.disk device).content ≡ None)
+        (λ e. (e.0 ≡ Refusal.Device) ⊎ (first_of (save_refusal (D.sector_count device) blocks.now (length bytes.now))
+        (refusal_of (D.sector_count device) (D.disk device).content) ≡ Some e.0)) }
+    ensures well { IfOk result (λ after. D.failures after ≡ D.failures device) }
+    ensures failed { IfErr result (λ e. e.0 ≡ Refusal.Device → D.failures e.1 ≡ count_up (D.failures device)) }
+    ensures unfailed { IfErr result (λ e. e.0 ≢ Refusal.Device → D.failures e.1 ≡ D.failures device) }
+    ensures goes { Becomes D.SectorDevice device (device_after result) }
+{
+    match check_save(device.sectors(), blocks, bytes.len()) {
+        Ok(()) => match opened(device) {
+            Ok(store) => save_to(store, blocks, bytes),
+            Err(refused) => Err(refused),
+        },
+        Err(refusal) => Err((refusal, device)),
+    }
+}
+
+/// Saves blocks to a store that was opened.
+fn save_to<D: SectorDevice>(
+    mut store: Store<D>,
+    blocks: &[u16],
+    bytes: &[u8],
+) -> Result<D, (Refusal, D)>
+    requires below { list_all (λ b. nat_lt b (blocks_of store)) blocks.now ≡ true }
+    requires whole { length bytes.now ≡ 1024 * length blocks.now }
+    requires live { closed_of store ≡ false }
+    ensures saved { (m : Maps) → StandsFor store m → IfOk result (λ after.
+        LeavesBlocks D.SectorDevice after (latest (all_spilled m blocks.now bytes.now))) }
+    ensures stops { (m : Maps) → StandsFor store m
+        → StopsLeave D.SectorDevice (device_of store) (device_after result)
+        (λ image. Means m.saved image ⊎ Means (latest (all_spilled m blocks.now bytes.now)) image) }
+    ensures refusal { IfErr result (λ e. e.0 ≡ Refusal.Device) }
+    ensures well { IfOk result (λ after. D.failures after ≡ D.failures (device_of store)) }
+    ensures failed { IfErr result (λ e. D.failures e.1 ≡ count_up (D.failures (device_of store))) }
+    ensures goes { Becomes D.SectorDevice (device_of store) (device_after result) }
+{
+    match spill_all(&mut store, blocks, bytes) {
+        Ok(()) => match store.commit() {
+            Ok(()) => Ok(store.into_device()),
+            Err(_) => Err((Refusal::Device, store.into_device())),
+        },
+        Err(_) => Err((Refusal::Device, store.into_device())),
+    }
+}
+
+/// Spills blocks one after another, each with its 1,024 bytes.
+fn spill_all<D: SectorDevice>(
+    store: &mut Store<D>,
+    blocks: &[u16],
+    bytes: &[u8],
+) -> Result<(), StoreFault>
+    requires below { list_all (λ b. nat_lt b (blocks_of store.old)) blocks.now ≡ true }
+    requires whole { length bytes.now ≡ 1024 * length blocks.now }
+    requires live { closed_of store.old ≡ false }
+    ensures ok { (m : Maps) → StandsFor store.old m
+        → OnOk result (StandsFor store.new (all_spilled m blocks.now bytes.now)) }
+    ensures open { OnOk result (closed_of store.new ≡ false) }
+    ensures stops { KeepsSaved store.old store.new }
+    ensures continues { Continues store.old store.new }
+    ensures failed { OnErr result (DeviceFailed store.old store.new) }
+    ensures well { OnOk result (DeviceWentWell store.old store.new) }
+{
+    let mut rest = bytes;
+    for block in blocks {
+        let (these, others) = rest.split_at(BLOCK);
+        store.spill(*block, these)?;
+        rest = others;
+    }
+    Ok(())
+}

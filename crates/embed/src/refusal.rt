@@ -1,0 +1,95 @@
+//! Why a call didn't do what it was asked for, as C is told it.
+ghost use Rattle.std.specs.Prelude.{◌≡◌, ◌<◌, ◌≤◌, ◌≢◌};
+ghost use Rattle.embed.specs.Refusals.{code_of, of_image, of_run, answer_of};
+
+use recovery::OpenFault;
+use sessions::RunFault;
+
+/// Why a call didn't do what it was asked for. The numbers are those that C is told; 0 is a call that was done.
+#[derive(Clone, Copy, Debug, PartialEq, Eq, Drop)]
+pub enum Refusal {
+    /// No image has so many sectors.
+    BadSize = 1,
+    /// The image has no label.
+    NoLabel = 2,
+    /// The label has another version.
+    OtherVersion = 3,
+    /// The label counts other blocks.
+    WrongCount = 4,
+    /// A call of the device failed.
+    Device = 5,
+    /// An open gate stands over a record that isn't that of its slots.
+    Damaged = 6,
+    /// The image has no such block.
+    NoBlock = 7,
+    /// There aren't 1,024 bytes for each block.
+    BadLength = 8,
+    /// A line may take no step.
+    NoSteps = 9,
+    /// The input failed.
+    Input = 10,
+    /// The output failed.
+    Output = 11,
+    /// There is not enough memory.
+    NoMemory = 12,
+}
+
+impl Refusal {
+    /// Its number, 1 to 12.
+    pub fn code(self) -> u8
+        ensures value { result ≡ code_of self }
+        ensures refused { 0 < result }
+        ensures listed { result ≤ 12 }
+    {
+        match self {
+            Refusal::BadSize => 1,
+            Refusal::NoLabel => 2,
+            Refusal::OtherVersion => 3,
+            Refusal::WrongCount => 4,
+            Refusal::Device => 5,
+            Refusal::Damaged => 6,
+            Refusal::NoBlock => 7,
+            Refusal::BadLength => 8,
+            Refusal::NoSteps => 9,
+            Refusal::Input => 10,
+            Refusal::Output => 11,
+            Refusal::NoMemory => 12,
+        }
+    }
+}
+
+impl From<OpenFault> for Refusal {
+    ghost from_gives = { λ fault e. e ≡ of_image fault };
+
+    fn from(fault: OpenFault) -> Self {
+        match fault {
+            OpenFault::BadSize => Refusal::BadSize,
+            OpenFault::NoLabel => Refusal::NoLabel,
+            OpenFault::OtherVersion => Refusal::OtherVersion,
+            OpenFault::WrongCount => Refusal::WrongCount,
+            OpenFault::Device => Refusal::Device,
+            OpenFault::Damaged => Refusal::Damaged,
+        }
+    }
+}
+
+impl From<RunFault> for Refusal {
+    ghost from_gives = { λ fault e. e ≡ of_run fault };
+
+    fn from(fault: RunFault) -> Self {
+        match fault {
+            RunFault::Read => Refusal::Input,
+            RunFault::Write => Refusal::Output,
+        }
+    }
+}
+
+/// What C is told: 0 where the call was done. The device is let go.
+pub fn told<D: Drop>(outcome: Result<D, (Refusal, D)>) -> u8
+    ensures { result ≡ answer_of outcome }
+{
+    match outcome {
+        Ok(_) => 0,
+        Err((refusal, _)) => refusal.code(),
+    }
+}

@@ -1,0 +1,97 @@
+/* The smallest useful program: a log of readings that survives a loss of power.
+ *
+ *     logger IMAGE READING ..     adds readings, each in a save of its own, and prints the log
+ *
+ * Block 0 begins with the number of readings; each of the blocks 1 to 31 holds 256 of them, of 4 bytes. A reading and the
+ * new number are saved together: so at any moment the number says how many readings there are, and each of them is whole. */
+#define _DEFAULT_SOURCE
+#include <fcntl.h>
+#include <stdio.h>
+#include <stdlib.h>
+#include <string.h>
+#include <sys/stat.h>
+#include <unistd.h>
+
+#include "silgwyrad.h"
+
+enum { DEVICE = 1, BLOCKS = 32, SECTORS = 3 + 4 * BLOCKS, SECTOR_BYTES = 512, BLOCK_BYTES = 1024, IN_BLOCK = 256 };
+
+static const off_t IMAGE_BYTES = (off_t)SECTORS * SECTOR_BYTES;
+static const uint32_t BLANKS = 0x20202020;
+
+static int file;
+
+static int read_sector(void *context, uint32_t k, uint8_t out[SECTOR_BYTES]) {
+    (void)context;
+    return pread(file, out, SECTOR_BYTES, (off_t)k * SECTOR_BYTES) != SECTOR_BYTES;
+}
+
+static int write_sector(void *context, uint32_t k, const uint8_t bytes[SECTOR_BYTES]) {
+    (void)context;
+    return pwrite(file, bytes, SECTOR_BYTES, (off_t)k * SECTOR_BYTES) != SECTOR_BYTES;
+}
+
+static int sync_all(void *context) {
+    (void)context;
+    return fdatasync(file);
+}
+
+/* Both blocks of a save: the one with the number of readings, and the one that takes the next. */
+static uint8_t bytes[2][BLOCK_BYTES];
+
+static uint32_t number_at(const uint8_t *at) { return at[0] | (uint32_t)at[1] << 8 | (uint32_t)at[2] << 16 | (uint32_t)at[3] << 24; }
+
+static void put_number(uint8_t *at, uint32_t n) {
+    for (int i = 0; i < 4; i++) at[i] = (uint8_t)(n >> 8 * i);
+}
+
+/* Loads the block that holds a reading. */
+static uint8_t load(uint32_t reading) {
+    return silgwyrad_read(DEVICE, SECTORS, (uint16_t)(1 + reading / IN_BLOCK), bytes[1], BLOCK_BYTES);
+}
+
+/* Adds a reading, in one save of two blocks. */
+static uint8_t add(uint32_t value) {
+    uint32_t count = number_at(bytes[0]);
+    if (count >= (BLOCKS - 1) * IN_BLOCK) return SILGWYRAD_NO_BLOCK;
+    uint8_t answer = load(count);
+    if (answer) return answer;
+    const uint16_t both[2] = {0, (uint16_t)(1 + count / IN_BLOCK)};
+    put_number(bytes[1] + 4 * (count % IN_BLOCK), value);
+    put_number(bytes[0], count + 1);
+    return silgwyrad_save(DEVICE, SECTORS, both, 2, bytes[0], sizeof bytes);
+}
+
+static uint8_t print_all(void) {
+    for (uint32_t i = 0; i < number_at(bytes[0]); i++) {
+        uint8_t answer = load(i);
+        if (answer) return answer;
+        printf("%u: %u\n", i, number_at(bytes[1] + 4 * (i % IN_BLOCK)));
+    }
+    return 0;
+}
+
+/* Reads how many readings there are. A device without a label is formatted, since it is new, or a stop ended its first format; its
+ * blocks are blanks, and no reading is there yet. */
+static uint8_t begin(void) {
+    struct stat about;
+    if (fstat(file, &about)) return SILGWYRAD_DEVICE;
+    if (about.st_size == 0 && ftruncate(file, IMAGE_BYTES)) return SILGWYRAD_DEVICE;
+    if (about.st_size != 0 && about.st_size != IMAGE_BYTES) return SILGWYRAD_BAD_SIZE;
+    uint8_t answer = silgwyrad_read(DEVICE, SECTORS, 0, bytes[0], BLOCK_BYTES);
+    if (answer == SILGWYRAD_NO_LABEL) answer = silgwyrad_format(DEVICE, SECTORS, BLOCKS);
+    if (!answer) answer = silgwyrad_read(DEVICE, SECTORS, 0, bytes[0], BLOCK_BYTES);
+    if (number_at(bytes[0]) == BLANKS) put_number(bytes[0], 0);
+    return answer;
+}
+
+int main(int argc, char **argv) {
+    const struct silgwyrad_device device = {NULL, read_sector, write_sector, sync_all};
+    if (argc < 2 || (file = open(argv[1], O_RDWR | O_CREAT | O_CLOEXEC, 0666)) < 0) return fprintf(stderr, "usage: logger IMAGE READING ..\n"), 2;
+    silgwyrad_use_device(DEVICE, &device);
+    uint8_t answer = begin();
+    for (int i = 2; i < argc && !answer; i++) answer = add((uint32_t)strtoul(argv[i], NULL, 10));
+    if (!answer) answer = print_all();
+    if (answer) fprintf(stderr, "logger: answer %d\n", answer);
+    return answer;
+}

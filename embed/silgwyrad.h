@@ -1,0 +1,101 @@
+/* Crash-safe blocks, and a Forth system over them, for a C program that supplies the device and the console.
+ *
+ * docs/EMBEDDING.md says what is proved of these calls and what is not. In short: each call returns if the host's functions
+ * do, and does nothing undefined whatever they answer. Over a device that keeps the disk model, as the end of this comment has
+ * it, answer 0 means what stands at the call, and a stop at any moment leaves all blocks of a save or none.
+ *
+ * The library calls two functions of the host, from within its own calls and on the same stack:
+ *
+ *     int64_t write(int32_t number, const void *bytes, uint64_t n)   how many it took; less than 1 is a fault
+ *     int64_t read(int32_t number, void *bytes, uint64_t n)          how many it put there; less than 1 is a fault
+ *
+ * Where they move fewer bytes than n, they are called again for the rest. host.c gives both functions by callbacks. What
+ * follows is for a host that writes them itself.
+ *
+ * A device is asked by 8 bytes that are written to its number: `r`, `w` or `s`, three zeros, and the sector, low byte first.
+ * After `r` the sector's 512 bytes are read from that number; after `w` they are written to it; `s` is a sync, which is done
+ * where its 8 bytes were taken. A console is asked for a byte by reading two from its number: the first is 1 where the
+ * second is the next byte of the input, and 0 at the end of the input. Replies are written to its number in pieces.
+ *
+ * A program that has a `read` and a `write` already, as on a system of files, renames the library's:
+ *
+ *     objcopy --redefine-sym read=silgwyrad_host_read --redefine-sym write=silgwyrad_host_write libembed.a libsilgwyrad.a
+ *
+ * What the host owes, which nothing checks:
+ * - Each pointer that is passed to a call is to as many elements as the length after it says, aligned for its type. What is
+ *   passed to be filled overlaps with nothing else.
+ * - The host's functions write to nothing of the library's but the bytes that they were given to fill, keep no pointer, and
+ *   call no function of this header. The calls come from one thread, one after another. A call that is left by longjmp is as
+ *   one that a loss of power ended; one of silgwyrad_run leaves its memory taken.
+ * - A device has the sectors that the call says, of 512 bytes each, and nothing else writes to them. To keep the disk model: a
+ *   read gives what was last written. A write changes no other sector; until a sync has succeeded, a loss of power may leave
+ *   any bytes in it, and so may a write that failed. A sync that answers 0 makes all stay that was written before it, also
+ *   where an earlier sync failed. */
+#ifndef SILGWYRAD_H
+#define SILGWYRAD_H
+
+#include <stddef.h>
+#include <stdint.h>
+
+#ifdef __cplusplus
+extern "C" {
+#endif
+
+/* What a call answers. */
+enum silgwyrad_answer {
+    SILGWYRAD_DONE = 0,
+    SILGWYRAD_BAD_SIZE = 1,      /* no image has so many sectors: it is 3 + 4 * blocks, of 32 to 3840 blocks; the device wasn't called */
+    SILGWYRAD_NO_LABEL = 2,      /* the image has no label: it was never formatted, or a format was stopped */
+    SILGWYRAD_OTHER_VERSION = 3, /* the label has another version */
+    SILGWYRAD_WRONG_COUNT = 4,   /* the label counts other blocks than the sectors do */
+    SILGWYRAD_DEVICE = 5,        /* a call of the device failed: open the image again by any call, as after a loss of power */
+    SILGWYRAD_DAMAGED = 6,       /* a save is under way whose bytes are not those that were saved: the device broke the disk model */
+    SILGWYRAD_NO_BLOCK = 7,      /* the image has no such block; the device wasn't called */
+    SILGWYRAD_BAD_LENGTH = 8,    /* not 1024 bytes for each block; the device wasn't called */
+    SILGWYRAD_NO_STEPS = 9,      /* a line may take no step; nothing was called */
+    SILGWYRAD_INPUT = 10,        /* the input failed */
+    SILGWYRAD_OUTPUT = 11,       /* the output failed */
+    SILGWYRAD_NO_MEMORY = 12     /* there is no memory for a session; nothing of the input was read */
+};
+
+/* Makes an image of so many blank blocks, on a device of 3 + 4 * blocks sectors. A stop leaves the blank image, the old one, or
+ * one without a label. */
+uint8_t silgwyrad_format(int32_t device, uint32_t sectors, uint16_t blocks);
+
+/* Finishes a save that a stop left half done. Each of the calls below does so first. */
+uint8_t silgwyrad_recover(int32_t device, uint32_t sectors);
+
+/* Reads the 1024 bytes of a block, as it was saved last. At any other answer than 0, out is as it was. n is 1024. */
+uint8_t silgwyrad_read(int32_t device, uint32_t sectors, uint16_t block, uint8_t *out, size_t n);
+
+/* Saves `count` blocks, all or none, whenever it is stopped. n is 1024 for each. Of a block that stands twice the last bytes count. */
+uint8_t silgwyrad_save(int32_t device, uint32_t sectors, const uint16_t *blocks, size_t count, const uint8_t *bytes, size_t n);
+
+/* Runs a session of a new Forth system over the image: the lines that `input` gives, to the end of the input, at most `steps`
+ * steps a line, 1 or more. The replies are written to `output`, which may be the same console. */
+uint8_t silgwyrad_run(int32_t device, uint32_t sectors, int32_t input, int32_t output, uint32_t steps);
+
+/* With host.c: the callbacks of a device or a console. Each answers 0 where it was done. */
+struct silgwyrad_device {
+    void *context;
+    int (*read)(void *context, uint32_t sector, uint8_t out[512]);
+    int (*write)(void *context, uint32_t sector, const uint8_t bytes[512]);
+    int (*sync)(void *context);
+};
+
+struct silgwyrad_console {
+    void *context;
+    int (*key)(void *context); /* the next byte of the input, -1 at its end, -2 where it failed */
+    int (*emit)(void *context, const uint8_t *bytes, size_t n);
+};
+
+/* The device or the console of a number from 0 to SILGWYRAD_NUMBERS - 1, which has to stay while it is used. Answers 0 where it was
+ * taken, and 1 where there is no such number. A null pointer takes the number away. */
+#define SILGWYRAD_NUMBERS 8
+int silgwyrad_use_device(int32_t number, const struct silgwyrad_device *device);
+int silgwyrad_use_console(int32_t number, const struct silgwyrad_console *console);
+
+#ifdef __cplusplus
+}
+#endif
+#endif

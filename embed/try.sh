@@ -1,0 +1,127 @@
+#!/bin/bash
+# Builds the hosts in C over the library, with gcc's warnings and sanitizers, and runs them: on this machine, and on 64-bit ARM where a
+# compiler and an emulator for it are installed. It says what isn't installed. Its last line is `N passed, N failed`.
+# usage: try.sh [FOLDER]          what is built goes to FOLDER, else to a folder that is removed again
+set -u
+cd "$(dirname "$0")" || exit 1
+warnings='-std=c11 -Wall -Wextra -Wpedantic -Wshadow -Wconversion -Wstrict-prototypes -Wmissing-prototypes -Wcast-qual -Wundef -Werror'
+sanitizers='-g -fsanitize=address,undefined -fno-sanitize-recover=all'
+# AddressSanitizer keeps a stack of its own for what a function might hand out, which measure.c's stack and a longjmp don't know of
+export ASAN_OPTIONS=detect_stack_use_after_return=0
+passed=0
+failed=0
+
+told() {
+    if [ "$1" = 0 ]; then passed=$((passed + 1)); echo "$2: well"; else failed=$((failed + 1)); echo "$2: FAILED"; fi
+}
+
+finish() {
+    echo "$passed passed, $failed failed"
+    [ "$failed" = 0 ]
+    exit
+}
+
+# The hosts, each with what it is made of.
+parts_of() {
+    case $1 in
+        blocks) echo blocks.c disk.c host.c ;;
+        logger) echo logger.c host.c ;;
+        forth) echo forth.c host.c heap.c ;;
+        sessions) echo sessions.c disk.c host.c heap.c ;;
+    esac
+}
+
+build() {
+    compiler=$1 flags=$2 library=$3 host=$4 to=$5
+    # shellcheck disable=SC2046,SC2086
+    $compiler $warnings $flags $(parts_of "$host") "$library" -Wl,--gc-sections -o "$to"
+}
+
+# Runs the hosts that were built in a folder, under an emulator where one is named.
+run_hosts() {
+    what=$1 in=$2 emulator=${3:-}
+    for host in blocks sessions; do
+        $emulator "$in/$host" > "$in/$host.out"
+        told $? "$what: $host"
+        ./counts.py $host | diff - "$in/$host.out"
+        told $? "$what: the counts of $host are those that counts.py computes"
+    done
+    $emulator "$in/forth" < ../crates/forth83/stdin > "$in/forth.out"
+    told $? "$what: forth"
+    cmp "$in/forth.out" ../crates/forth83/stdout
+    told $? "$what: the replies of forth are those of the program"
+    rm -f "$in/log"
+    [ "$($emulator "$in/logger" "$in/log" 5 60 700 | tr '\n' ' ')" = '0: 5 1: 60 2: 700 ' ]
+    told $? "$what: logger"
+    [ "$(printf '0 BLOCK @ . 1 BLOCK 8 + @ .\n' | $emulator "$in/forth" "$in/log")" = '3 700  ok' ]
+    told $? "$what: forth reads the log"
+    printf '1 BLOCK 8 + 9 SWAP ! UPDATE FLUSH\n' | $emulator "$in/forth" "$in/log" > "$in/edited.out"
+    [ "$($emulator "$in/logger" "$in/log" | tail -n 1)" = '2: 9' ]
+    told $? "$what: logger reads what forth saved"
+}
+
+# A logger that is killed while it adds readings: those that are there are the first ones, each whole.
+kill_logger() {
+    what=$1 in=$2
+    for delay in 0.05 0.2 0.5 1; do
+        rm -f "$in/log"
+        # shellcheck disable=SC2046
+        "$in/logger" "$in/log" $(seq 0 2000) > /dev/null &
+        sleep $delay
+        kill -9 $!
+        wait $! 2> /dev/null
+        "$in/logger" "$in/log" > "$in/log.out" && awk -F': ' '$1 != NR - 1 || $2 != NR - 1 { exit 1 }' "$in/log.out"
+        told $? "$what: a logger killed after $delay seconds has the first $(wc -l < "$in/log.out") readings"
+    done
+}
+
+try_all() {
+    what=$1 compiler=$2 flags=$3 library=$4 in=$5 emulator=${6:-}
+    mkdir -p "$in"
+    for host in blocks sessions forth logger; do
+        build "$compiler" "$flags" "$library" $host "$in/$host"
+        told $? "$what: $host is built"
+    done
+    run_hosts "$what" "$in" "$emulator"
+}
+
+if ! command -v gcc > /dev/null || ! command -v objcopy > /dev/null; then
+    echo 'gcc and objcopy are not installed here: the hosts in C are not tried'
+    finish
+fi
+if [ $# -gt 0 ]; then
+    mkdir -p "$1"
+    folder=$(cd "$1" && pwd)
+else
+    folder=$(mktemp -d)
+    trap 'rm -rf "$folder"' EXIT
+fi
+if ! ./library.sh "$folder" > "$folder/library.log" 2>&1; then
+    tail -n 20 "$folder/library.log"
+    told 1 'the library is built'
+    finish
+fi
+told 0 'the library is built'
+nm --defined-only --extern-only "$folder/libsilgwyrad.a" 2> /dev/null | awk '$3 ~ /^silgwyrad_/ { print $3 }' | sort | cmp - expected/exports
+told $? 'the library has the calls of the header, and no other'
+# what it asks of whoever links it: the host's two functions, the heap's three, and three that copy and fill memory
+nm --undefined-only "$folder/libsilgwyrad.a" 2> /dev/null | awk '$1 == "U" { print $2 }' | sort -u | cmp - expected/imports
+told $? 'the library asks for the functions of host.c and heap.c, and those of memory'
+gcc $warnings -fsyntax-only -x c silgwyrad.h && g++ -std=c++11 -Wall -Wextra -Wpedantic -Werror -fsyntax-only -x c++ silgwyrad.h
+told $? 'the header is read as C and as C++'
+try_all plain gcc -O2 "$folder/libsilgwyrad.a" "$folder/plain"
+kill_logger plain "$folder/plain"
+try_all sanitized gcc "$sanitizers" "$folder/libsilgwyrad.a" "$folder/sanitized"
+if command -v aarch64-linux-gnu-gcc > /dev/null && command -v qemu-aarch64 > /dev/null; then
+    mkdir -p "$folder/arm"
+    if ./library.sh "$folder/arm" aarch64-unknown-linux-gnu > "$folder/arm/library.log" 2>&1; then
+        told 0 '64-bit ARM: the library is built'
+        try_all '64-bit ARM' aarch64-linux-gnu-gcc '-O2 -static' "$folder/arm/libsilgwyrad.a" "$folder/arm" qemu-aarch64
+    else
+        tail -n 20 "$folder/arm/library.log"
+        told 1 '64-bit ARM: the library is built'
+    fi
+else
+    echo 'aarch64-linux-gnu-gcc and qemu-aarch64 are not both installed here: 64-bit ARM is not tried'
+fi
+finish
