@@ -14,8 +14,8 @@ use Rattle.lexicon.specs.Falling.{fall_of, Paid}
 use Rattle.interpreter.specs.Falls.{WhereFree}
 use Rattle.system_words.specs.declared.words.Meaning.{Meaning as RowMeaning}
 use Rattle.system_words.specs.declared.words.Meaning.TheVariants.{Runs, Asks, Exits, Marks}
-use Rattle.system_words.specs.declared.words.Service.{Service as AskedService}
-use Rattle.interpreter.specs.Words.{Service, system_word, service_of}
+use Rattle.system_words.specs.declared.words.Service.{Service}
+use Rattle.system_words.specs.Rows.{meaning_of as meaning_at}
 use Rattle.cell_machine.specs.Frames.{Core, Around, Level, Due, Word, Next, Goes, Asked, Finished, Stopped, around_of, need, push, on_next}
 use Rattle.cell_machine.specs.Value.{Ends, Serve, body_value}
 use Rattle.cell_machine.specs.Effects.{Item}
@@ -30,7 +30,7 @@ use Rattle.cell_machine.proofs.Keeps.{step_keeps}
 use Rattle.cell_machine.proofs.Served.{calling_keeps}
 use Rattle.cell_machine.proofs.Same.{body_value-same}
 use Rattle.interpreter.specs.State.{World, Part, ForthWord, needing}
-use Rattle.interpreter.specs.Text.{serve, text, back, due_word, user_kind, user_word}
+use Rattle.interpreter.specs.Text.{serve, text, back, service_of, due_word, user_kind, user_word}
 use Rattle.interpreter.specs.Law.{left, next}
 use Rattle.lexicon.specs.declared.Lexicon.{Lexicon}
 use Rattle.lexicon.specs.Language.{Language}
@@ -115,19 +115,19 @@ module _ (n w : ℕ) (a : Around) (c : Core) (x : World) (small : c.steps ≤ n)
   word_meant None e = e
   word_meant (Some word) e = kind_meant word.kind e
 
-  due_meant : (s : Option Service) → service_of (system_word w) ≡ s → ((s : Service) → service_of (system_word w) ≡ Some s → meanings (language_of x) w ≡ Outside)
+  due_meant : (s : Option Service) → service_of (meaning_at w) ≡ s → ((s : Service) → service_of (meaning_at w) ≡ Some s → meanings (language_of x) w ≡ Outside)
       → due_word (suc n) inner w s a c x ≡ by_meaning (suc n) all (meanings (language_of x) w) w a c x
   due_meant (Some s) is system =
       ap (λ o. due_word (suc n) inner w o a c x) (sym is) ∙ ap (λ m. by_meaning (suc n) all m w a c x) (sym (system s is))
   due_meant None is system = word_meant (entry x.words w) (ap (λ o. due_word (suc n) inner w o a c x) (sym is))
 
-pub serves_as_meant : (n : ℕ) (x : World) → ((w : ℕ) (s : Service) → service_of (system_word w) ≡ Some s → meanings (language_of x) w ≡ Outside)
+pub serves_as_meant : (n : ℕ) (x : World) → ((w : ℕ) (s : Service) → service_of (meaning_at w) ≡ Some s → meanings (language_of x) w ≡ Outside)
     → ServesAsMeant n (λ a due c x. serve n a due c x) (meanings (language_of x)) x
 serves_as_meant zero x system = λ a w c h. absurd (omega (arith, h))
-serves_as_meant (suc n) x system = λ a w c h. due_meant n w a c x (omega (arith, h)) (service_of (system_word w)) refl (system w)
+serves_as_meant (suc n) x system = λ a w c h. due_meant n w a c x (omega (arith, h)) (service_of (meaning_at w)) refl (system w)
 
 -- a word that is a service asks for it in its row
-asks : (o : Option RowMeaning) (s : Service) → service_of o ≡ Some s → (a : AskedService) × (o ≡ Some (Asks a))
+asks : (o : Option RowMeaning) (s : Service) → service_of o ≡ Some s → (a : Service) × (o ≡ Some (Asks a))
 asks (Some (Asks a)) s e = (a, refl)
 asks (Some (Runs p)) s e = absurd (cc)
 asks (Some Exits) s e = absurd (cc)
@@ -139,7 +139,7 @@ pub left_calls : ServicesAreOutside → (n : ℕ) (l : Lexicon) (x : World) (k :
 left_calls outside n l x k levels c means h =
     calling_keeps n (λ a due c x. serve n a due c x) (λ a c x. text n (λ a due c x. serve n a due c x) n a c x) back (meanings (language_of x)) x
     (step_keeps n (λ a due c x. serve n a due c x) (λ a due c x. serve-frugal n a due c x) (λ a c x. text n (λ a due c x. serve n a due c x) n a c x) back)
-    (serves_as_meant n x (λ w s is. let a = asks (system_word w) s is in outside l (language_of x) means w a.0 a.1)) k levels c h
+    (serves_as_meant n x (λ w s is. let a = asks (meaning_at w) s is in outside l (language_of x) means w a.0 a.1)) k levels c h
 
 -- ---- where nothing is left to do above the text
 

@@ -27,7 +27,6 @@ pub mod Reading
 pub mod Consulting
 pub mod Entering
 pub mod Quiet
-pub mod Tokens
 pub mod Loading
 pub mod Wiring
 pub mod Called

@@ -12,7 +12,7 @@ use Rattle.cell_machine.proofs.Steps.{same_units}
 use Rattle.std.proofs.lemmas.Bool.{lt-ltb, le-ltb, lt-leb, le-leb}
 use Rattle.cell_machine.specs.Limits.{return_units}
 use Rattle.cell_machine.specs.Fault.{NoBlock, LoadDepth, ReturnStack, Faults}
-use Rattle.interpreter.specs.Words.{LoadBlock}
+use Rattle.system_words.specs.declared.words.Service.TheVariants.{Load as LoadWord}
 use Rattle.cell_machine.specs.Value.{Outcome, Did, Ends, Serve, and_then}
 use Rattle.interpreter.specs.State.{World, needing, system_cell, set_cell, to_in_cell, blk_cell}
 use Rattle.interpreter.specs.Text.{serve, text, back, load, on_service}
@@ -59,7 +59,7 @@ module _ (m : ℕ) (levels : List Level) (old : Core) (x : World) (u : ℕ) (sta
   on o = and_then o (λ c x. left (suc m) levels c x)
 
   abbrev loading : Outcome World
-  loading = on (on_service (suc m) inner LoadBlock (around_of levels) old x)
+  loading = on (on_service (suc m) inner LoadWord (around_of levels) old x)
 
   abbrev mid : Core
   mid = record old { stack = stack }

@@ -8,9 +8,6 @@ use Rattle.cell_machine.specs.Frames.{Core, Level}
 use Rattle.cell_machine.specs.Value.{Outcome, Did, Ends}
 use Rattle.compiler.specs.Definition.{Definition, Adding, Refuses}
 use Rattle.lexicon.specs.declared.Lexicon.{Lexicon}
-use Rattle.lexicon.specs.declared.structure.Structure.{Structure}
-use Rattle.lexicon.specs.declared.structure.Structure.TheVariants as structure
-use Rattle.lexicon.specs.Structures.{adding}
 use Rattle.lexicon.specs.Language.{Language}
 use Rattle.lexicon.specs.Promise.{Goes, Stops, Gives}
 use Rattle.interpreter.specs.declared.fault.Fault.{Fault}
@@ -18,26 +15,11 @@ use Rattle.interpreter.specs.declared.forth.Forth.{Forth}
 use Rattle.interpreter.specs.State.{World, Run, with_run, needing}
 use Rattle.interpreter.specs.Stops.{fault_of}
 use Rattle.interpreter.specs.Lexicon.{language_of, with_language, stepped}
-use Rattle.interpreter.specs.Compiling.{on_compile, changing, definition_or, in_definition}
-use Rattle.interpreter.specs.Compiled.{structure_word}
+use Rattle.interpreter.specs.Compiling.{definition_or, in_definition}
 use Rattle.interpreter.specs.Naming.{none_open}
 use Rattle.interpreter.specs.Standing.{core, StandsIn}
 use Rattle.interpreter.specs.Serving.{Altered}
 use Rattle.interpreter.proofs.Altering.{refused, went, becoming}
-
-pub structure_is : (s : Structure) (c : Core) (x : World) → on_compile (structure_word s) c x ≡ changing (adding s) c x
-structure_is structure.If c x = refl
-structure_is structure.Else c x = refl
-structure_is structure.Then c x = refl
-structure_is structure.Begin c x = refl
-structure_is structure.Until c x = refl
-structure_is structure.While c x = refl
-structure_is structure.Repeat c x = refl
-structure_is structure.Do c x = refl
-structure_is structure.Loop c x = refl
-structure_is structure.PlusLoop c x = refl
-structure_is structure.Leave c x = refl
-structure_is structure.Does c x = refl
 
 -- ---- whether a definition is open
 

@@ -1,10 +1,10 @@
-pub mod Words
 pub mod Terminal
 pub mod State
 pub mod Terminals
 pub mod Pictures
 pub mod Streams
 pub mod Naming
+pub mod NameWords
 pub mod Compiling
 pub mod Blocking
 pub mod Text
@@ -12,7 +12,6 @@ pub mod FaultNames
 pub mod Lines
 pub mod Law
 pub mod Promise
-pub mod Table
 pub mod Deeds
 pub mod Lexicon
 pub mod Stops
@@ -21,8 +20,6 @@ pub mod Serving
 pub mod Rounds
 pub mod Falls
 pub mod Lining
-pub mod Services
-pub mod Compiled
 pub mod Taken
 pub mod Looking
 pub mod TextRounds

@@ -1,6 +1,7 @@
 //! The services that the machine asks for, by families.
 mod compiling_words;
 mod entering;
+mod lexicon_words;
 pub(crate) mod looking;
 mod naming_words;
 mod operands;
@@ -9,7 +10,6 @@ mod picture_words;
 mod reading;
 mod reading_words;
 mod serving;
-pub mod table;
 pub(crate) mod taking;
 mod terminal_words;
 mod words_on_blocks;

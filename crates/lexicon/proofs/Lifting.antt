@@ -11,8 +11,8 @@ use Rattle.compiler.specs.Definition.{Begun, AfterIf, AfterElse, AfterBegin, Aft
 use Rattle.compiler.specs.Promise.{on_open, BodiesStay, Added}
 use Rattle.compiler.specs.Represents.{used}
 use Rattle.lexicon.specs.declared.Lexicon.{Lexicon}
-use Rattle.lexicon.specs.declared.structure.Structure.{Structure}
-use Rattle.lexicon.specs.declared.structure.Structure.TheVariants as structure
+use Rattle.system_words.specs.declared.words.Structure.{Structure}
+use Rattle.system_words.specs.declared.words.Structure.TheVariants as structure
 use Rattle.lexicon.specs.Structures.{adding}
 use Rattle.dictionary.specs.Words.{is_name}
 use Rattle.lexicon.specs.Language.{ForthWord, Language, used_cells, changing, with_definition}

@@ -2,8 +2,8 @@
 use Rattle.std.specs.Prelude.{ℕ}
 use Rattle.cell_machine.specs.Tree.{ByOne, ByTop}
 use Rattle.compiler.specs.Definition.{Definition, Adding, add_if, add_else, add_then, add_begin, add_until, add_while, add_repeat, add_do, add_loop, add_leave, add_does}
-use Rattle.lexicon.specs.declared.structure.Structure.{Structure}
-use Rattle.lexicon.specs.declared.structure.Structure.TheVariants as structure
+use Rattle.system_words.specs.declared.words.Structure.{Structure}
+use Rattle.system_words.specs.declared.words.Structure.TheVariants as structure
 
 abbrev pub adding : Structure → ℕ → Definition → Adding Definition
 adding structure.If used d = add_if used d

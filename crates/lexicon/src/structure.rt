@@ -7,45 +7,31 @@ ghost use Rattle.lexicon.specs.Structures.{adding};
 
 use cell_machine::code::Code;
 use compiler::{Compiler, Refusal};
+use system_words::words::Structure;
 
-/// A structure word, and `DOES>`.
-#[derive(Clone, Copy, Debug, PartialEq, Eq)]
-pub enum Structure {
-    If,
-    Else,
-    Then,
-    Begin,
-    Until,
-    While,
-    Repeat,
-    Do,
-    Loop,
-    PlusLoop,
-    Leave,
-    Does,
-}
-
-impl Structure {
-    /// Adds it to the open definition.
-    pub(crate) fn add_to(self, compiler: &mut Compiler, code: &mut Code) -> Result<(), Refusal>
-        requires { IsSound compiler.old code.old }
-        ensures added { OnOk result (Added compiler.old code.old compiler.new code.new (adding self)) }
-        ensures refused { IfErr result (Refused compiler.old code.old compiler.new code.new (adding self)) }
-        ensures bodies { BodiesStay compiler.old code.old compiler.new code.new }
-    {
-        match self {
-            Structure::If => compiler.add_if(code),
-            Structure::Else => compiler.add_else(code),
-            Structure::Then => compiler.add_then(code),
-            Structure::Begin => compiler.add_begin(code),
-            Structure::Until => compiler.add_until(code),
-            Structure::While => compiler.add_while(code),
-            Structure::Repeat => compiler.add_repeat(code),
-            Structure::Do => compiler.add_do(code),
-            Structure::Loop => compiler.add_loop(code),
-            Structure::PlusLoop => compiler.add_plus_loop(code),
-            Structure::Leave => compiler.add_leave(code),
-            Structure::Does => compiler.add_does(code),
-        }
+/// Adds a structure word, or `DOES>`, to the open definition.
+pub(crate) fn add_to(
+    compiler: &mut Compiler,
+    code: &mut Code,
+    structure: Structure,
+) -> Result<(), Refusal>
+    requires { IsSound compiler.old code.old }
+    ensures added { OnOk result (Added compiler.old code.old compiler.new code.new (adding structure)) }
+    ensures refused { IfErr result (Refused compiler.old code.old compiler.new code.new (adding structure)) }
+    ensures bodies { BodiesStay compiler.old code.old compiler.new code.new }
+{
+    match structure {
+        Structure::If => compiler.add_if(code),
+        Structure::Else => compiler.add_else(code),
+        Structure::Then => compiler.add_then(code),
+        Structure::Begin => compiler.add_begin(code),
+        Structure::Until => compiler.add_until(code),
+        Structure::While => compiler.add_while(code),
+        Structure::Repeat => compiler.add_repeat(code),
+        Structure::Do => compiler.add_do(code),
+        Structure::Loop => compiler.add_loop(code),
+        Structure::PlusLoop => compiler.add_plus_loop(code),
+        Structure::Leave => compiler.add_leave(code),
+        Structure::Does => compiler.add_does(code),
     }
 }

@@ -1,8 +1,9 @@
 //! Tests of what no contract says: that memory which is there is found; and each call once, with what is then run.
 use cell_machine::event::{Event, Op};
 use desk::Desk;
-use lexicon::{CompileRefusal, FIRST_HERE, Refusal, Structure, TextKind};
+use lexicon::{CompileRefusal, FIRST_HERE, Refusal, TextKind};
 use std::test::Fail;
+use system_words::words::Structure;
 
 mod desk;
 

@@ -1,5 +1,5 @@
 //! Words on the open definition.
-ghost use Rattle.std.specs.Prelude.{◌≡◌, ◌≤◌, ◌<◌, ℕ, List, take, Ok};
+ghost use Rattle.std.specs.Prelude.{◌≡◌, ◌≤◌, ◌<◌, ℕ, List, take};
 ghost use Rattle.interpreter.specs.Stops.{fault_of, fault_count};
 ghost use Rattle.compiler.specs.Promise.{fault_of as compile_fault_of};
 ghost use Rattle.lexicon.specs.Promise.{fault_of as refusal_fault_of};
@@ -7,8 +7,9 @@ ghost use Rattle.lexicon.specs.Promise.{fault_of as refusal_fault_of};
 use crate::fault::Fault;
 use crate::forth::Forth;
 use crate::system_cells::STATE;
-use lexicon::{CompileRefusal, Refusal, Structure, TextKind};
+use lexicon::{CompileRefusal, Refusal, TextKind};
 use sector_disk::SectorDevice;
+use system_words::words::{DefinitionWord, Structure};
 
 /// Why the open definition refused something, as the line says it.
 pub(crate) fn compile_fault(refusal: CompileRefusal) -> Fault
@@ -38,14 +39,11 @@ pub(crate) fn lexicon_fault(refusal: Refusal) -> Fault
 }
 
 impl<D: SectorDevice> Forth<D> {
-    ghost use Rattle.interpreter.specs.Words.{Literal, Semicolon, Colon, CompileTick, BracketCompile};
+    ghost use Rattle.system_words.specs.declared.words.DefinitionWord.TheVariants.{Semicolon, Literal, Build};
     ghost use Rattle.cell_machine.specs.Layout.{most_tokens};
     ghost use Rattle.compiler.specs.Definition.{add_literal, add_text};
     ghost use Rattle.compiler.specs.Promise.{kind_of};
-    ghost use Rattle.lexicon.specs.Adding.{MayBeAdded};
-    ghost use Rattle.interpreter.specs.Compiling.{begun};
-    ghost use Rattle.interpreter.specs.Compiling.{on_compile, changing, compile_word, compile_text};
-    ghost use Rattle.interpreter.specs.Compiled.{structure_word};
+    ghost use Rattle.interpreter.specs.Compiling.{on_definition, changing, compile_word, compile_text};
     ghost use Rattle.cell_machine.specs.Tree.{Trees};
     ghost use Rattle.cell_machine.specs.Frames.{Level};
     ghost use Rattle.interpreter.specs.State.{World, with_run};
@@ -55,10 +53,24 @@ impl<D: SectorDevice> Forth<D> {
     ghost use Rattle.interpreter.specs.Serving.{Alters, Altered, Spares, Consults, LastsAlone, Tells};
     ghost use Rattle.lexicon.specs.Stands.{IsSound, IsPart};
 
-    /// A structure word, or `DOES>`.
-    pub(crate) fn structure(&mut self, structure: Structure) -> Result<(), Fault>
+    /// A word on the open definition.
+    pub(crate) fn on_definition(&mut self, word: DefinitionWord) -> Result<(), Fault>
         requires sound { IsSound self.old.lexicon }
-        ensures alters { Alters (λ a c x. on_compile (structure_word structure) c x) result self.old self.new }
+        ensures alters { Alters (λ a c x. on_definition word c x) result self.old self.new }
+        ensures spares { Spares self.old self.new }
+        ensures tells { Tells fault_count result self.old self.new }
+    {
+        match word {
+            DefinitionWord::Semicolon => self.semicolon(),
+            DefinitionWord::Literal => self.literal(),
+            DefinitionWord::Build(structure) => self.structure(structure),
+        }
+    }
+
+    /// A structure word, or `DOES>`.
+    fn structure(&mut self, structure: Structure) -> Result<(), Fault>
+        requires sound { IsSound self.old.lexicon }
+        ensures alters { Alters (λ a c x. on_definition (Build structure) c x) result self.old self.new }
         ensures spares { Spares self.old self.new }
         ensures tells { Tells fault_count result self.old self.new }
     {
@@ -97,9 +109,9 @@ impl<D: SectorDevice> Forth<D> {
     }
 
     /// `LITERAL`.
-    pub(crate) fn literal(&mut self) -> Result<(), Fault>
+    fn literal(&mut self) -> Result<(), Fault>
         requires sound { IsSound self.old.lexicon }
-        ensures alters { Alters (λ a c x. on_compile Literal c x) result self.old self.new }
+        ensures alters { Alters (λ a c x. on_definition Literal c x) result self.old self.new }
         ensures spares { Spares self.old self.new }
         ensures tells { Tells fault_count result self.old self.new }
     {
@@ -113,9 +125,9 @@ impl<D: SectorDevice> Forth<D> {
     }
 
     /// `;`.
-    pub(crate) fn semicolon(&mut self) -> Result<(), Fault>
+    fn semicolon(&mut self) -> Result<(), Fault>
         requires sound { IsSound self.old.lexicon }
-        ensures alters { Alters (λ a c x. on_compile Semicolon c x) result self.old self.new }
+        ensures alters { Alters (λ a c x. on_definition Semicolon c x) result self.old self.new }
         ensures spares { Spares self.old self.new }
         ensures tells { Tells fault_count result self.old self.new }
     {
@@ -143,69 +155,6 @@ impl<D: SectorDevice> Forth<D> {
         match self.lexicon.give_part(place) {
             Ok(()) => Ok(()),
             Err(refusal) => Err(lexicon_fault(refusal)),
-        }
-    }
-
-    /// Begins a definition of the name that was taken.
-    fn begin(&mut self, count: usize)
-        requires sound { IsSound self.old.lexicon }
-        requires within { count ≤ 1024 }
-        requires fits { MayBeAdded self.old.lexicon (take count self.old.text) }
-        ensures alters { Alters (λ a c x. begun (take count self.old.text) c x) (Ok tt) self.old self.new }
-        ensures spares { Spares self.old self.new }
-    {
-        let _ = self.lexicon.begin(&self.text[..count]);
-        self.space.set_cell(STATE, 65535);
-    }
-
-    /// `:`.
-    pub(crate) fn colon(&mut self) -> Result<(), Fault>
-        requires sound { IsSound self.old.lexicon }
-        ensures consults { Consults (λ a c x. on_compile Colon c x) result self.old self.new }
-        ensures lasts { LastsAlone D.SectorDevice (device self.old) (device self.new) }
-        ensures tells { Tells fault_count result self.old self.new }
-        ensures budget { self.new.budget ≡ self.old.budget }
-    {
-        match self.take_new_word() {
-            Ok(count) => {
-                self.begin(count);
-                Ok(())
-            }
-            Err(fault) => Err(fault),
-        }
-    }
-
-    /// `[']`.
-    pub(crate) fn compile_tick(&mut self) -> Result<(), Fault>
-        requires sound { IsSound self.old.lexicon }
-        ensures consults { Consults (λ a c x. on_compile CompileTick c x) result self.old self.new }
-        ensures lasts { LastsAlone D.SectorDevice (device self.old) (device self.new) }
-        ensures tells { Tells fault_count result self.old self.new }
-        ensures budget { self.new.budget ≡ self.old.budget }
-    {
-        if !self.lexicon.is_open() {
-            return Err(Fault::NoDefinition);
-        }
-        match self.take_token() {
-            Ok(token) => self.add_literal(token),
-            Err(fault) => Err(fault),
-        }
-    }
-
-    /// `[COMPILE]`.
-    pub(crate) fn bracket_compile(&mut self) -> Result<(), Fault>
-        requires sound { IsSound self.old.lexicon }
-        ensures consults { Consults (λ a c x. on_compile BracketCompile c x) result self.old self.new }
-        ensures lasts { LastsAlone D.SectorDevice (device self.old) (device self.new) }
-        ensures tells { Tells fault_count result self.old self.new }
-        ensures budget { self.new.budget ≡ self.old.budget }
-    {
-        if !self.lexicon.is_open() {
-            return Err(Fault::NoDefinition);
-        }
-        match self.take_token() {
-            Ok(token) => self.add_word(token),
-            Err(fault) => Err(fault),
         }
     }
 

@@ -17,7 +17,7 @@ const MOST_LOADS: usize = 8;
 impl<D: SectorDevice> Forth<D> {
     ghost use Rattle.cell_machine.specs.Frames.{Level, around_of};
     ghost use Rattle.cell_machine.specs.Value.{and_then};
-    ghost use Rattle.interpreter.specs.Words.{Execute, LoadBlock};
+    ghost use Rattle.system_words.specs.declared.words.Service.TheVariants.{Execute, Load};
     ghost use Rattle.interpreter.specs.State.{World, with_run};
     ghost use Rattle.interpreter.specs.Law.{left};
     ghost use Rattle.interpreter.specs.Text.{serve, on_service, may_execute};
@@ -66,7 +66,7 @@ impl<D: SectorDevice> Forth<D> {
         requires idle { self.old.machine.pending ≡ None }
         ensures entered { (m : ℕ) (levels : List Level) (x : World) → self.old.steps ≤ m → Stands self.old levels x
             → Entered (suc m) (λ r. and_then
-            (on_service (suc m) (λ a due c x. serve m a due c x) LoadBlock (around_of levels) (core self.old) (with_run r x))
+            (on_service (suc m) (λ a due c x. serve m a due c x) Load (around_of levels) (core self.old) (with_run r x))
             (λ c x. left (suc m) levels c x)) result self.old self.new x }
         ensures spares { Spares self.old self.new }
         ensures tells { Tells fault_count result self.old self.new }

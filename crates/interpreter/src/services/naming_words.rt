@@ -1,195 +1,48 @@
-//! Words on the dictionary and `HERE`.
+//! Words that take a name from the stream.
 
-ghost use Rattle.std.specs.Prelude.{◌≡◌, ◌<◌, ◌≤◌, ℕ, ◌∷◌, length, take, Ok, None};
-ghost use Rattle.interpreter.specs.Naming.{here_moved};
+ghost use Rattle.std.specs.Prelude.{◌≡◌, ◌≤◌, ℕ, take, Ok, None};
 
 use crate::fault::Fault;
 use crate::forth::Forth;
 use crate::services::compiling_words::lexicon_fault;
-use lexicon::FIRST_HERE;
+use crate::services::lexicon_words::LAST_HERE;
+use crate::system_cells::STATE;
 use sector_disk::SectorDevice;
-
-/// The last address at which `HERE` may stand.
-const LAST_HERE: u16 = 60928;
-
-/// How far `PAD` is from `HERE`.
-const PAD_OFFSET: u16 = 324;
-
-/// Where `HERE` would stand, moved by this many bytes with their sign.
-fn moved_here(here: u16, n: u16) -> u32
-    ensures { result ≡ here_moved here n }
-{
-    if n < 32768 {
-        u32::from(here) + u32::from(n)
-    } else {
-        u32::from(here).saturating_sub(65536 - u32::from(n))
-    }
-}
+use system_words::words::NameWord;
 
 impl<D: SectorDevice> Forth<D> {
-    ghost use Rattle.interpreter.specs.Words.{Here, Comma, Pad, Allot, Tick, Find, Body as ToBody, Create, Variable, MakeConstant, Vocabulary as MakeVocabulary, Forth as ForthWord, Definitions, Forget, Immediate};
+    ghost use Rattle.system_words.specs.declared.words.NameWord.TheVariants.{Tick, Forget, Colon, MakeConstant, Create, Variable, MakeVocabulary, CompileTick, BracketCompile};
     ghost use Rattle.cell_machine.specs.Value.{Did};
     ghost use Rattle.dictionary.specs.Words.{Created, Constant, Vocabulary};
     ghost use Rattle.lexicon.specs.Adding.{MayBeAdded};
-    ghost use Rattle.lexicon.specs.Language.{forgetting};
-    ghost use Rattle.interpreter.specs.Lexicon.{language_of, stepped};
-    ghost use Rattle.interpreter.specs.Naming.{variable};
-    ghost use Rattle.interpreter.specs.Standing.{device};
-    ghost use Rattle.interpreter.specs.Naming.{on_naming, mark_of, adding};
-    ghost use Rattle.interpreter.specs.State.{pushing};
-    ghost use Rattle.dictionary.specs.Words.{entry};
-    ghost use Rattle.lexicon.specs.Language.{Language};
+    ghost use Rattle.lexicon.specs.Language.{Language, forgetting};
     ghost use Rattle.lexicon.specs.Stands.{Stands as Means, IsSound, IsWord};
+    ghost use Rattle.interpreter.specs.Lexicon.{language_of, stepped};
+    ghost use Rattle.interpreter.specs.Naming.{adding, variable};
+    ghost use Rattle.interpreter.specs.NameWords.{on_name};
+    ghost use Rattle.interpreter.specs.Compiling.{begun};
+    ghost use Rattle.interpreter.specs.Standing.{device};
     ghost use Rattle.interpreter.specs.Serving.{Alters, Spares, Consults, LastsAlone, Tells};
     ghost use Rattle.interpreter.specs.Stops.{fault_count};
 
-    /// `HERE`.
-    pub(crate) fn here(&mut self) -> Result<(), Fault>
-        ensures alters { Alters (λ a c x. on_naming Here a c x) result self.old self.new }
-        ensures spares { Spares self.old self.new }
-        ensures tells { Tells fault_count result self.old self.new }
-    {
-        let here = self.lexicon.here();
-        self.push(here)
-    }
-
-    /// `,`.
-    pub(crate) fn comma(&mut self) -> Result<(), Fault>
+    /// A word that takes a name from the stream.
+    pub(crate) fn on_name(&mut self, word: NameWord) -> Result<(), Fault>
         requires sound { IsSound self.old.lexicon }
-        ensures alters { Alters (λ a c x. on_naming Comma a c x) result self.old self.new }
-        ensures spares { Spares self.old self.new }
+        ensures consults { Consults (λ a c x. on_name word a c x) result self.old self.new }
+        ensures lasts { LastsAlone D.SectorDevice (device self.old) (device self.new) }
         ensures tells { Tells fault_count result self.old self.new }
+        ensures budget { self.new.budget ≡ self.old.budget }
     {
-        let cell = match self.stack.pop() {
-            Ok(cell) => cell,
-            Err(_) => return Err(Fault::StackEmpty),
-        };
-        let here = self.lexicon.here();
-        if here > LAST_HERE - 2 {
-            return Err(Fault::DataSpace);
-        }
-        self.lexicon.set_here(here + 2);
-        self.space.set_cell(here, cell);
-        Ok(())
-    }
-
-    /// `PAD`.
-    pub(crate) fn pad(&mut self) -> Result<(), Fault>
-        requires sound { IsSound self.old.lexicon }
-        ensures alters { Alters (λ a c x. on_naming Pad a c x) result self.old self.new }
-        ensures spares { Spares self.old self.new }
-        ensures tells { Tells fault_count result self.old self.new }
-    {
-        let here = self.lexicon.here();
-        self.push(here + PAD_OFFSET)
-    }
-
-    /// `ALLOT`.
-    pub(crate) fn allot(&mut self) -> Result<(), Fault>
-        ensures alters { Alters (λ a c x. on_naming Allot a c x) result self.old self.new }
-        ensures spares { Spares self.old self.new }
-        ensures tells { Tells fault_count result self.old self.new }
-    {
-        let n = match self.stack.pop() {
-            Ok(n) => n,
-            Err(_) => return Err(Fault::StackEmpty),
-        };
-        let here = moved_here(self.lexicon.here(), n);
-        if here < u32::from(FIRST_HERE) {
-            return Err(Fault::DataSpace);
-        }
-        if here > u32::from(LAST_HERE) {
-            return Err(Fault::DataSpace);
-        }
-        self.lexicon.set_here(here as u16);
-        Ok(())
-    }
-
-    /// Pushes two cells, of which the first has room.
-    fn push_two(&mut self, under: u16, top: u16) -> Result<(), Fault>
-        requires { length self.old.stack < 256 }
-        ensures alters { Alters (λ a c x. pushing top (record c { stack = under ∷ c.stack }) x) result self.old self.new }
-        ensures spares { Spares self.old self.new }
-        ensures tells { Tells fault_count result self.old self.new }
-    {
-        let _ = self.stack.push(under);
-        self.push(top)
-    }
-
-    /// What `FIND` says of a word beside its token.
-    fn mark(&self, token: u16) -> u16
-        ensures { (x : Language) → Means self.now.lexicon x → IsWord x token → result ≡ mark_of (entry x.words token) }
-    {
-        if self.lexicon.is_immediate(token) {
-            1
-        } else {
-            65535
-        }
-    }
-
-    /// `FIND`.
-    pub(crate) fn find(&mut self) -> Result<(), Fault>
-        ensures alters { Alters (λ a c x. on_naming Find a c x) result self.old self.new }
-        ensures spares { Spares self.old self.new }
-        ensures tells { Tells fault_count result self.old self.new }
-    {
-        let s = match self.stack.pop() {
-            Ok(s) => s,
-            Err(_) => return Err(Fault::StackEmpty),
-        };
-        let start = usize::from(s) + 1;
-        let end = start + usize::from(self.space.byte(s));
-        if end > 65536 {
-            return Err(Fault::Address);
-        }
-        match self.lexicon.find(&self.space.bytes()[start..end]) {
-            Some(token) => self.push_two(token, self.mark(token)),
-            None => self.push_two(s, 0),
-        }
-    }
-
-    /// `>BODY`.
-    pub(crate) fn to_body(&mut self) -> Result<(), Fault>
-        ensures alters { Alters (λ a c x. on_naming ToBody a c x) result self.old self.new }
-        ensures spares { Spares self.old self.new }
-        ensures tells { Tells fault_count result self.old self.new }
-    {
-        let token = match self.stack.pop() {
-            Ok(token) => token,
-            Err(_) => return Err(Fault::StackEmpty),
-        };
-        match self.lexicon.data_address(token) {
-            Some(address) => self.push(address),
-            None => Err(Fault::Token),
-        }
-    }
-
-    /// `FORTH`.
-    pub(crate) fn forth(&mut self)
-        ensures alters { Alters (λ a c x. on_naming ForthWord a c x) (Ok tt) self.old self.new }
-        ensures spares { Spares self.old self.new }
-    {
-        self.lexicon.set_first_to_forth();
-    }
-
-    /// `DEFINITIONS`.
-    pub(crate) fn definitions(&mut self)
-        ensures alters { Alters (λ a c x. on_naming Definitions a c x) (Ok tt) self.old self.new }
-        ensures spares { Spares self.old self.new }
-    {
-        self.lexicon.set_current_to_first();
-    }
-
-    /// `IMMEDIATE`.
-    pub(crate) fn immediate(&mut self) -> Result<(), Fault>
-        requires sound { IsSound self.old.lexicon }
-        ensures alters { Alters (λ a c x. on_naming Immediate a c x) result self.old self.new }
-        ensures spares { Spares self.old self.new }
-        ensures tells { Tells fault_count result self.old self.new }
-    {
-        match self.lexicon.set_immediate() {
-            Ok(()) => Ok(()),
-            Err(refusal) => Err(lexicon_fault(refusal)),
+        match word {
+            NameWord::Tick => self.tick(),
+            NameWord::Forget => self.forget(),
+            NameWord::Colon => self.colon(),
+            NameWord::MakeConstant => self.constant(),
+            NameWord::Create => self.create(),
+            NameWord::Variable => self.variable(),
+            NameWord::MakeVocabulary => self.vocabulary(),
+            NameWord::CompileTick => self.compile_tick(),
+            NameWord::BracketCompile => self.bracket_compile(),
         }
     }
 
@@ -206,9 +59,9 @@ impl<D: SectorDevice> Forth<D> {
     }
 
     /// `CREATE`.
-    pub(crate) fn create(&mut self) -> Result<(), Fault>
+    fn create(&mut self) -> Result<(), Fault>
         requires sound { IsSound self.old.lexicon }
-        ensures consults { Consults (λ a c x. on_naming Create a c x) result self.old self.new }
+        ensures consults { Consults (λ a c x. on_name Create a c x) result self.old self.new }
         ensures lasts { LastsAlone D.SectorDevice (device self.old) (device self.new) }
         ensures tells { Tells fault_count result self.old self.new }
         ensures budget { self.new.budget ≡ self.old.budget }
@@ -234,9 +87,9 @@ impl<D: SectorDevice> Forth<D> {
     }
 
     /// `CONSTANT`.
-    pub(crate) fn constant(&mut self) -> Result<(), Fault>
+    fn constant(&mut self) -> Result<(), Fault>
         requires sound { IsSound self.old.lexicon }
-        ensures consults { Consults (λ a c x. on_naming MakeConstant a c x) result self.old self.new }
+        ensures consults { Consults (λ a c x. on_name MakeConstant a c x) result self.old self.new }
         ensures lasts { LastsAlone D.SectorDevice (device self.old) (device self.new) }
         ensures tells { Tells fault_count result self.old self.new }
         ensures budget { self.new.budget ≡ self.old.budget }
@@ -265,9 +118,9 @@ impl<D: SectorDevice> Forth<D> {
     }
 
     /// `VOCABULARY`.
-    pub(crate) fn vocabulary(&mut self) -> Result<(), Fault>
+    fn vocabulary(&mut self) -> Result<(), Fault>
         requires sound { IsSound self.old.lexicon }
-        ensures consults { Consults (λ a c x. on_naming MakeVocabulary a c x) result self.old self.new }
+        ensures consults { Consults (λ a c x. on_name MakeVocabulary a c x) result self.old self.new }
         ensures lasts { LastsAlone D.SectorDevice (device self.old) (device self.new) }
         ensures tells { Tells fault_count result self.old self.new }
         ensures budget { self.new.budget ≡ self.old.budget }
@@ -301,9 +154,9 @@ impl<D: SectorDevice> Forth<D> {
     }
 
     /// `VARIABLE`.
-    pub(crate) fn variable(&mut self) -> Result<(), Fault>
+    fn variable(&mut self) -> Result<(), Fault>
         requires sound { IsSound self.old.lexicon }
-        ensures consults { Consults (λ a c x. on_naming Variable a c x) result self.old self.new }
+        ensures consults { Consults (λ a c x. on_name Variable a c x) result self.old self.new }
         ensures lasts { LastsAlone D.SectorDevice (device self.old) (device self.new) }
         ensures tells { Tells fault_count result self.old self.new }
         ensures budget { self.new.budget ≡ self.old.budget }
@@ -315,8 +168,8 @@ impl<D: SectorDevice> Forth<D> {
     }
 
     /// `'`.
-    pub(crate) fn tick(&mut self) -> Result<(), Fault>
-        ensures consults { Consults (λ a c x. on_naming Tick a c x) result self.old self.new }
+    fn tick(&mut self) -> Result<(), Fault>
+        ensures consults { Consults (λ a c x. on_name Tick a c x) result self.old self.new }
         ensures lasts { LastsAlone D.SectorDevice (device self.old) (device self.new) }
         ensures tells { Tells fault_count result self.old self.new }
         ensures budget { self.new.budget ≡ self.old.budget }
@@ -342,9 +195,9 @@ impl<D: SectorDevice> Forth<D> {
     }
 
     /// `FORGET`.
-    pub(crate) fn forget(&mut self) -> Result<(), Fault>
+    fn forget(&mut self) -> Result<(), Fault>
         requires sound { IsSound self.old.lexicon }
-        ensures consults { Consults (λ a c x. on_naming Forget a c x) result self.old self.new }
+        ensures consults { Consults (λ a c x. on_name Forget a c x) result self.old self.new }
         ensures lasts { LastsAlone D.SectorDevice (device self.old) (device self.new) }
         ensures tells { Tells fault_count result self.old self.new }
         ensures budget { self.new.budget ≡ self.old.budget }
@@ -354,6 +207,69 @@ impl<D: SectorDevice> Forth<D> {
         }
         match self.take_current() {
             Ok(token) => self.forget_from(token),
+            Err(fault) => Err(fault),
+        }
+    }
+
+    /// Begins a definition of the name that was taken.
+    fn begin(&mut self, count: usize)
+        requires sound { IsSound self.old.lexicon }
+        requires within { count ≤ 1024 }
+        requires fits { MayBeAdded self.old.lexicon (take count self.old.text) }
+        ensures alters { Alters (λ a c x. begun (take count self.old.text) c x) (Ok tt) self.old self.new }
+        ensures spares { Spares self.old self.new }
+    {
+        let _ = self.lexicon.begin(&self.text[..count]);
+        self.space.set_cell(STATE, 65535);
+    }
+
+    /// `:`.
+    fn colon(&mut self) -> Result<(), Fault>
+        requires sound { IsSound self.old.lexicon }
+        ensures consults { Consults (λ a c x. on_name Colon a c x) result self.old self.new }
+        ensures lasts { LastsAlone D.SectorDevice (device self.old) (device self.new) }
+        ensures tells { Tells fault_count result self.old self.new }
+        ensures budget { self.new.budget ≡ self.old.budget }
+    {
+        match self.take_new_word() {
+            Ok(count) => {
+                self.begin(count);
+                Ok(())
+            }
+            Err(fault) => Err(fault),
+        }
+    }
+
+    /// `[']`.
+    fn compile_tick(&mut self) -> Result<(), Fault>
+        requires sound { IsSound self.old.lexicon }
+        ensures consults { Consults (λ a c x. on_name CompileTick a c x) result self.old self.new }
+        ensures lasts { LastsAlone D.SectorDevice (device self.old) (device self.new) }
+        ensures tells { Tells fault_count result self.old self.new }
+        ensures budget { self.new.budget ≡ self.old.budget }
+    {
+        if !self.lexicon.is_open() {
+            return Err(Fault::NoDefinition);
+        }
+        match self.take_token() {
+            Ok(token) => self.add_literal(token),
+            Err(fault) => Err(fault),
+        }
+    }
+
+    /// `[COMPILE]`.
+    fn bracket_compile(&mut self) -> Result<(), Fault>
+        requires sound { IsSound self.old.lexicon }
+        ensures consults { Consults (λ a c x. on_name BracketCompile a c x) result self.old self.new }
+        ensures lasts { LastsAlone D.SectorDevice (device self.old) (device self.new) }
+        ensures tells { Tells fault_count result self.old self.new }
+        ensures budget { self.new.budget ≡ self.old.budget }
+    {
+        if !self.lexicon.is_open() {
+            return Err(Fault::NoDefinition);
+        }
+        match self.take_token() {
+            Ok(token) => self.add_word(token),
             Err(fault) => Err(fault),
         }
     }

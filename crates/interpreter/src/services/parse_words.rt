@@ -1,4 +1,4 @@
-//! Words that take a word or a text from the stream.
+//! Words that take a text from the stream.
 ghost use Rattle.std.specs.Prelude.{◌≡◌, ◌≤◌, length, take};
 ghost use Rattle.data_space.specs.Space.{with_bytes};
 ghost use Rattle.interpreter.specs.State.{pushing};
@@ -7,23 +7,44 @@ ghost use Rattle.interpreter.specs.Text.{counted};
 use crate::fault::{Fault, Stop};
 use crate::forth::Forth;
 use crate::terminal::Terminal;
+use lexicon::TextKind;
 use sector_disk::SectorDevice;
+use system_words::words::TextWord;
 
 /// How many bytes of a word are kept at most, since their count is a byte.
 const LONGEST: usize = 255;
 
 impl<D: SectorDevice> Forth<D> {
-    ghost use Rattle.interpreter.specs.Words.{Comment, ParseWord, PrintText};
-    ghost use Rattle.interpreter.specs.Text.{on_parse};
+    ghost use Rattle.system_words.specs.declared.words.TextWord.TheVariants.{Comment, ParseWord};
+    ghost use Rattle.system_words.specs.declared.words.TerminalWord.TheVariants.{PrintText};
+    ghost use Rattle.interpreter.specs.Text.{on_text};
+    ghost use Rattle.interpreter.specs.Terminals.{on_terminal};
     ghost use Rattle.interpreter.specs.Standing.{device, IsSound};
     ghost use Rattle.lexicon.specs.Stands.{IsSound as IsSoundIn};
     ghost use Rattle.interpreter.specs.Serving.{Alters, Spares, Consults, LastsAlone, Serves, Lasts, Tells};
     ghost use Rattle.interpreter.specs.Stops.{fault_count, stop_count};
 
+    /// A word that takes a text from the stream.
+    pub(crate) fn on_text(&mut self, word: TextWord) -> Result<(), Fault>
+        requires standing { IsSound self.old }
+        requires sound { IsSoundIn self.old.lexicon }
+        ensures consults { Consults (λ a c x. on_text word c x) result self.old self.new }
+        ensures lasts { LastsAlone D.SectorDevice (device self.old) (device self.new) }
+        ensures tells { Tells fault_count result self.old self.new }
+        ensures budget { self.new.budget ≡ self.old.budget }
+    {
+        match word {
+            TextWord::Comment => self.comment(),
+            TextWord::ParseWord => self.word(),
+            TextWord::DotQuote => self.compile_text(TextKind::Prints),
+            TextWord::AbortQuote => self.compile_text(TextKind::AbortsWith),
+        }
+    }
+
     /// `WORD`.
-    pub(crate) fn word(&mut self) -> Result<(), Fault>
+    fn word(&mut self) -> Result<(), Fault>
         requires sound { IsSound self.old }
-        ensures consults { Consults (λ a c x. on_parse ParseWord c x) result self.old self.new }
+        ensures consults { Consults (λ a c x. on_text ParseWord c x) result self.old self.new }
         ensures lasts { LastsAlone D.SectorDevice (device self.old) (device self.new) }
         ensures tells { Tells fault_count result self.old self.new }
         ensures budget { self.new.budget ≡ self.old.budget }
@@ -58,8 +79,8 @@ impl<D: SectorDevice> Forth<D> {
     }
 
     /// `(`.
-    pub(crate) fn comment(&mut self) -> Result<(), Fault>
-        ensures consults { Consults (λ a c x. on_parse Comment c x) result self.old self.new }
+    fn comment(&mut self) -> Result<(), Fault>
+        ensures consults { Consults (λ a c x. on_text Comment c x) result self.old self.new }
         ensures lasts { LastsAlone D.SectorDevice (device self.old) (device self.new) }
         ensures tells { Tells fault_count result self.old self.new }
         ensures budget { self.new.budget ≡ self.old.budget }
@@ -72,7 +93,7 @@ impl<D: SectorDevice> Forth<D> {
 
     /// `.(`.
     pub(crate) fn print_text<T: Terminal>(&mut self, terminal: &mut T) -> Result<(), Stop>
-        ensures serves { Serves T.Terminal (λ a c x. on_parse PrintText c x) result self.old self.new terminal.old terminal.new }
+        ensures serves { Serves T.Terminal (λ a c x. on_terminal PrintText c x) result self.old self.new terminal.old terminal.new }
         ensures lasts { Lasts D.SectorDevice T.Terminal result (device self.old) (device self.new) terminal.old terminal.new }
         ensures tells { Tells stop_count result self.old self.new }
         ensures budget { self.new.budget ≡ self.old.budget }

@@ -11,6 +11,7 @@ use crate::system_cells::{BASE, cell_of};
 use crate::terminal::Terminal;
 use number_io::Held;
 use sector_disk::SectorDevice;
+use system_words::words::PictureWord;
 
 /// How many bytes are held at most.
 const CAPACITY: u8 = 66;
@@ -48,13 +49,33 @@ fn signed_text(cell: u16, base: u16) -> Held
 impl<D: SectorDevice> Forth<D> {
     ghost use Rattle.data_space.specs.Space.{cell_at};
     ghost use Rattle.interpreter.specs.Standing.{device};
-    ghost use Rattle.interpreter.specs.Words.{Begin, Convert, Digit, Digits, Dot, Finish, HoldByte, Sign, UnsignedDot};
+    ghost use Rattle.system_words.specs.declared.words.PictureWord.TheVariants.{Digit, FinishPicture, Digits, BeginPicture, Convert, HoldByte, Sign};
+    ghost use Rattle.system_words.specs.declared.words.TerminalWord.TheVariants.{Dot, UnsignedDot};
     ghost use Rattle.cell_machine.specs.Value.{Did};
     ghost use Rattle.interpreter.specs.Pictures.{convert_from};
     ghost use Rattle.lexicon.specs.Stands.{IsSound};
     ghost use Rattle.interpreter.specs.Pictures.{hold, hold_all, push_double, on_picture};
+    ghost use Rattle.interpreter.specs.Terminals.{on_terminal};
     ghost use Rattle.interpreter.specs.Serving.{Alters, Spares, Serves, Lasts, Tells};
     ghost use Rattle.interpreter.specs.Stops.{fault_count, stop_count};
+
+    /// A word on the picture of a number.
+    pub(crate) fn on_picture(&mut self, word: PictureWord) -> Result<(), Fault>
+        requires sound { IsSound self.old.lexicon }
+        ensures alters { Alters (λ a c x. on_picture word c x) result self.old self.new }
+        ensures spares { Spares self.old self.new }
+        ensures tells { Tells fault_count result self.old self.new }
+    {
+        match word {
+            PictureWord::Digit => self.digit(),
+            PictureWord::FinishPicture => self.end_picture(),
+            PictureWord::Digits => self.digits(),
+            PictureWord::BeginPicture => self.begin_picture(),
+            PictureWord::Convert => self.convert(),
+            PictureWord::HoldByte => self.hold_byte(),
+            PictureWord::Sign => self.sign(),
+        }
+    }
 
     /// Holds a byte in front of the others, or HOLD.
     pub(crate) fn hold(&mut self, byte: u8) -> Result<(), Fault>
@@ -75,7 +96,7 @@ impl<D: SectorDevice> Forth<D> {
     }
 
     /// `HOLD`.
-    pub(crate) fn hold_byte(&mut self) -> Result<(), Fault>
+    fn hold_byte(&mut self) -> Result<(), Fault>
         ensures alters { Alters (λ a c x. on_picture HoldByte c x) result self.old self.new }
         ensures spares { Spares self.old self.new }
         ensures tells { Tells fault_count result self.old self.new }
@@ -87,7 +108,7 @@ impl<D: SectorDevice> Forth<D> {
     }
 
     /// `SIGN`.
-    pub(crate) fn sign(&mut self) -> Result<(), Fault>
+    fn sign(&mut self) -> Result<(), Fault>
         ensures alters { Alters (λ a c x. on_picture Sign c x) result self.old self.new }
         ensures spares { Spares self.old self.new }
         ensures tells { Tells fault_count result self.old self.new }
@@ -117,7 +138,7 @@ impl<D: SectorDevice> Forth<D> {
 
     /// `U.`.
     pub(crate) fn unsigned_dot<T: Terminal>(&mut self, terminal: &mut T) -> Result<(), Stop>
-        ensures serves { Serves T.Terminal (λ a c x. on_picture UnsignedDot c x)
+        ensures serves { Serves T.Terminal (λ a c x. on_terminal UnsignedDot c x)
             result self.old self.new terminal.old terminal.new }
         ensures lasts { Lasts D.SectorDevice T.Terminal result (device self.old) (device self.new) terminal.old terminal.new }
         ensures tells { Tells stop_count result self.old self.new }
@@ -133,7 +154,7 @@ impl<D: SectorDevice> Forth<D> {
     }
 
     /// `#`.
-    pub(crate) fn digit(&mut self) -> Result<(), Fault>
+    fn digit(&mut self) -> Result<(), Fault>
         ensures alters { Alters (λ a c x. on_picture Digit c x) result self.old self.new }
         ensures spares { Spares self.old self.new }
         ensures tells { Tells fault_count result self.old self.new }
@@ -173,9 +194,9 @@ impl<D: SectorDevice> Forth<D> {
     }
 
     /// `<#`.
-    pub(crate) fn begin_picture(&mut self) -> Result<(), Fault>
+    fn begin_picture(&mut self) -> Result<(), Fault>
         requires sound { IsSound self.old.lexicon }
-        ensures alters { Alters (λ a c x. on_picture Begin c x) result self.old self.new }
+        ensures alters { Alters (λ a c x. on_picture BeginPicture c x) result self.old self.new }
         ensures spares { Spares self.old self.new }
         ensures tells { Tells fault_count result self.old self.new }
     {
@@ -187,8 +208,8 @@ impl<D: SectorDevice> Forth<D> {
     }
 
     /// `#>`.
-    pub(crate) fn end_picture(&mut self) -> Result<(), Fault>
-        ensures alters { Alters (λ a c x. on_picture Finish c x) result self.old self.new }
+    fn end_picture(&mut self) -> Result<(), Fault>
+        ensures alters { Alters (λ a c x. on_picture FinishPicture c x) result self.old self.new }
         ensures spares { Spares self.old self.new }
         ensures tells { Tells fault_count result self.old self.new }
     {
@@ -205,7 +226,7 @@ impl<D: SectorDevice> Forth<D> {
     }
 
     /// `#S`.
-    pub(crate) fn digits(&mut self) -> Result<(), Fault>
+    fn digits(&mut self) -> Result<(), Fault>
         ensures alters { Alters (λ a c x. on_picture Digits c x) result self.old self.new }
         ensures spares { Spares self.old self.new }
         ensures tells { Tells fault_count result self.old self.new }
@@ -262,7 +283,7 @@ impl<D: SectorDevice> Forth<D> {
     }
 
     /// `CONVERT`.
-    pub(crate) fn convert(&mut self) -> Result<(), Fault>
+    fn convert(&mut self) -> Result<(), Fault>
         ensures alters { Alters (λ a c x. on_picture Convert c x) result self.old self.new }
         ensures spares { Spares self.old self.new }
         ensures tells { Tells fault_count result self.old self.new }
@@ -299,7 +320,7 @@ impl<D: SectorDevice> Forth<D> {
 
     /// `.`.
     pub(crate) fn dot<T: Terminal>(&mut self, terminal: &mut T) -> Result<(), Stop>
-        ensures serves { Serves T.Terminal (λ a c x. on_picture Dot c x) result self.old self.new terminal.old terminal.new }
+        ensures serves { Serves T.Terminal (λ a c x. on_terminal Dot c x) result self.old self.new terminal.old terminal.new }
         ensures lasts { Lasts D.SectorDevice T.Terminal result (device self.old) (device self.new) terminal.old terminal.new }
         ensures tells { Tells stop_count result self.old self.new }
         ensures budget { self.new.budget ≡ self.old.budget }

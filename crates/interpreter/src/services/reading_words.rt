@@ -17,7 +17,7 @@ pub(crate) struct Room {
 
 impl<D: SectorDevice> Forth<D> {
     ghost use Rattle.interpreter.specs.Terminals.{expect_of, on_terminal};
-    ghost use Rattle.interpreter.specs.Words.{Expect, Key};
+    ghost use Rattle.system_words.specs.declared.words.TerminalWord.TheVariants.{Expect, Key};
     ghost use Rattle.interpreter.specs.Standing.{device};
     ghost use Rattle.interpreter.specs.Serving.{Serves, Lasts, Tells};
     ghost use Rattle.interpreter.specs.Stops.{stop_count};

@@ -1,16 +1,27 @@
-//! The services that the machine asks for, by their kinds.
+//! The services that the machine asks for. Which one a word is, its row says.
 ghost use Rattle.std.specs.Prelude.{◌≡◌};
 ghost use Rattle.interpreter.specs.Serving.{stopped};
 ghost use Rattle.interpreter.specs.Rounds.{round_of};
+ghost use Rattle.interpreter.specs.Text.{service_of};
+ghost use Rattle.system_words.specs.Rows.{meaning_of};
 
-use super::table::{DeviceWord, QuietWord, Service, TerminalWord, service_of};
 use crate::fault::{Fault, Stop};
 use crate::forth::Forth;
 use crate::interpreting::Round;
 use crate::terminal::Terminal;
 use cell_machine::event::Op;
-use lexicon::TextKind;
 use sector_disk::SectorDevice;
+use system_words::words::{Meaning, Service};
+
+/// What the machine asks for at the word of this token, if that is what its row says.
+fn service_of(token: u16) -> Option<Service>
+    ensures { result ≡ service_of (meaning_of token) }
+{
+    match system_words::meaning_of(token) {
+        Some(Meaning::Asks(service)) => Some(service),
+        _ => None,
+    }
+}
 
 /// The line goes on where the service is done.
 fn goes_on(done: Result<(), Stop>) -> Result<Round, Stop>
@@ -48,112 +59,19 @@ impl<D: SectorDevice> Forth<D> {
     ghost use Rattle.interpreter.specs.Law.{left};
     ghost use Rattle.interpreter.specs.Lexicon.{language_of, IsDue};
     ghost use Rattle.interpreter.specs.Falls.{WhereFree};
-    ghost use Rattle.interpreter.specs.Services.{quiet_word, device_word, terminal_word, service_in};
     ghost use Rattle.interpreter.specs.Standing.{core, device, Stands, IsSound};
-    ghost use Rattle.interpreter.specs.Serving.{Alters, Altered, Spares, Consults, LastsAlone, Serves, Lasts, Tells};
+    ghost use Rattle.interpreter.specs.Serving.{Altered, Spares, Serves, Lasts, Tells};
     ghost use Rattle.interpreter.specs.Stops.{fault_count, stop_count};
     ghost use Rattle.interpreter.specs.Rounds.{RanRound, LastsRound, weight};
 
-    /// A word that reaches neither device nor terminal.
-    fn quiet(&mut self, word: QuietWord) -> Result<(), Fault>
-        requires sound { IsSoundLexicon self.old.lexicon }
-        ensures alters { (f : ℕ) (inner : Serve World)
-            → Alters (λ a c x. on_service f inner (quiet_word word) a c x) result self.old self.new }
-        ensures spares { Spares self.old self.new }
-        ensures tells { Tells fault_count result self.old self.new }
-    {
-        match word {
-            QuietWord::BeginPicture => self.begin_picture(),
-            QuietWord::FinishPicture => self.end_picture(),
-            QuietWord::Digit => self.digit(),
-            QuietWord::Digits => self.digits(),
-            QuietWord::HoldByte => self.hold_byte(),
-            QuietWord::Sign => self.sign(),
-            QuietWord::Convert => self.convert(),
-            QuietWord::Here => self.here(),
-            QuietWord::Pad => self.pad(),
-            QuietWord::Comma => self.comma(),
-            QuietWord::Allot => self.allot(),
-            QuietWord::Find => self.find(),
-            QuietWord::ToBody => self.to_body(),
-            QuietWord::Forth => {
-                self.forth();
-                Ok(())
-            }
-            QuietWord::Definitions => {
-                self.definitions();
-                Ok(())
-            }
-            QuietWord::Immediate => self.immediate(),
-            QuietWord::Semicolon => self.semicolon(),
-            QuietWord::Literal => self.literal(),
-            QuietWord::Structure(structure) => self.structure(structure),
-        }
-    }
-
-    /// A word that may reach the device.
-    fn on_device(&mut self, word: DeviceWord) -> Result<(), Fault>
-        requires standing { IsSound self.old }
-        requires sound { IsSoundLexicon self.old.lexicon }
-        ensures consults { (f : ℕ) (inner : Serve World)
-            → Consults (λ a c x. on_service f inner (device_word word) a c x) result self.old self.new }
-        ensures lasts { LastsAlone D.SectorDevice (device self.old) (device self.new) }
-        ensures tells { Tells fault_count result self.old self.new }
-        ensures budget { self.new.budget ≡ self.old.budget }
-    {
-        match word {
-            DeviceWord::ParseWord => self.word(),
-            DeviceWord::Comment => self.comment(),
-            DeviceWord::DotQuote => self.compile_text(TextKind::Prints),
-            DeviceWord::AbortQuote => self.compile_text(TextKind::AbortsWith),
-            DeviceWord::Tick => self.tick(),
-            DeviceWord::Create => self.create(),
-            DeviceWord::Variable => self.variable(),
-            DeviceWord::Constant => self.constant(),
-            DeviceWord::Vocabulary => self.vocabulary(),
-            DeviceWord::Forget => self.forget(),
-            DeviceWord::Colon => self.colon(),
-            DeviceWord::CompileTick => self.compile_tick(),
-            DeviceWord::BracketCompile => self.bracket_compile(),
-            DeviceWord::Block => self.block(),
-            DeviceWord::Buffer => self.buffer(),
-            DeviceWord::Update => self.update(),
-            DeviceWord::SaveBuffers => self.save_buffers(),
-            DeviceWord::Flush => self.flush(),
-        }
-    }
-
-    /// A word that may reach the terminal.
-    fn on_terminal<T: Terminal>(&mut self, word: TerminalWord, terminal: &mut T) -> Result<(), Stop>
-        ensures serves { (f : ℕ) (inner : Serve World)
-            → Serves T.Terminal (λ a c x. on_service f inner (terminal_word word) a c x)
-            result self.old self.new terminal.old terminal.new }
-        ensures lasts { Lasts D.SectorDevice T.Terminal result (device self.old) (device self.new) terminal.old terminal.new }
-        ensures tells { Tells stop_count result self.old self.new }
-        ensures budget { self.new.budget ≡ self.old.budget }
-    {
-        match word {
-            TerminalWord::Emit => self.emit(terminal),
-            TerminalWord::NewLine => self.new_line(terminal),
-            TerminalWord::Blank => self.blank(terminal),
-            TerminalWord::Blanks => self.blanks(terminal),
-            TerminalWord::TypeText => self.type_text(terminal),
-            TerminalWord::Key => self.key(terminal),
-            TerminalWord::Expect => self.expect(terminal),
-            TerminalWord::Dot => self.dot(terminal),
-            TerminalWord::UnsignedDot => self.unsigned_dot(terminal),
-            TerminalWord::PrintText => self.print_text(terminal),
-        }
-    }
-
-    /// A service of the table.
+    /// A service, by the family of its word.
     fn do_service<T: Terminal>(&mut self, service: Service, terminal: &mut T) -> Result<Round, Stop>
         requires standing { IsSound self.old }
         requires sound { IsSoundLexicon self.old.lexicon }
         requires idle { self.old.machine.pending ≡ None }
         ensures round { (m : ℕ) (levels : List Level) (x : World) → self.old.steps ≤ m → Stands self.old levels x
             → RanRound T.Terminal (suc m) (λ r. and_then
-            (on_service (suc m) (λ a due c x. serve m a due c x) (service_in service)
+            (on_service (suc m) (λ a due c x. serve m a due c x) service
             (around_of levels) (core self.old) (with_run r x))
             (λ c x. left (suc m) levels c x)) result self.old self.new terminal.old terminal.new x }
         ensures lasts { LastsRound D.SectorDevice T.Terminal result (device self.old) (device self.new)
@@ -162,15 +80,19 @@ impl<D: SectorDevice> Forth<D> {
         ensures budget { self.new.budget ≡ self.old.budget }
     {
         match service {
-            Service::Quiet(word) => goes_on_quietly(self.quiet(word)),
-            Service::OnDevice(word) => goes_on_quietly(self.on_device(word)),
             Service::OnTerminal(word) => goes_on(self.on_terminal(word, terminal)),
+            Service::OnPicture(word) => goes_on_quietly(self.on_picture(word)),
+            Service::OnText(word) => goes_on_quietly(self.on_text(word)),
+            Service::OnName(word) => goes_on_quietly(self.on_name(word)),
+            Service::OnLexicon(word) => goes_on_quietly(self.on_lexicon(word)),
+            Service::OnDefinition(word) => goes_on_quietly(self.on_definition(word)),
+            Service::OnBlocks(word) => goes_on_quietly(self.on_blocks(word)),
             Service::Execute => goes_on_quietly(self.execute()),
             Service::Load => goes_on_quietly(self.load()),
         }
     }
 
-    /// A word that is no service of the table, and that the machine can't call: a vocabulary becomes the first of the search.
+    /// A word that is no service, and that the machine can't call: a vocabulary becomes the first of the search.
     fn users_word(&mut self, token: u16) -> Result<(), Fault>
         requires sound { IsSoundLexicon self.old.lexicon }
         ensures alters { (f : ℕ) (inner : Serve World) (levels : List Level) (x : World) → Stands self.old levels x

@@ -5,6 +5,7 @@ use crate::fault::{Fault, Stop};
 use crate::forth::Forth;
 use crate::terminal::{IoFault, Terminal};
 use sector_disk::SectorDevice;
+use system_words::words::TerminalWord;
 
 /// As many blanks as a cell may ask for.
 static BLANKS: [u8; 32767] = [b' '; 32767];
@@ -18,11 +19,36 @@ fn count_of(cell: u16) -> u16
 
 impl<D: SectorDevice> Forth<D> {
     ghost use Rattle.std.specs.Prelude.{◌∷◌, []};
-    ghost use Rattle.interpreter.specs.Words.{Emit, NewLine, Blank, Blanks, TypeText};
+    ghost use Rattle.system_words.specs.declared.words.TerminalWord.TheVariants.{Emit, NewLine, Blank, Blanks, TypeText};
     ghost use Rattle.interpreter.specs.Terminals.{print, on_terminal};
     ghost use Rattle.interpreter.specs.Standing.{device};
     ghost use Rattle.interpreter.specs.Serving.{Serves, Lasts, Tells};
     ghost use Rattle.interpreter.specs.Stops.{stop_count};
+
+    /// A word that prints, or reads the input after the line.
+    pub(crate) fn on_terminal<T: Terminal>(
+        &mut self,
+        word: TerminalWord,
+        terminal: &mut T,
+    ) -> Result<(), Stop>
+        ensures serves { Serves T.Terminal (λ a c x. on_terminal word c x) result self.old self.new terminal.old terminal.new }
+        ensures lasts { Lasts D.SectorDevice T.Terminal result (device self.old) (device self.new) terminal.old terminal.new }
+        ensures tells { Tells stop_count result self.old self.new }
+        ensures budget { self.new.budget ≡ self.old.budget }
+    {
+        match word {
+            TerminalWord::NewLine => self.new_line(terminal),
+            TerminalWord::Emit => self.emit(terminal),
+            TerminalWord::Expect => self.expect(terminal),
+            TerminalWord::Key => self.key(terminal),
+            TerminalWord::Blank => self.blank(terminal),
+            TerminalWord::Blanks => self.blanks(terminal),
+            TerminalWord::TypeText => self.type_text(terminal),
+            TerminalWord::Dot => self.dot(terminal),
+            TerminalWord::PrintText => self.print_text(terminal),
+            TerminalWord::UnsignedDot => self.unsigned_dot(terminal),
+        }
+    }
 
     /// Prints these bytes, in one call of the terminal.
     pub(crate) fn print<T: Terminal>(&self, bytes: &[u8], terminal: &mut T) -> Result<(), Stop>
@@ -37,7 +63,7 @@ impl<D: SectorDevice> Forth<D> {
     }
 
     /// `EMIT`.
-    pub(crate) fn emit<T: Terminal>(&mut self, terminal: &mut T) -> Result<(), Stop>
+    fn emit<T: Terminal>(&mut self, terminal: &mut T) -> Result<(), Stop>
         ensures serves { Serves T.Terminal (λ a c x. on_terminal Emit c x) result self.old self.new terminal.old terminal.new }
         ensures lasts { Lasts D.SectorDevice T.Terminal result (device self.old) (device self.new) terminal.old terminal.new }
         ensures tells { Tells stop_count result self.old self.new }
@@ -50,7 +76,7 @@ impl<D: SectorDevice> Forth<D> {
     }
 
     /// `CR`.
-    pub(crate) fn new_line<T: Terminal>(&mut self, terminal: &mut T) -> Result<(), Stop>
+    fn new_line<T: Terminal>(&mut self, terminal: &mut T) -> Result<(), Stop>
         ensures serves { Serves T.Terminal (λ a c x. on_terminal NewLine c x) result self.old self.new terminal.old terminal.new }
         ensures lasts { Lasts D.SectorDevice T.Terminal result (device self.old) (device self.new) terminal.old terminal.new }
         ensures tells { Tells stop_count result self.old self.new }
@@ -60,7 +86,7 @@ impl<D: SectorDevice> Forth<D> {
     }
 
     /// `SPACE`.
-    pub(crate) fn blank<T: Terminal>(&mut self, terminal: &mut T) -> Result<(), Stop>
+    fn blank<T: Terminal>(&mut self, terminal: &mut T) -> Result<(), Stop>
         ensures serves { Serves T.Terminal (λ a c x. on_terminal Blank c x) result self.old self.new terminal.old terminal.new }
         ensures lasts { Lasts D.SectorDevice T.Terminal result (device self.old) (device self.new) terminal.old terminal.new }
         ensures tells { Tells stop_count result self.old self.new }
@@ -70,7 +96,7 @@ impl<D: SectorDevice> Forth<D> {
     }
 
     /// `SPACES`.
-    pub(crate) fn blanks<T: Terminal>(&mut self, terminal: &mut T) -> Result<(), Stop>
+    fn blanks<T: Terminal>(&mut self, terminal: &mut T) -> Result<(), Stop>
         ensures serves { Serves T.Terminal (λ a c x. on_terminal Blanks c x) result self.old self.new terminal.old terminal.new }
         ensures lasts { Lasts D.SectorDevice T.Terminal result (device self.old) (device self.new) terminal.old terminal.new }
         ensures tells { Tells stop_count result self.old self.new }
@@ -90,7 +116,7 @@ impl<D: SectorDevice> Forth<D> {
     }
 
     /// `TYPE`.
-    pub(crate) fn type_text<T: Terminal>(&mut self, terminal: &mut T) -> Result<(), Stop>
+    fn type_text<T: Terminal>(&mut self, terminal: &mut T) -> Result<(), Stop>
         ensures serves { Serves T.Terminal (λ a c x. on_terminal TypeText c x)
             result self.old self.new terminal.old terminal.new }
         ensures lasts { Lasts D.SectorDevice T.Terminal result (device self.old) (device self.new) terminal.old terminal.new }

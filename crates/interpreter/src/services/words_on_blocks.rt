@@ -7,6 +7,7 @@ use crate::fault::Fault;
 use crate::forth::Forth;
 use block_words::BlockFault;
 use sector_disk::SectorDevice;
+use system_words::words::BlockWord;
 
 /// The fault of a word that the blocks refused.
 pub(crate) fn block_fault(fault: BlockFault) -> Fault
@@ -23,13 +24,29 @@ pub(crate) fn block_fault(fault: BlockFault) -> Fault
 }
 
 impl<D: SectorDevice> Forth<D> {
-    ghost use Rattle.interpreter.specs.Words.{Block, Buffer, Update, SaveBuffers, Flush};
+    ghost use Rattle.system_words.specs.declared.words.BlockWord.TheVariants.{Block, Buffer, Flush, SaveBuffers, Update};
     ghost use Rattle.interpreter.specs.Blocking.{on_blocks};
     ghost use Rattle.interpreter.specs.Standing.{device};
     ghost use Rattle.interpreter.specs.Serving.{Consults, LastsAlone, Tells};
 
+    /// A word on blocks.
+    pub(crate) fn on_blocks(&mut self, word: BlockWord) -> Result<(), Fault>
+        ensures consults { Consults (λ a c x. on_blocks word c x) result self.old self.new }
+        ensures lasts { LastsAlone D.SectorDevice (device self.old) (device self.new) }
+        ensures tells { Tells fault_count result self.old self.new }
+        ensures budget { self.new.budget ≡ self.old.budget }
+    {
+        match word {
+            BlockWord::Block => self.block(),
+            BlockWord::Buffer => self.buffer(),
+            BlockWord::Flush => self.flush(),
+            BlockWord::SaveBuffers => self.save_buffers(),
+            BlockWord::Update => self.update(),
+        }
+    }
+
     /// `BLOCK`.
-    pub(crate) fn block(&mut self) -> Result<(), Fault>
+    fn block(&mut self) -> Result<(), Fault>
         ensures consults { Consults (λ a c x. on_blocks Block c x) result self.old self.new }
         ensures lasts { LastsAlone D.SectorDevice (device self.old) (device self.new) }
         ensures tells { Tells fault_count result self.old self.new }
@@ -48,7 +65,7 @@ impl<D: SectorDevice> Forth<D> {
     }
 
     /// `BUFFER`.
-    pub(crate) fn buffer(&mut self) -> Result<(), Fault>
+    fn buffer(&mut self) -> Result<(), Fault>
         ensures consults { Consults (λ a c x. on_blocks Buffer c x) result self.old self.new }
         ensures lasts { LastsAlone D.SectorDevice (device self.old) (device self.new) }
         ensures tells { Tells fault_count result self.old self.new }
@@ -67,7 +84,7 @@ impl<D: SectorDevice> Forth<D> {
     }
 
     /// `UPDATE`.
-    pub(crate) fn update(&mut self) -> Result<(), Fault>
+    fn update(&mut self) -> Result<(), Fault>
         ensures consults { Consults (λ a c x. on_blocks Update c x) result self.old self.new }
         ensures lasts { LastsAlone D.SectorDevice (device self.old) (device self.new) }
         ensures tells { Tells fault_count result self.old self.new }
@@ -80,7 +97,7 @@ impl<D: SectorDevice> Forth<D> {
     }
 
     /// `SAVE-BUFFERS`.
-    pub(crate) fn save_buffers(&mut self) -> Result<(), Fault>
+    fn save_buffers(&mut self) -> Result<(), Fault>
         ensures consults { Consults (λ a c x. on_blocks SaveBuffers c x) result self.old self.new }
         ensures lasts { LastsAlone D.SectorDevice (device self.old) (device self.new) }
         ensures tells { Tells fault_count result self.old self.new }
@@ -93,7 +110,7 @@ impl<D: SectorDevice> Forth<D> {
     }
 
     /// `FLUSH`.
-    pub(crate) fn flush(&mut self) -> Result<(), Fault>
+    fn flush(&mut self) -> Result<(), Fault>
         ensures consults { Consults (λ a c x. on_blocks Flush c x) result self.old self.new }
         ensures lasts { LastsAlone D.SectorDevice (device self.old) (device self.new) }
         ensures tells { Tells fault_count result self.old self.new }

@@ -9,10 +9,11 @@ ghost use Rattle.lexicon.specs.Stands.{IsHere};
 use cell_machine::event::{Event, Op, Work};
 use cell_machine::machine::Machine;
 use data_space::DataSpace;
-use lexicon::{CompileRefusal, Lexicon, Refusal, Structure, TextKind};
+use lexicon::{CompileRefusal, Lexicon, Refusal, TextKind};
 use stacks::{DataStack, ReturnStack};
 use std::alloc::Global;
 use std::test::Fail;
+use system_words::words::Structure;
 
 /// What a test works on.
 #[derive(Drop)]

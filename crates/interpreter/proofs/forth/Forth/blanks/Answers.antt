@@ -2,7 +2,7 @@ use Rattle.std.proofs.Common.{◌≡◌, ◌-◌, ◌<◌, ◌≤◌, ℕ, Bool,
 use Rattle.std.specs.Prelude.{nat_lt, if◌then◌else◌, replicate, take}
 use Rattle.std.proofs.lemmas.Bool.{ltb-true}
 use Rattle.std.proofs.lemmas.List.{take-replicate}
-use Rattle.interpreter.specs.Words.{Blanks}
+use Rattle.system_words.specs.declared.words.TerminalWord.TheVariants.{Blanks}
 use Rattle.interpreter.specs.State.{with_run}
 use Rattle.interpreter.specs.Terminals.{print, on_terminal}
 use Rattle.interpreter.specs.Standing.{core}

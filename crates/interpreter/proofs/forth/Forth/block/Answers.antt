@@ -1,6 +1,6 @@
 use Rattle.std.proofs.Common.{[], ◌∷◌, Ok, Err, refl, sym, subst, arith}
 use Rattle.block_words.specs.Words.{block}
-use Rattle.interpreter.specs.Words.{Block}
+use Rattle.system_words.specs.declared.words.BlockWord.TheVariants.{Block}
 use Rattle.interpreter.specs.Blocking.{on_blocks, leaving}
 use Rattle.interpreter.specs.State.{with_run}
 use Rattle.interpreter.specs.Standing.{core}

@@ -1,6 +1,6 @@
 use Rattle.std.proofs.Common.{[], ◌∷◌, Ok, Err, refl, sym, subst, arith}
 use Rattle.block_words.specs.Words.{buffer}
-use Rattle.interpreter.specs.Words.{Buffer}
+use Rattle.system_words.specs.declared.words.BlockWord.TheVariants.{Buffer}
 use Rattle.interpreter.specs.Blocking.{on_blocks, leaving}
 use Rattle.interpreter.specs.State.{with_run}
 use Rattle.interpreter.specs.Standing.{core}

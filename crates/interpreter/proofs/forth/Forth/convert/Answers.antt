@@ -6,7 +6,7 @@ use Rattle.cell_machine.specs.Cells.{double}
 use Rattle.cell_machine.specs.Fault.{Base}
 use Rattle.cell_machine.specs.Frames.{Core}
 use Rattle.cell_machine.specs.Value.{Outcome}
-use Rattle.interpreter.specs.Words.{Convert}
+use Rattle.system_words.specs.declared.words.PictureWord.TheVariants.{Convert}
 use Rattle.interpreter.specs.State.{World, with_run, system_cell, base_cell}
 use Rattle.interpreter.specs.Pictures.{on_picture, with_base}
 use Rattle.interpreter.specs.Standing.{core}

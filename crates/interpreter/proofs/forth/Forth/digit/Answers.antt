@@ -6,7 +6,7 @@ use Rattle.cell_machine.specs.Cells.{double}
 use Rattle.cell_machine.specs.Fault.{Base}
 use Rattle.cell_machine.specs.Frames.{Core}
 use Rattle.cell_machine.specs.Value.{Outcome}
-use Rattle.interpreter.specs.Words.{Digit}
+use Rattle.system_words.specs.declared.words.PictureWord.TheVariants.{Digit}
 use Rattle.interpreter.specs.State.{World, with_run, needing}
 use Rattle.interpreter.specs.Pictures.{hold, push_double, on_picture}
 use Rattle.interpreter.specs.Standing.{core}

@@ -2,10 +2,10 @@ use Rattle.std.proofs.Common.{◌≡◌, ◌∷◌, ◌++◌, [], true, refl, ap
 use Rattle.std.specs.Prelude.{nat_le, ◌&&◌}
 use Rattle.data_space.specs.Space.{cell_at}
 use Rattle.cell_machine.specs.Fault.{Base}
-use Rattle.interpreter.specs.Words.{Dot}
+use Rattle.system_words.specs.declared.words.TerminalWord.TheVariants.{Dot}
 use Rattle.interpreter.specs.State.{with_run}
-use Rattle.interpreter.specs.Pictures.{signed_text, on_picture}
-use Rattle.interpreter.specs.Terminals.{print}
+use Rattle.interpreter.specs.Pictures.{signed_text}
+use Rattle.interpreter.specs.Terminals.{print, on_terminal}
 use Rattle.interpreter.specs.Standing.{core}
 use Rattle.interpreter.proofs.Short.{popping-none, popping-one, needing-no, needing-yes, a_base, no_base}
 use Rattle.interpreter.proofs.Popping.{ran_refused, ran_popped}
@@ -18,7 +18,7 @@ returns-in-Some-clause-serves g c = λ levels x stands.
     let some = c.in-Some.ensures.some in
     let base : c.in-Some.base ≡ cell_at old.space 16 = some.0 in
     let yes : (nat_le 2 (cell_at old.space 16) && nat_le (cell_at old.space 16) 72) ≡ true = a_base (cell_at old.space 16) (omega (arith, base, some.1)) (omega (arith, base, some.2)) in
-    ran_popped g.D.SectorDevice g.T.Terminal (λ r. on_picture Dot (core old) (with_run r x)) old mid mid refl
+    ran_popped g.D.SectorDevice g.T.Terminal (λ r. on_terminal Dot (core old) (with_run r x)) old mid mid refl
     (λ r. popping-one (core old) (with_run r x) _ _ _ c.in-Ok.ensures.ok
     ∙ needing-yes (nat_le 2 (cell_at old.space 16) && nat_le (cell_at old.space 16) 72) Base (core mid) (with_run r x) _ yes
     ∙ ap (λ b. print (signed_text b c.in-Ok.cell ++ 32 ∷ []) (core mid) (with_run r x)) (sym base)

@@ -3,7 +3,7 @@ use Rattle.std.proofs.lemmas.Bool.{le-leb, lt-leb}
 use Rattle.cell_machine.specs.Fault.{Address}
 use Rattle.cell_machine.specs.Frames.{Core}
 use Rattle.cell_machine.specs.Value.{Outcome}
-use Rattle.interpreter.specs.Words.{Expect}
+use Rattle.system_words.specs.declared.words.TerminalWord.TheVariants.{Expect}
 use Rattle.interpreter.specs.State.{World, with_run, needing, fits}
 use Rattle.interpreter.specs.Terminals.{expect_of, on_terminal}
 use Rattle.interpreter.specs.Standing.{core}

@@ -1,7 +1,7 @@
 use Rattle.std.proofs.Common.{refl, arith}
 use Rattle.interpreter.specs.State.{with_run}
 use Rattle.interpreter.specs.Pictures.{on_picture}
-use Rattle.interpreter.specs.Words.{HoldByte}
+use Rattle.system_words.specs.declared.words.PictureWord.TheVariants.{HoldByte}
 use Rattle.interpreter.specs.Standing.{core}
 use Rattle.interpreter.proofs.Altering.{refused, altered_as}
 use Rattle.interpreter.proofs.Short.{popping-none, popping-one}

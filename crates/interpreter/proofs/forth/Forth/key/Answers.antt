@@ -4,7 +4,7 @@ use Rattle.std.proofs.lemmas.Bool.{le-ltb, lt-ltb}
 use Rattle.cell_machine.specs.Fault.{StackFull}
 use Rattle.interpreter.specs.State.{with_run}
 use Rattle.interpreter.specs.Terminals.{on_terminal}
-use Rattle.interpreter.specs.Words.{Key}
+use Rattle.system_words.specs.declared.words.TerminalWord.TheVariants.{Key}
 use Rattle.interpreter.specs.Standing.{core}
 use Rattle.interpreter.specs.Deeds.{before}
 use Rattle.interpreter.specs.Reading.{reads}

@@ -3,7 +3,7 @@ use Rattle.std.specs.Prelude.{nat_lt}
 use Rattle.std.proofs.lemmas.Bool.{le-ltb}
 use Rattle.cell_machine.specs.Frames.{branch}
 use Rattle.cell_machine.specs.Value.{Did}
-use Rattle.interpreter.specs.Words.{Sign}
+use Rattle.system_words.specs.declared.words.PictureWord.TheVariants.{Sign}
 use Rattle.interpreter.specs.State.{with_run}
 use Rattle.interpreter.specs.Pictures.{hold, on_picture}
 use Rattle.interpreter.specs.Standing.{core}

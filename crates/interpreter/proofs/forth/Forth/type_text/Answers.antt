@@ -4,7 +4,7 @@ use Rattle.data_space.specs.Space.{bytes_at}
 use Rattle.cell_machine.specs.Fault.{Address}
 use Rattle.cell_machine.specs.Frames.{Core}
 use Rattle.cell_machine.specs.Value.{Outcome}
-use Rattle.interpreter.specs.Words.{TypeText}
+use Rattle.system_words.specs.declared.words.TerminalWord.TheVariants.{TypeText}
 use Rattle.interpreter.specs.State.{World, with_run, needing, fits}
 use Rattle.interpreter.specs.Terminals.{paying, print, on_terminal}
 use Rattle.interpreter.specs.Standing.{core}

@@ -3,10 +3,9 @@ use Rattle.std.specs.Prelude.{nat_le, ◌&&◌}
 use Rattle.data_space.specs.Space.{cell_at}
 use Rattle.number_io.specs.Writing.{number_text}
 use Rattle.cell_machine.specs.Fault.{Base}
-use Rattle.interpreter.specs.Words.{UnsignedDot}
+use Rattle.system_words.specs.declared.words.TerminalWord.TheVariants.{UnsignedDot}
 use Rattle.interpreter.specs.State.{with_run}
-use Rattle.interpreter.specs.Pictures.{on_picture}
-use Rattle.interpreter.specs.Terminals.{print}
+use Rattle.interpreter.specs.Terminals.{print, on_terminal}
 use Rattle.interpreter.specs.Standing.{core}
 use Rattle.interpreter.proofs.Short.{popping-none, popping-one, needing-no, needing-yes, a_base, no_base}
 use Rattle.interpreter.proofs.Popping.{ran_refused, ran_popped}
@@ -19,7 +18,7 @@ returns-in-Some-clause-serves g c = λ levels x stands.
     let some = c.in-Some.ensures.some in
     let base : c.in-Some.base ≡ cell_at old.space 16 = some.0 in
     let yes : (nat_le 2 (cell_at old.space 16) && nat_le (cell_at old.space 16) 72) ≡ true = a_base (cell_at old.space 16) (omega (arith, base, some.1)) (omega (arith, base, some.2)) in
-    ran_popped g.D.SectorDevice g.T.Terminal (λ r. on_picture UnsignedDot (core old) (with_run r x)) old mid mid refl
+    ran_popped g.D.SectorDevice g.T.Terminal (λ r. on_terminal UnsignedDot (core old) (with_run r x)) old mid mid refl
     (λ r. popping-one (core old) (with_run r x) _ _ _ c.in-Ok.ensures.ok
     ∙ needing-yes (nat_le 2 (cell_at old.space 16) && nat_le (cell_at old.space 16) 72) Base (core mid) (with_run r x) _ yes
     ∙ ap (λ b. print (number_text b c.in-Ok.cell ++ 32 ∷ []) (core mid) (with_run r x)) (sym base)

@@ -2,9 +2,9 @@ use Rattle.std.proofs.Common.{refl, ℕ, List, arith}
 use Rattle.data_space.specs.Space.{with_bytes}
 use Rattle.cell_machine.specs.Frames.{Core}
 use Rattle.cell_machine.specs.Value.{Outcome}
-use Rattle.interpreter.specs.Words.{ParseWord}
+use Rattle.system_words.specs.declared.words.TextWord.TheVariants.{ParseWord}
 use Rattle.interpreter.specs.State.{World, with_run, pushing}
-use Rattle.interpreter.specs.Text.{counted, on_parse}
+use Rattle.interpreter.specs.Text.{counted, on_text}
 use Rattle.interpreter.specs.Lexicon.{language_of}
 use Rattle.interpreter.specs.Standing.{core}
 use Rattle.interpreter.proofs.Altering.{refused}
@@ -27,14 +27,14 @@ pub returns-in-Ok-take_word-clause-consults : goal.returns-in-Ok-take_word-claus
 returns-in-Ok-take_word-clause-consults g c = λ levels x stands.
     let old = c.args.self.now in
     let h = c.in-Ok-take_word.ensures.hands levels x stands in
-    consulted_as (λ r. on_parse ParseWord (core old) (with_run r x)) old
+    consulted_as (λ r. on_text ParseWord (core old) (with_run r x)) old
     (λ r. popping-one (core old) (with_run r x) _ _ _ c.in-Ok.ensures.ok) (omega arith) refl
     (handed_altered built h c.build_word.ensures.spares.device (c.build_word.ensures.alters levels h.world h.stands))
 
 pub returns-in-Err-take_word-clause-consults : goal.returns-in-Err-take_word-clause-consults
 returns-in-Err-take_word-clause-consults g c = λ levels x stands.
     let old = c.args.self.now in
-    consulted_as (λ r. on_parse ParseWord (core old) (with_run r x)) old
+    consulted_as (λ r. on_text ParseWord (core old) (with_run r x)) old
     (λ r. popping-one (core old) (with_run r x) _ _ _ c.in-Ok.ensures.ok) (omega arith) refl
     (handed_failed built (c.in-Err-take_word.ensures.hands levels x stands))
 
