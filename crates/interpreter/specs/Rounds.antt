@@ -6,7 +6,7 @@ use Rattle.cell_machine.specs.Value.{Outcome, Did, Ends}
 use Rattle.interpreter.specs.declared.terminal.Terminal.{Ghosts as TerminalGhosts}
 use Rattle.cell_machine.specs.Fault.{Faults}
 use Rattle.interpreter.specs.declared.fault.Fault.{Fault}
-use Rattle.interpreter.specs.Stops.{fault_of}
+use Rattle.interpreter.specs.Stops.{fault_of, stop_count}
 use Rattle.interpreter.specs.declared.fault.Stop.{Stop}
 use Rattle.interpreter.specs.declared.interpreting.Round.{Round}
 use Rattle.interpreter.specs.declared.interpreting.Round.TheVariants.{GoesOn, Over}
@@ -17,7 +17,7 @@ use Rattle.interpreter.specs.Law.{left}
 use Rattle.interpreter.specs.Promise.{HasRisenBy}
 use Rattle.interpreter.specs.State.{World, Run, with_run}
 use Rattle.interpreter.specs.Standing.{core, device, HasModel, Rests, Stands, StandsAfter}
-use Rattle.interpreter.specs.Serving.{Comes, Heard, KeepsAndWears, Lasts}
+use Rattle.interpreter.specs.Serving.{Comes, Heard, KeepsAndWears, Lasts, Tells}
 
 -- what terminal and device see of a round
 abbrev pub seen : Result Round Stop → Result (Unit {0}) Stop
@@ -65,6 +65,13 @@ module _ {D T : Type 0} {G : Ghosts D} (H : TerminalGhosts T) (n : ℕ) where
     pub heard : Heard H (seen result) deed terminal terminal'
     pub cause : HasRisenBy deed.failures (G.failures (device old)) (G.failures (device new))
     pub keeps : HasModel old → KeepsAndWears G x.maps world.maps (device old) (device new) deed.saves deed.wear
+
+module _ {D T : Type 0} {G : Ghosts D} (H : TerminalGhosts T) where
+  -- what a round leaves, at any device and terminal
+  pub record ContinuesRound (result : Result Round Stop) (old new : Forth D G) (terminal terminal' : T) : Type 0 where
+    pub lasts : LastsRound G H result (device old) (device new) terminal terminal'
+    pub tells : Tells stop_count result old new
+    pub budget : new.budget ≡ old.budget
 
 -- nothing is left to do above the text of the line, or of the innermost load
 abbrev pub IsAtText : List Level → Type 0

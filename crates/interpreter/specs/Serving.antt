@@ -15,7 +15,7 @@ use Rattle.interpreter.specs.declared.fault.Fault.{Fault}
 use Rattle.interpreter.specs.declared.fault.Stop.{Stop}
 use Rattle.interpreter.specs.declared.fault.Stop.TheVariants as stop
 use Rattle.interpreter.specs.declared.forth.Forth.{Forth}
-use Rattle.interpreter.specs.Stops.{fault_of, ending_of}
+use Rattle.interpreter.specs.Stops.{fault_of, ending_of, fault_count, stop_count}
 use Rattle.interpreter.specs.Deeds.{Deed, before, after, Fits, mended, asking}
 use Rattle.interpreter.specs.Law.{run_after, Grows}
 use Rattle.interpreter.specs.Promise.{HasRisenBy, KeepsMaps}
@@ -185,9 +185,20 @@ module _ {D : Type 0} {G : Ghosts D} where
   abbrev pub Tells : {A E : Type 0} → (E → ℕ → ℕ) → Result A E → (old new : Forth D G) → Type 0
   Tells of result old new = G.failures (device new) ≡ count_after of result (G.failures (device old))
 
-  -- it leaves these alone at any device
-  pub record Spares (old new : Forth D G) : Type 0 where
+  -- what a part of a line leaves, at any device, that reaches neither terminal nor device
+  pub record Spares {A : Type 0} (result : Result A Fault) (old new : Forth D G) : Type 0 where
     pub device : new.blocks ≡ old.blocks
+    pub budget : new.budget ≡ old.budget
+    pub tells : Tells fault_count result old new
+
+  -- the same of one that can't fail
+  abbrev pub SparesAll : (old new : Forth D G) → Type 0
+  SparesAll old new = Spares (Ok (tt {0})) old new
+
+  -- the same of one that reaches no terminal
+  pub record ContinuesAlone {A : Type 0} (result : Result A Fault) (old new : Forth D G) : Type 0 where
+    pub lasts : LastsAlone G (device old) (device new)
+    pub tells : Tells fault_count result old new
     pub budget : new.budget ≡ old.budget
 
 module _ {D T : Type 0} {G : Ghosts D} (H : TerminalGhosts T) where
@@ -207,3 +218,9 @@ module _ {D T : Type 0} {G : Ghosts D} (H : TerminalGhosts T) where
   Serves does result old new terminal terminal' =
       (levels : List Level) (x : World) → Stands old levels x
       → Ran (λ r. does (around_of levels) (core old) (with_run r x)) result old new terminal terminal' levels x
+
+  -- what a part of a line leaves, at any device and terminal
+  pub record Continues (result : Result (Unit {0}) Stop) (old new : Forth D G) (terminal terminal' : T) : Type 0 where
+    pub lasts : Lasts G H result (device old) (device new) terminal terminal'
+    pub tells : Tells stop_count result old new
+    pub budget : new.budget ≡ old.budget

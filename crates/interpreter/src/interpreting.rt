@@ -39,10 +39,9 @@ impl<D: SectorDevice> Forth<D> {
     ghost use Rattle.cell_machine.specs.Frames.{Level};
     ghost use Rattle.interpreter.specs.Law.{left};
     ghost use Rattle.interpreter.specs.State.{World, with_run};
-    ghost use Rattle.interpreter.specs.Standing.{core, device, Stands, IsSound};
-    ghost use Rattle.interpreter.specs.Serving.{Ran, Lasts, Tells};
-    ghost use Rattle.interpreter.specs.Stops.{stop_count};
-    ghost use Rattle.interpreter.specs.Rounds.{RanRound, LastsRound, weight, GoesDown, IsAtText};
+    ghost use Rattle.interpreter.specs.Standing.{core, Stands, IsSound};
+    ghost use Rattle.interpreter.specs.Serving.{Ran, Continues};
+    ghost use Rattle.interpreter.specs.Rounds.{RanRound, ContinuesRound, weight, GoesDown, IsAtText};
 
     /// What is left to do in the machine, up to what it asks for; and that, or a word of the text.
     pub(crate) fn round<T: Terminal>(&mut self, terminal: &mut T) -> Result<Round, Stop>
@@ -51,10 +50,7 @@ impl<D: SectorDevice> Forth<D> {
             → RanRound T.Terminal n (λ r. left n levels (core self.old) (with_run r x))
             result self.old self.new terminal.old terminal.new x }
         ensures down { GoesDown result (weight self.old) (weight self.new) }
-        ensures lasts { LastsRound D.SectorDevice T.Terminal result (device self.old) (device self.new)
-            terminal.old terminal.new }
-        ensures tells { Tells stop_count result self.old self.new }
-        ensures budget { self.new.budget ≡ self.old.budget }
+        ensures continues { ContinuesRound T.Terminal result self.old self.new terminal.old terminal.new }
     {
         services();
         let event = self.lexicon.resume(
@@ -83,10 +79,7 @@ impl<D: SectorDevice> Forth<D> {
             → RanRound T.Terminal n (λ r. left n levels (core self.old) (with_run r x))
             result self.old self.new terminal.old terminal.new x }
         ensures down { GoesDown result (weight self.old) (weight self.new) }
-        ensures lasts { LastsRound D.SectorDevice T.Terminal result (device self.old) (device self.new)
-            terminal.old terminal.new }
-        ensures tells { Tells stop_count result self.old self.new }
-        ensures budget { self.new.budget ≡ self.old.budget }
+        ensures continues { ContinuesRound T.Terminal result self.old self.new terminal.old terminal.new }
     {
         let _ = terminal;
         match self.advance() {
@@ -101,9 +94,7 @@ impl<D: SectorDevice> Forth<D> {
         ensures ran { (n : ℕ) (levels : List Level) (x : World) → self.old.steps < n → Stands self.old levels x
             → Ran T.Terminal (λ r. left n levels (core self.old) (with_run r x))
             result self.old self.new terminal.old terminal.new [] x }
-        ensures lasts { Lasts D.SectorDevice T.Terminal result (device self.old) (device self.new) terminal.old terminal.new }
-        ensures tells { Tells stop_count result self.old self.new }
-        ensures budget { self.new.budget ≡ self.old.budget }
+        ensures continues { Continues T.Terminal result self.old self.new terminal.old terminal.new }
     {
         'rounds: loop {
             match self.round(terminal) {

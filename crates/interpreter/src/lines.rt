@@ -61,7 +61,7 @@ impl<D: SectorDevice> Forth<D> {
     ghost use Rattle.interpreter.specs.Lining.{Lined, LastsLine, line_end, SameStackAndSpace, SameSpace, Waits, IsSystem, Cleared, Clears, is_broken, Counts};
     ghost use Rattle.block_words.specs.Words.{Save};
     ghost use Rattle.interpreter.specs.Promise.{Answers, Keeps};
-    ghost use Rattle.interpreter.specs.Serving.{Spares};
+    ghost use Rattle.interpreter.specs.Serving.{SparesAll};
 
     /// STATE and BLK are 0, and no definition is open.
     fn close(&mut self)
@@ -70,7 +70,7 @@ impl<D: SectorDevice> Forth<D> {
         ensures size { length self.new.space ≡ 65536 }
         ensures stack { self.new.stack ≡ self.old.stack }
         ensures steps { self.new.steps ≡ self.old.steps }
-        ensures spares { Spares self.old self.new }
+        ensures spares { SparesAll self.old self.new }
         ensures budget { self.new.budget ≡ self.old.budget }
     {
         self.space.set_cell(STATE, 0);
@@ -84,7 +84,7 @@ impl<D: SectorDevice> Forth<D> {
         ensures same_core { (c : Core) → SameSpace c self.old → SameStackAndSpace (with_empty_stack (at_rest c)) self.new }
         ensures clears { (x : World) → Rests self.old x → Cleared self.new }
         ensures steps { self.new.steps ≡ self.old.steps }
-        ensures spares { Spares self.old self.new }
+        ensures spares { SparesAll self.old self.new }
         ensures budget { self.new.budget ≡ self.old.budget }
     {
         self.close();

@@ -49,16 +49,15 @@ impl<D: SectorDevice> Forth<D> {
     ghost use Rattle.interpreter.specs.State.{World, with_run};
     ghost use Rattle.interpreter.specs.Lexicon.{language_of};
     ghost use Rattle.interpreter.specs.Naming.{give_part};
-    ghost use Rattle.interpreter.specs.Standing.{core, device, Stands};
-    ghost use Rattle.interpreter.specs.Serving.{Alters, Altered, Spares, Consults, LastsAlone, Tells};
+    ghost use Rattle.interpreter.specs.Standing.{core, Stands};
+    ghost use Rattle.interpreter.specs.Serving.{Alters, Altered, Spares, Consults, ContinuesAlone};
     ghost use Rattle.lexicon.specs.Stands.{IsSound, IsPart};
 
     /// A word on the open definition.
     pub(crate) fn on_definition(&mut self, word: DefinitionWord) -> Result<(), Fault>
         requires sound { IsSound self.old.lexicon }
         ensures alters { Alters (λ a c x. on_definition word c x) result self.old self.new }
-        ensures spares { Spares self.old self.new }
-        ensures tells { Tells fault_count result self.old self.new }
+        ensures spares { Spares result self.old self.new }
     {
         match word {
             DefinitionWord::Semicolon => self.semicolon(),
@@ -71,8 +70,7 @@ impl<D: SectorDevice> Forth<D> {
     fn structure(&mut self, structure: Structure) -> Result<(), Fault>
         requires sound { IsSound self.old.lexicon }
         ensures alters { Alters (λ a c x. on_definition (Build structure) c x) result self.old self.new }
-        ensures spares { Spares self.old self.new }
-        ensures tells { Tells fault_count result self.old self.new }
+        ensures spares { Spares result self.old self.new }
     {
         match self.lexicon.add_structure(structure) {
             Ok(()) => Ok(()),
@@ -84,8 +82,7 @@ impl<D: SectorDevice> Forth<D> {
     pub(crate) fn add_literal(&mut self, cell: u16) -> Result<(), Fault>
         requires sound { IsSound self.old.lexicon }
         ensures alters { Alters (λ a c x. changing (λ used. add_literal used cell) c x) result self.old self.new }
-        ensures spares { Spares self.old self.new }
-        ensures tells { Tells fault_count result self.old self.new }
+        ensures spares { Spares result self.old self.new }
     {
         match self.lexicon.literal(cell) {
             Ok(()) => Ok(()),
@@ -99,8 +96,7 @@ impl<D: SectorDevice> Forth<D> {
         requires from { 0 < token }
         requires most { token ≤ most_tokens }
         ensures alters { Alters (λ a c x. compile_word token c x) result self.old self.new }
-        ensures spares { Spares self.old self.new }
-        ensures tells { Tells fault_count result self.old self.new }
+        ensures spares { Spares result self.old self.new }
     {
         match self.lexicon.compile(token) {
             Ok(()) => Ok(()),
@@ -112,8 +108,7 @@ impl<D: SectorDevice> Forth<D> {
     fn literal(&mut self) -> Result<(), Fault>
         requires sound { IsSound self.old.lexicon }
         ensures alters { Alters (λ a c x. on_definition Literal c x) result self.old self.new }
-        ensures spares { Spares self.old self.new }
-        ensures tells { Tells fault_count result self.old self.new }
+        ensures spares { Spares result self.old self.new }
     {
         if !self.lexicon.is_open() {
             return Err(Fault::NoDefinition);
@@ -128,8 +123,7 @@ impl<D: SectorDevice> Forth<D> {
     fn semicolon(&mut self) -> Result<(), Fault>
         requires sound { IsSound self.old.lexicon }
         ensures alters { Alters (λ a c x. on_definition Semicolon c x) result self.old self.new }
-        ensures spares { Spares self.old self.new }
-        ensures tells { Tells fault_count result self.old self.new }
+        ensures spares { Spares result self.old self.new }
     {
         match self.lexicon.finish() {
             Ok(()) => {
@@ -147,10 +141,9 @@ impl<D: SectorDevice> Forth<D> {
             → IsPart self.old.lexicon (language_of x) place owner parts
             → Altered (λ r. give_part (record { owner = owner; parts = parts }) (core self.old) (with_run r x))
             result self.old self.new levels x }
-        ensures spares { Spares self.old self.new }
+        ensures spares { Spares result self.old self.new }
         ensures steps { self.new.steps ≡ self.old.steps }
         ensures returns { self.new.returns ≡ self.old.returns }
-        ensures tells { Tells fault_count result self.old self.new }
     {
         match self.lexicon.give_part(place) {
             Ok(()) => Ok(()),
@@ -164,8 +157,7 @@ impl<D: SectorDevice> Forth<D> {
         requires within { count ≤ 1024 }
         ensures alters { Alters (λ a c x. changing (λ used. add_text used (kind_of kind) (take count self.old.text)) c x)
             result self.old self.new }
-        ensures spares { Spares self.old self.new }
-        ensures tells { Tells fault_count result self.old self.new }
+        ensures spares { Spares result self.old self.new }
     {
         match self.lexicon.add_text(kind, &self.text[..count]) {
             Ok(()) => Ok(()),
@@ -177,9 +169,7 @@ impl<D: SectorDevice> Forth<D> {
     pub(crate) fn compile_text(&mut self, kind: TextKind) -> Result<(), Fault>
         requires sound { IsSound self.old.lexicon }
         ensures consults { Consults (λ a c x. compile_text (kind_of kind) c x) result self.old self.new }
-        ensures lasts { LastsAlone D.SectorDevice (device self.old) (device self.new) }
-        ensures tells { Tells fault_count result self.old self.new }
-        ensures budget { self.new.budget ≡ self.old.budget }
+        ensures continues { ContinuesAlone result self.old self.new }
     {
         if !self.lexicon.is_open() {
             return Err(Fault::NoDefinition);

@@ -22,8 +22,7 @@ impl<D: SectorDevice> Forth<D> {
     ghost use Rattle.interpreter.specs.Law.{left};
     ghost use Rattle.interpreter.specs.Text.{serve, on_service, may_execute};
     ghost use Rattle.interpreter.specs.Standing.{core, Rests, Stands};
-    ghost use Rattle.interpreter.specs.Serving.{Spares, Tells};
-    ghost use Rattle.interpreter.specs.Stops.{fault_count};
+    ghost use Rattle.interpreter.specs.Serving.{Spares};
     ghost use Rattle.interpreter.specs.Rounds.{Entered};
 
     /// May `EXECUTE` run the word of this token?
@@ -46,8 +45,7 @@ impl<D: SectorDevice> Forth<D> {
             → Entered (suc m) (λ r. and_then
             (on_service (suc m) (λ a due c x. serve m a due c x) Execute (around_of levels) (core self.old) (with_run r x))
             (λ c x. left (suc m) levels c x)) result self.old self.new x }
-        ensures spares { Spares self.old self.new }
-        ensures tells { Tells fault_count result self.old self.new }
+        ensures spares { Spares result self.old self.new }
     {
         let Ok(token) = self.stack.pop() else {
             return Err(Fault::StackEmpty);
@@ -68,8 +66,7 @@ impl<D: SectorDevice> Forth<D> {
             → Entered (suc m) (λ r. and_then
             (on_service (suc m) (λ a due c x. serve m a due c x) Load (around_of levels) (core self.old) (with_run r x))
             (λ c x. left (suc m) levels c x)) result self.old self.new x }
-        ensures spares { Spares self.old self.new }
-        ensures tells { Tells fault_count result self.old self.new }
+        ensures spares { Spares result self.old self.new }
     {
         let Ok(block) = self.stack.pop() else {
             return Err(Fault::StackEmpty);

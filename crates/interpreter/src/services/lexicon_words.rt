@@ -34,15 +34,13 @@ impl<D: SectorDevice> Forth<D> {
     ghost use Rattle.dictionary.specs.Words.{entry};
     ghost use Rattle.lexicon.specs.Language.{Language};
     ghost use Rattle.lexicon.specs.Stands.{Stands as Means, IsSound, IsWord};
-    ghost use Rattle.interpreter.specs.Serving.{Alters, Spares, Tells};
-    ghost use Rattle.interpreter.specs.Stops.{fault_count};
+    ghost use Rattle.interpreter.specs.Serving.{Alters, Spares, SparesAll};
 
     /// A word on the lexicon and `HERE`.
     pub(crate) fn on_lexicon(&mut self, word: LexiconWord) -> Result<(), Fault>
         requires sound { IsSound self.old.lexicon }
         ensures alters { Alters (λ a c x. on_lexicon word c x) result self.old self.new }
-        ensures spares { Spares self.old self.new }
-        ensures tells { Tells fault_count result self.old self.new }
+        ensures spares { Spares result self.old self.new }
     {
         match word {
             LexiconWord::ToBody => self.to_body(),
@@ -66,8 +64,7 @@ impl<D: SectorDevice> Forth<D> {
     /// `HERE`.
     fn here(&mut self) -> Result<(), Fault>
         ensures alters { Alters (λ a c x. on_lexicon Here c x) result self.old self.new }
-        ensures spares { Spares self.old self.new }
-        ensures tells { Tells fault_count result self.old self.new }
+        ensures spares { Spares result self.old self.new }
     {
         let here = self.lexicon.here();
         self.push(here)
@@ -77,8 +74,7 @@ impl<D: SectorDevice> Forth<D> {
     fn comma(&mut self) -> Result<(), Fault>
         requires sound { IsSound self.old.lexicon }
         ensures alters { Alters (λ a c x. on_lexicon Comma c x) result self.old self.new }
-        ensures spares { Spares self.old self.new }
-        ensures tells { Tells fault_count result self.old self.new }
+        ensures spares { Spares result self.old self.new }
     {
         let cell = match self.stack.pop() {
             Ok(cell) => cell,
@@ -97,8 +93,7 @@ impl<D: SectorDevice> Forth<D> {
     fn pad(&mut self) -> Result<(), Fault>
         requires sound { IsSound self.old.lexicon }
         ensures alters { Alters (λ a c x. on_lexicon Pad c x) result self.old self.new }
-        ensures spares { Spares self.old self.new }
-        ensures tells { Tells fault_count result self.old self.new }
+        ensures spares { Spares result self.old self.new }
     {
         let here = self.lexicon.here();
         self.push(here + PAD_OFFSET)
@@ -107,8 +102,7 @@ impl<D: SectorDevice> Forth<D> {
     /// `ALLOT`.
     fn allot(&mut self) -> Result<(), Fault>
         ensures alters { Alters (λ a c x. on_lexicon Allot c x) result self.old self.new }
-        ensures spares { Spares self.old self.new }
-        ensures tells { Tells fault_count result self.old self.new }
+        ensures spares { Spares result self.old self.new }
     {
         let n = match self.stack.pop() {
             Ok(n) => n,
@@ -129,8 +123,7 @@ impl<D: SectorDevice> Forth<D> {
     fn push_two(&mut self, under: u16, top: u16) -> Result<(), Fault>
         requires { length self.old.stack < 256 }
         ensures alters { Alters (λ a c x. pushing top (record c { stack = under ∷ c.stack }) x) result self.old self.new }
-        ensures spares { Spares self.old self.new }
-        ensures tells { Tells fault_count result self.old self.new }
+        ensures spares { Spares result self.old self.new }
     {
         let _ = self.stack.push(under);
         self.push(top)
@@ -150,8 +143,7 @@ impl<D: SectorDevice> Forth<D> {
     /// `FIND`.
     fn find(&mut self) -> Result<(), Fault>
         ensures alters { Alters (λ a c x. on_lexicon Find c x) result self.old self.new }
-        ensures spares { Spares self.old self.new }
-        ensures tells { Tells fault_count result self.old self.new }
+        ensures spares { Spares result self.old self.new }
     {
         let s = match self.stack.pop() {
             Ok(s) => s,
@@ -171,8 +163,7 @@ impl<D: SectorDevice> Forth<D> {
     /// `>BODY`.
     fn to_body(&mut self) -> Result<(), Fault>
         ensures alters { Alters (λ a c x. on_lexicon ToBody c x) result self.old self.new }
-        ensures spares { Spares self.old self.new }
-        ensures tells { Tells fault_count result self.old self.new }
+        ensures spares { Spares result self.old self.new }
     {
         let token = match self.stack.pop() {
             Ok(token) => token,
@@ -187,7 +178,7 @@ impl<D: SectorDevice> Forth<D> {
     /// `FORTH`.
     fn forth(&mut self)
         ensures alters { Alters (λ a c x. on_lexicon ForthWord c x) (Ok tt) self.old self.new }
-        ensures spares { Spares self.old self.new }
+        ensures spares { SparesAll self.old self.new }
     {
         self.lexicon.set_first_to_forth();
     }
@@ -195,7 +186,7 @@ impl<D: SectorDevice> Forth<D> {
     /// `DEFINITIONS`.
     fn definitions(&mut self)
         ensures alters { Alters (λ a c x. on_lexicon Definitions c x) (Ok tt) self.old self.new }
-        ensures spares { Spares self.old self.new }
+        ensures spares { SparesAll self.old self.new }
     {
         self.lexicon.set_current_to_first();
     }
@@ -204,8 +195,7 @@ impl<D: SectorDevice> Forth<D> {
     fn immediate(&mut self) -> Result<(), Fault>
         requires sound { IsSound self.old.lexicon }
         ensures alters { Alters (λ a c x. on_lexicon MakeImmediate c x) result self.old self.new }
-        ensures spares { Spares self.old self.new }
-        ensures tells { Tells fault_count result self.old self.new }
+        ensures spares { Spares result self.old self.new }
     {
         match self.lexicon.set_immediate() {
             Ok(()) => Ok(()),

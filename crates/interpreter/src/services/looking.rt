@@ -69,9 +69,7 @@ pub(crate) struct Look {
 }
 
 impl<D: SectorDevice> Forth<D> {
-    ghost use Rattle.interpreter.specs.Standing.{device};
-    ghost use Rattle.interpreter.specs.Serving.{HandsOn, LastsAlone, Tells};
-    ghost use Rattle.interpreter.specs.Stops.{fault_count};
+    ghost use Rattle.interpreter.specs.Serving.{HandsOn, ContinuesAlone};
     ghost use Rattle.interpreter.specs.Taken.{line_of};
     ghost use Rattle.interpreter.specs.Looking.{look, looked, seen_from, seen_in};
 
@@ -79,10 +77,9 @@ impl<D: SectorDevice> Forth<D> {
     pub(crate) fn look(&mut self, cut: Cut, delimiter: u8) -> Result<Look, Fault>
         ensures hands { HandsOn (λ c x go. look cut delimiter c x go) (looked result self.new.text) self.old self.new }
         ensures rest { self.new ≡ record self.old { blocks = self.new.blocks; text = self.new.text } }
-        ensures lasts { LastsAlone D.SectorDevice (device self.old) (device self.new) }
+        ensures continues { ContinuesAlone result self.old self.new }
         ensures within { IfOk result (λ l. l.count ≤ 1024) }
         ensures whole { IfOk result (λ l. length (take l.count self.new.text) ≡ l.count) }
-        ensures tells { Tells fault_count result self.old self.new }
     {
         match cell_of(&self.space, BLK) {
             0 => Ok(self.look_at_line(cut, delimiter)),
@@ -109,10 +106,9 @@ impl<D: SectorDevice> Forth<D> {
         requires loaded { 0 < block }
         ensures hands { HandsOn (λ c x go. look cut delimiter c x go) (looked result self.new.text) self.old self.new }
         ensures rest { self.new ≡ record self.old { blocks = self.new.blocks; text = self.new.text } }
-        ensures lasts { LastsAlone D.SectorDevice (device self.old) (device self.new) }
+        ensures continues { ContinuesAlone result self.old self.new }
         ensures within { IfOk result (λ l. l.count ≤ 1024) }
         ensures whole { IfOk result (λ l. length (take l.count self.new.text) ≡ l.count) }
-        ensures tells { Tells fault_count result self.old self.new }
     {
         match self.blocks.find_text(block) {
             Ok(place) => {

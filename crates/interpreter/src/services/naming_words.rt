@@ -21,17 +21,13 @@ impl<D: SectorDevice> Forth<D> {
     ghost use Rattle.interpreter.specs.Naming.{adding, variable};
     ghost use Rattle.interpreter.specs.NameWords.{on_name};
     ghost use Rattle.interpreter.specs.Compiling.{begun};
-    ghost use Rattle.interpreter.specs.Standing.{device};
-    ghost use Rattle.interpreter.specs.Serving.{Alters, Spares, Consults, LastsAlone, Tells};
-    ghost use Rattle.interpreter.specs.Stops.{fault_count};
+    ghost use Rattle.interpreter.specs.Serving.{Alters, Spares, SparesAll, Consults, ContinuesAlone};
 
     /// A word that takes a name from the stream.
     pub(crate) fn on_name(&mut self, word: NameWord) -> Result<(), Fault>
         requires sound { IsSound self.old.lexicon }
         ensures consults { Consults (λ a c x. on_name word a c x) result self.old self.new }
-        ensures lasts { LastsAlone D.SectorDevice (device self.old) (device self.new) }
-        ensures tells { Tells fault_count result self.old self.new }
-        ensures budget { self.new.budget ≡ self.old.budget }
+        ensures continues { ContinuesAlone result self.old self.new }
     {
         match word {
             NameWord::Tick => self.tick(),
@@ -53,7 +49,7 @@ impl<D: SectorDevice> Forth<D> {
         requires fits { MayBeAdded self.old.lexicon (take count self.old.text) }
         ensures alters { Alters (λ a c x. Did c (adding (take count self.old.text) (Created x.here None) x)) (Ok tt)
             self.old self.new }
-        ensures spares { Spares self.old self.new }
+        ensures spares { SparesAll self.old self.new }
     {
         let _ = self.lexicon.create(&self.text[..count]);
     }
@@ -62,9 +58,7 @@ impl<D: SectorDevice> Forth<D> {
     fn create(&mut self) -> Result<(), Fault>
         requires sound { IsSound self.old.lexicon }
         ensures consults { Consults (λ a c x. on_name Create a c x) result self.old self.new }
-        ensures lasts { LastsAlone D.SectorDevice (device self.old) (device self.new) }
-        ensures tells { Tells fault_count result self.old self.new }
-        ensures budget { self.new.budget ≡ self.old.budget }
+        ensures continues { ContinuesAlone result self.old self.new }
     {
         match self.take_new_word() {
             Ok(count) => {
@@ -81,7 +75,7 @@ impl<D: SectorDevice> Forth<D> {
         requires within { count ≤ 1024 }
         requires fits { MayBeAdded self.old.lexicon (take count self.old.text) }
         ensures alters { Alters (λ a c x. Did c (adding (take count self.old.text) (Constant cell) x)) (Ok tt) self.old self.new }
-        ensures spares { Spares self.old self.new }
+        ensures spares { SparesAll self.old self.new }
     {
         let _ = self.lexicon.add_constant(&self.text[..count], cell);
     }
@@ -90,9 +84,7 @@ impl<D: SectorDevice> Forth<D> {
     fn constant(&mut self) -> Result<(), Fault>
         requires sound { IsSound self.old.lexicon }
         ensures consults { Consults (λ a c x. on_name MakeConstant a c x) result self.old self.new }
-        ensures lasts { LastsAlone D.SectorDevice (device self.old) (device self.new) }
-        ensures tells { Tells fault_count result self.old self.new }
-        ensures budget { self.new.budget ≡ self.old.budget }
+        ensures continues { ContinuesAlone result self.old self.new }
     {
         let Ok(cell) = self.stack.pop() else {
             return Err(Fault::StackEmpty);
@@ -112,7 +104,7 @@ impl<D: SectorDevice> Forth<D> {
         requires within { count ≤ 1024 }
         requires fits { MayBeAdded self.old.lexicon (take count self.old.text) }
         ensures alters { Alters (λ a c x. Did c (adding (take count self.old.text) Vocabulary x)) (Ok tt) self.old self.new }
-        ensures spares { Spares self.old self.new }
+        ensures spares { SparesAll self.old self.new }
     {
         let _ = self.lexicon.add_vocabulary(&self.text[..count]);
     }
@@ -121,9 +113,7 @@ impl<D: SectorDevice> Forth<D> {
     fn vocabulary(&mut self) -> Result<(), Fault>
         requires sound { IsSound self.old.lexicon }
         ensures consults { Consults (λ a c x. on_name MakeVocabulary a c x) result self.old self.new }
-        ensures lasts { LastsAlone D.SectorDevice (device self.old) (device self.new) }
-        ensures tells { Tells fault_count result self.old self.new }
-        ensures budget { self.new.budget ≡ self.old.budget }
+        ensures continues { ContinuesAlone result self.old self.new }
     {
         match self.take_new_word() {
             Ok(count) => {
@@ -140,8 +130,7 @@ impl<D: SectorDevice> Forth<D> {
         requires within { count ≤ 1024 }
         requires fits { MayBeAdded self.old.lexicon (take count self.old.text) }
         ensures alters { Alters (λ a c x. variable (take count self.old.text) c x) result self.old self.new }
-        ensures spares { Spares self.old self.new }
-        ensures tells { Tells fault_count result self.old self.new }
+        ensures spares { Spares result self.old self.new }
     {
         let here = self.lexicon.here();
         if here > LAST_HERE - 2 {
@@ -157,9 +146,7 @@ impl<D: SectorDevice> Forth<D> {
     fn variable(&mut self) -> Result<(), Fault>
         requires sound { IsSound self.old.lexicon }
         ensures consults { Consults (λ a c x. on_name Variable a c x) result self.old self.new }
-        ensures lasts { LastsAlone D.SectorDevice (device self.old) (device self.new) }
-        ensures tells { Tells fault_count result self.old self.new }
-        ensures budget { self.new.budget ≡ self.old.budget }
+        ensures continues { ContinuesAlone result self.old self.new }
     {
         match self.take_new_word() {
             Ok(count) => self.add_variable(count),
@@ -170,9 +157,7 @@ impl<D: SectorDevice> Forth<D> {
     /// `'`.
     fn tick(&mut self) -> Result<(), Fault>
         ensures consults { Consults (λ a c x. on_name Tick a c x) result self.old self.new }
-        ensures lasts { LastsAlone D.SectorDevice (device self.old) (device self.new) }
-        ensures tells { Tells fault_count result self.old self.new }
-        ensures budget { self.new.budget ≡ self.old.budget }
+        ensures continues { ContinuesAlone result self.old self.new }
     {
         match self.take_token() {
             Ok(token) => self.push(token),
@@ -185,8 +170,7 @@ impl<D: SectorDevice> Forth<D> {
         requires word { (x : Language) × (Means self.old.lexicon x × IsWord x token) }
         ensures alters { Alters (λ a c x. stepped (forgetting token a.running (language_of x)) (λ c. c) c x)
             result self.old self.new }
-        ensures spares { Spares self.old self.new }
-        ensures tells { Tells fault_count result self.old self.new }
+        ensures spares { Spares result self.old self.new }
     {
         match self.lexicon.forget(token, &self.machine, &self.returns) {
             Ok(()) => Ok(()),
@@ -198,9 +182,7 @@ impl<D: SectorDevice> Forth<D> {
     fn forget(&mut self) -> Result<(), Fault>
         requires sound { IsSound self.old.lexicon }
         ensures consults { Consults (λ a c x. on_name Forget a c x) result self.old self.new }
-        ensures lasts { LastsAlone D.SectorDevice (device self.old) (device self.new) }
-        ensures tells { Tells fault_count result self.old self.new }
-        ensures budget { self.new.budget ≡ self.old.budget }
+        ensures continues { ContinuesAlone result self.old self.new }
     {
         if self.lexicon.is_open() {
             return Err(Fault::DefinitionOpen);
@@ -217,7 +199,7 @@ impl<D: SectorDevice> Forth<D> {
         requires within { count ≤ 1024 }
         requires fits { MayBeAdded self.old.lexicon (take count self.old.text) }
         ensures alters { Alters (λ a c x. begun (take count self.old.text) c x) (Ok tt) self.old self.new }
-        ensures spares { Spares self.old self.new }
+        ensures spares { SparesAll self.old self.new }
     {
         let _ = self.lexicon.begin(&self.text[..count]);
         self.space.set_cell(STATE, 65535);
@@ -227,9 +209,7 @@ impl<D: SectorDevice> Forth<D> {
     fn colon(&mut self) -> Result<(), Fault>
         requires sound { IsSound self.old.lexicon }
         ensures consults { Consults (λ a c x. on_name Colon a c x) result self.old self.new }
-        ensures lasts { LastsAlone D.SectorDevice (device self.old) (device self.new) }
-        ensures tells { Tells fault_count result self.old self.new }
-        ensures budget { self.new.budget ≡ self.old.budget }
+        ensures continues { ContinuesAlone result self.old self.new }
     {
         match self.take_new_word() {
             Ok(count) => {
@@ -244,9 +224,7 @@ impl<D: SectorDevice> Forth<D> {
     fn compile_tick(&mut self) -> Result<(), Fault>
         requires sound { IsSound self.old.lexicon }
         ensures consults { Consults (λ a c x. on_name CompileTick a c x) result self.old self.new }
-        ensures lasts { LastsAlone D.SectorDevice (device self.old) (device self.new) }
-        ensures tells { Tells fault_count result self.old self.new }
-        ensures budget { self.new.budget ≡ self.old.budget }
+        ensures continues { ContinuesAlone result self.old self.new }
     {
         if !self.lexicon.is_open() {
             return Err(Fault::NoDefinition);
@@ -261,9 +239,7 @@ impl<D: SectorDevice> Forth<D> {
     fn bracket_compile(&mut self) -> Result<(), Fault>
         requires sound { IsSound self.old.lexicon }
         ensures consults { Consults (λ a c x. on_name BracketCompile a c x) result self.old self.new }
-        ensures lasts { LastsAlone D.SectorDevice (device self.old) (device self.new) }
-        ensures tells { Tells fault_count result self.old self.new }
-        ensures budget { self.new.budget ≡ self.old.budget }
+        ensures continues { ContinuesAlone result self.old self.new }
     {
         if !self.lexicon.is_open() {
             return Err(Fault::NoDefinition);

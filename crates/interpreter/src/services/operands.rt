@@ -13,8 +13,7 @@ impl<D: SectorDevice> Forth<D> {
     /// Pushes a cell, or STACK FULL.
     pub(crate) fn push(&mut self, cell: u16) -> Result<(), Fault>
         ensures alters { Alters (λ a c x. pushing cell c x) result self.old self.new }
-        ensures spares { Spares self.old self.new }
-        ensures tells { Tells fault_count result self.old self.new }
+        ensures spares { Spares result self.old self.new }
     {
         match self.stack.push(cell) {
             Ok(()) => Ok(()),

@@ -19,19 +19,16 @@ impl<D: SectorDevice> Forth<D> {
     ghost use Rattle.system_words.specs.declared.words.TerminalWord.TheVariants.{PrintText};
     ghost use Rattle.interpreter.specs.Text.{on_text};
     ghost use Rattle.interpreter.specs.Terminals.{on_terminal};
-    ghost use Rattle.interpreter.specs.Standing.{device, IsSound};
+    ghost use Rattle.interpreter.specs.Standing.{IsSound};
     ghost use Rattle.lexicon.specs.Stands.{IsSound as IsSoundIn};
-    ghost use Rattle.interpreter.specs.Serving.{Alters, Spares, Consults, LastsAlone, Serves, Lasts, Tells};
-    ghost use Rattle.interpreter.specs.Stops.{fault_count, stop_count};
+    ghost use Rattle.interpreter.specs.Serving.{Alters, Spares, Consults, ContinuesAlone, Serves, Continues};
 
     /// A word that takes a text from the stream.
     pub(crate) fn on_text(&mut self, word: TextWord) -> Result<(), Fault>
         requires standing { IsSound self.old }
         requires sound { IsSoundIn self.old.lexicon }
         ensures consults { Consults (λ a c x. on_text word c x) result self.old self.new }
-        ensures lasts { LastsAlone D.SectorDevice (device self.old) (device self.new) }
-        ensures tells { Tells fault_count result self.old self.new }
-        ensures budget { self.new.budget ≡ self.old.budget }
+        ensures continues { ContinuesAlone result self.old self.new }
     {
         match word {
             TextWord::Comment => self.comment(),
@@ -45,9 +42,7 @@ impl<D: SectorDevice> Forth<D> {
     fn word(&mut self) -> Result<(), Fault>
         requires sound { IsSound self.old }
         ensures consults { Consults (λ a c x. on_text ParseWord c x) result self.old self.new }
-        ensures lasts { LastsAlone D.SectorDevice (device self.old) (device self.new) }
-        ensures tells { Tells fault_count result self.old self.new }
-        ensures budget { self.new.budget ≡ self.old.budget }
+        ensures continues { ContinuesAlone result self.old self.new }
     {
         match self.stack.pop() {
             Ok(cell) => match self.take_word((cell % 256) as u8) {
@@ -66,8 +61,7 @@ impl<D: SectorDevice> Forth<D> {
         ensures alters { Alters
             (λ a c x. pushing x.here (record c { space = with_bytes c.space x.here (counted (take count self.old.text)) }) x)
             result self.old self.new }
-        ensures spares { Spares self.old self.new }
-        ensures tells { Tells fault_count result self.old self.new }
+        ensures spares { Spares result self.old self.new }
     {
         let here = self.lexicon.here();
         let kept = count.min(LONGEST) as u16;
@@ -81,9 +75,7 @@ impl<D: SectorDevice> Forth<D> {
     /// `(`.
     fn comment(&mut self) -> Result<(), Fault>
         ensures consults { Consults (λ a c x. on_text Comment c x) result self.old self.new }
-        ensures lasts { LastsAlone D.SectorDevice (device self.old) (device self.new) }
-        ensures tells { Tells fault_count result self.old self.new }
-        ensures budget { self.new.budget ≡ self.old.budget }
+        ensures continues { ContinuesAlone result self.old self.new }
     {
         match self.take_text(b')') {
             Ok(_) => Ok(()),
@@ -94,9 +86,7 @@ impl<D: SectorDevice> Forth<D> {
     /// `.(`.
     pub(crate) fn print_text<T: Terminal>(&mut self, terminal: &mut T) -> Result<(), Stop>
         ensures serves { Serves T.Terminal (λ a c x. on_terminal PrintText c x) result self.old self.new terminal.old terminal.new }
-        ensures lasts { Lasts D.SectorDevice T.Terminal result (device self.old) (device self.new) terminal.old terminal.new }
-        ensures tells { Tells stop_count result self.old self.new }
-        ensures budget { self.new.budget ≡ self.old.budget }
+        ensures continues { Continues T.Terminal result self.old self.new terminal.old terminal.new }
     {
         match self.take_text(b')') {
             Ok(count) => self.print(&self.text[..count], terminal),

@@ -48,7 +48,6 @@ fn signed_text(cell: u16, base: u16) -> Held
 
 impl<D: SectorDevice> Forth<D> {
     ghost use Rattle.data_space.specs.Space.{cell_at};
-    ghost use Rattle.interpreter.specs.Standing.{device};
     ghost use Rattle.system_words.specs.declared.words.PictureWord.TheVariants.{Digit, FinishPicture, Digits, BeginPicture, Convert, HoldByte, Sign};
     ghost use Rattle.system_words.specs.declared.words.TerminalWord.TheVariants.{Dot, UnsignedDot};
     ghost use Rattle.cell_machine.specs.Value.{Did};
@@ -56,15 +55,13 @@ impl<D: SectorDevice> Forth<D> {
     ghost use Rattle.lexicon.specs.Stands.{IsSound};
     ghost use Rattle.interpreter.specs.Pictures.{hold, hold_all, push_double, on_picture};
     ghost use Rattle.interpreter.specs.Terminals.{on_terminal};
-    ghost use Rattle.interpreter.specs.Serving.{Alters, Spares, Serves, Lasts, Tells};
-    ghost use Rattle.interpreter.specs.Stops.{fault_count, stop_count};
+    ghost use Rattle.interpreter.specs.Serving.{Alters, Spares, Serves, Continues};
 
     /// A word on the picture of a number.
     pub(crate) fn on_picture(&mut self, word: PictureWord) -> Result<(), Fault>
         requires sound { IsSound self.old.lexicon }
         ensures alters { Alters (λ a c x. on_picture word c x) result self.old self.new }
-        ensures spares { Spares self.old self.new }
-        ensures tells { Tells fault_count result self.old self.new }
+        ensures spares { Spares result self.old self.new }
     {
         match word {
             PictureWord::Digit => self.digit(),
@@ -80,9 +77,8 @@ impl<D: SectorDevice> Forth<D> {
     /// Holds a byte in front of the others, or HOLD.
     pub(crate) fn hold(&mut self, byte: u8) -> Result<(), Fault>
         ensures alters { Alters (λ a c x. hold byte c x (λ c x. Did c x)) result self.old self.new }
-        ensures spares { Spares self.old self.new }
+        ensures spares { Spares result self.old self.new }
         ensures stack { self.new.stack ≡ self.old.stack }
-        ensures tells { Tells fault_count result self.old self.new }
     {
         let Picture { end, held } = self.picture;
         if held >= CAPACITY {
@@ -98,8 +94,7 @@ impl<D: SectorDevice> Forth<D> {
     /// `HOLD`.
     fn hold_byte(&mut self) -> Result<(), Fault>
         ensures alters { Alters (λ a c x. on_picture HoldByte c x) result self.old self.new }
-        ensures spares { Spares self.old self.new }
-        ensures tells { Tells fault_count result self.old self.new }
+        ensures spares { Spares result self.old self.new }
     {
         match self.stack.pop() {
             Ok(cell) => self.hold((cell % 256) as u8),
@@ -110,8 +105,7 @@ impl<D: SectorDevice> Forth<D> {
     /// `SIGN`.
     fn sign(&mut self) -> Result<(), Fault>
         ensures alters { Alters (λ a c x. on_picture Sign c x) result self.old self.new }
-        ensures spares { Spares self.old self.new }
-        ensures tells { Tells fault_count result self.old self.new }
+        ensures spares { Spares result self.old self.new }
     {
         match self.stack.pop() {
             Ok(cell) => {
@@ -140,9 +134,7 @@ impl<D: SectorDevice> Forth<D> {
     pub(crate) fn unsigned_dot<T: Terminal>(&mut self, terminal: &mut T) -> Result<(), Stop>
         ensures serves { Serves T.Terminal (λ a c x. on_terminal UnsignedDot c x)
             result self.old self.new terminal.old terminal.new }
-        ensures lasts { Lasts D.SectorDevice T.Terminal result (device self.old) (device self.new) terminal.old terminal.new }
-        ensures tells { Tells stop_count result self.old self.new }
-        ensures budget { self.new.budget ≡ self.old.budget }
+        ensures continues { Continues T.Terminal result self.old self.new terminal.old terminal.new }
     {
         match self.stack.pop() {
             Ok(cell) => match self.base() {
@@ -156,8 +148,7 @@ impl<D: SectorDevice> Forth<D> {
     /// `#`.
     fn digit(&mut self) -> Result<(), Fault>
         ensures alters { Alters (λ a c x. on_picture Digit c x) result self.old self.new }
-        ensures spares { Spares self.old self.new }
-        ensures tells { Tells fault_count result self.old self.new }
+        ensures spares { Spares result self.old self.new }
     {
         match self.pop_two() {
             Ok((high, low)) => match self.base() {
@@ -176,8 +167,7 @@ impl<D: SectorDevice> Forth<D> {
         ensures alters { Alters
             (λ a c x. hold (digit_char (double low high % base)) c x (λ d y. push_double (double low high / base) d y))
             result self.old self.new }
-        ensures spares { Spares self.old self.new }
-        ensures tells { Tells fault_count result self.old self.new }
+        ensures spares { Spares result self.old self.new }
     {
         let number = u32::from(high) * 65536 + u32::from(low);
         let base = u32::from(base);
@@ -197,8 +187,7 @@ impl<D: SectorDevice> Forth<D> {
     fn begin_picture(&mut self) -> Result<(), Fault>
         requires sound { IsSound self.old.lexicon }
         ensures alters { Alters (λ a c x. on_picture BeginPicture c x) result self.old self.new }
-        ensures spares { Spares self.old self.new }
-        ensures tells { Tells fault_count result self.old self.new }
+        ensures spares { Spares result self.old self.new }
     {
         self.picture = Picture {
             end: self.lexicon.here() + UNDER_PAD,
@@ -210,8 +199,7 @@ impl<D: SectorDevice> Forth<D> {
     /// `#>`.
     fn end_picture(&mut self) -> Result<(), Fault>
         ensures alters { Alters (λ a c x. on_picture FinishPicture c x) result self.old self.new }
-        ensures spares { Spares self.old self.new }
-        ensures tells { Tells fault_count result self.old self.new }
+        ensures spares { Spares result self.old self.new }
     {
         match self.pop_two() {
             Ok(_) => {
@@ -228,8 +216,7 @@ impl<D: SectorDevice> Forth<D> {
     /// `#S`.
     fn digits(&mut self) -> Result<(), Fault>
         ensures alters { Alters (λ a c x. on_picture Digits c x) result self.old self.new }
-        ensures spares { Spares self.old self.new }
-        ensures tells { Tells fault_count result self.old self.new }
+        ensures spares { Spares result self.old self.new }
     {
         match self.pop_two() {
             Ok((high, low)) => match self.base() {
@@ -248,8 +235,7 @@ impl<D: SectorDevice> Forth<D> {
         ensures alters { Alters
             (λ a c x. hold_all (reverse (digits_of base (double low high))) c x (λ d y. push_double 0 d y))
             result self.old self.new }
-        ensures spares { Spares self.old self.new }
-        ensures tells { Tells fault_count result self.old self.new }
+        ensures spares { Spares result self.old self.new }
     {
         match self.hold_digits(u32::from(high) * 65536 + u32::from(low), base) {
             Ok(()) => {
@@ -267,9 +253,8 @@ impl<D: SectorDevice> Forth<D> {
         requires most { base ≤ 72 }
         ensures alters { Alters (λ a c x. hold_all (reverse (digits_of base number)) c x (λ c x. Did c x))
             result self.old self.new }
-        ensures spares { Spares self.old self.new }
+        ensures spares { Spares result self.old self.new }
         ensures stack { self.new.stack ≡ self.old.stack }
-        ensures tells { Tells fault_count result self.old self.new }
     {
         let base = u32::from(base);
         let mut rest = number;
@@ -285,8 +270,7 @@ impl<D: SectorDevice> Forth<D> {
     /// `CONVERT`.
     fn convert(&mut self) -> Result<(), Fault>
         ensures alters { Alters (λ a c x. on_picture Convert c x) result self.old self.new }
-        ensures spares { Spares self.old self.new }
-        ensures tells { Tells fault_count result self.old self.new }
+        ensures spares { Spares result self.old self.new }
     {
         match self.pop_three() {
             Ok((address, high, low)) => match self.base() {
@@ -303,8 +287,7 @@ impl<D: SectorDevice> Forth<D> {
         requires most { base ≤ 72 }
         requires room { length self.old.stack < 254 }
         ensures alters { Alters (λ a c x. convert_from base address (double low high) c x) result self.old self.new }
-        ensures spares { Spares self.old self.new }
-        ensures tells { Tells fault_count result self.old self.new }
+        ensures spares { Spares result self.old self.new }
     {
         let number = u32::from(high) * 65536 + u32::from(low);
         let (_, text) = self.space.bytes().split_at(usize::from(address) + 1);
@@ -321,9 +304,7 @@ impl<D: SectorDevice> Forth<D> {
     /// `.`.
     pub(crate) fn dot<T: Terminal>(&mut self, terminal: &mut T) -> Result<(), Stop>
         ensures serves { Serves T.Terminal (λ a c x. on_terminal Dot c x) result self.old self.new terminal.old terminal.new }
-        ensures lasts { Lasts D.SectorDevice T.Terminal result (device self.old) (device self.new) terminal.old terminal.new }
-        ensures tells { Tells stop_count result self.old self.new }
-        ensures budget { self.new.budget ≡ self.old.budget }
+        ensures continues { Continues T.Terminal result self.old self.new terminal.old terminal.new }
     {
         match self.stack.pop() {
             Ok(cell) => match self.base() {

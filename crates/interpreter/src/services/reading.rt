@@ -23,9 +23,8 @@ impl<D: SectorDevice> Forth<D> {
     ghost use Rattle.interpreter.specs.Lexicon.{language_of};
     ghost use Rattle.interpreter.specs.Text.{serve, found_word, with_number, number_value};
     ghost use Rattle.interpreter.specs.Pictures.{with_base};
-    ghost use Rattle.interpreter.specs.Standing.{core, device, Rests, Stands, IsSound};
-    ghost use Rattle.interpreter.specs.Serving.{Alters, Spares, LastsAlone, stopped, Tells};
-    ghost use Rattle.interpreter.specs.Stops.{fault_count};
+    ghost use Rattle.interpreter.specs.Standing.{core, Rests, Stands, IsSound};
+    ghost use Rattle.interpreter.specs.Serving.{Alters, Spares, SparesAll, ContinuesAlone, stopped};
     ghost use Rattle.interpreter.specs.Rounds.{Entered, IsAtText, GoesDown, weight};
     ghost use Rattle.interpreter.specs.Looking.{seen_in};
     ghost use Rattle.interpreter.specs.TextRounds.{Passed, Advanced, after_text, treated, seen_round, found_compiling, with_double};
@@ -38,9 +37,7 @@ impl<D: SectorDevice> Forth<D> {
             → IsAtText levels
             → Advanced n (λ r. left n levels (core self.old) (with_run r x)) result self.old self.new x }
         ensures down { GoesDown (stopped result) (weight self.old) (weight self.new) }
-        ensures lasts { LastsAlone D.SectorDevice (device self.old) (device self.new) }
-        ensures tells { Tells fault_count result self.old self.new }
-        ensures budget { self.new.budget ≡ self.old.budget }
+        ensures continues { ContinuesAlone result self.old self.new }
     {
         match self.look(Cut::Word, b' ') {
             Ok(look) => self.pass(look),
@@ -59,8 +56,7 @@ impl<D: SectorDevice> Forth<D> {
             → Passed n (λ r. seen_round n levels (seen_in look self.old.text) (core self.old) (with_run r x))
             result self.old self.new x }
         ensures down { GoesDown (stopped result) (weight self.old) (weight self.new) }
-        ensures spares { Spares self.old self.new }
-        ensures tells { Tells fault_count result self.old self.new }
+        ensures spares { Spares result self.old self.new }
     {
         if look.count == 0 {
             self.space.set_cell(TO_IN, look.behind);
@@ -83,7 +79,7 @@ impl<D: SectorDevice> Forth<D> {
         ensures passed { (n : ℕ) (levels : List Level) (x : World) → Stands self.old levels x → IsAtText levels
             → Passed n (λ r. after_text n levels (core self.old) (with_run r x)) (Ok result) self.old self.new x }
         ensures down { GoesDown (Ok result) (weight self.old) (weight self.new) }
-        ensures spares { Spares self.old self.new }
+        ensures spares { SparesAll self.old self.new }
     {
         levels();
         let Ok(entry) = self.returns.pop() else {
@@ -105,8 +101,7 @@ impl<D: SectorDevice> Forth<D> {
         ensures entered { (n : ℕ) (levels : List Level) (x : World) → Stands self.old levels x
             → Entered n (λ r. treated n levels (take count self.old.text) (core self.old) (with_run r x))
             result self.old self.new x }
-        ensures spares { Spares self.old self.new }
-        ensures tells { Tells fault_count result self.old self.new }
+        ensures spares { Spares result self.old self.new }
     {
         match self.lexicon.find(&self.text[..count]) {
             Some(token) => self.found(token),
@@ -123,8 +118,7 @@ impl<D: SectorDevice> Forth<D> {
             → Entered n (λ r. and_then
             (found_word n (λ a due c x. serve n a due c x) token (around_of levels) (core self.old) (with_run r x))
             (λ c x. left n levels c x)) result self.old self.new x }
-        ensures spares { Spares self.old self.new }
-        ensures tells { Tells fault_count result self.old self.new }
+        ensures spares { Spares result self.old self.new }
     {
         if self.is_compiling() {
             return self.found_in_definition(token);
@@ -145,8 +139,7 @@ impl<D: SectorDevice> Forth<D> {
             → Entered n (λ r. and_then
             (found_compiling n token (around_of levels) (core self.old) (with_run r x))
             (λ c x. left n levels c x)) result self.old self.new x }
-        ensures spares { Spares self.old self.new }
-        ensures tells { Tells fault_count result self.old self.new }
+        ensures spares { Spares result self.old self.new }
     {
         if !self.lexicon.is_immediate(token) {
             return self.add_word(token);
@@ -160,7 +153,7 @@ impl<D: SectorDevice> Forth<D> {
         requires idle { self.old.machine.pending ≡ None }
         ensures entered { (n : ℕ) (levels : List Level) (x : World) → Stands self.old levels x
             → Entered n (λ r. left n (Once token ∷ levels) (core self.old) (with_run r x)) (Ok tt) self.old self.new x }
-        ensures spares { Spares self.old self.new }
+        ensures spares { SparesAll self.old self.new }
     {
         let _ = self
             .machine
@@ -174,8 +167,7 @@ impl<D: SectorDevice> Forth<D> {
         ensures alters { Alters
             (λ a c x. with_base c x (λ c. number_value (number (system_cell base_cell c) (take count self.old.text)) c x))
             result self.old self.new }
-        ensures spares { Spares self.old self.new }
-        ensures tells { Tells fault_count result self.old self.new }
+        ensures spares { Spares result self.old self.new }
     {
         let base = cell_of(&self.space, BASE);
         if base < 2 {
@@ -196,8 +188,7 @@ impl<D: SectorDevice> Forth<D> {
     fn number_cell(&mut self, cell: u16) -> Result<(), Fault>
         requires sound { IsSoundLexicon self.old.lexicon }
         ensures alters { Alters (λ a c x. with_number cell c x) result self.old self.new }
-        ensures spares { Spares self.old self.new }
-        ensures tells { Tells fault_count result self.old self.new }
+        ensures spares { Spares result self.old self.new }
     {
         if self.is_compiling() {
             return self.add_literal(cell);
@@ -209,8 +200,7 @@ impl<D: SectorDevice> Forth<D> {
     fn number_cells(&mut self, double: u32) -> Result<(), Fault>
         requires sound { IsSound self.old }
         ensures alters { Alters (λ a c x. with_double double c x) result self.old self.new }
-        ensures spares { Spares self.old self.new }
-        ensures tells { Tells fault_count result self.old self.new }
+        ensures spares { Spares result self.old self.new }
     {
         match self.number_cell((double % 65536) as u16) {
             Ok(()) => self.number_cell((double / 65536) as u16),

@@ -19,7 +19,7 @@ impl<D: SectorDevice> Forth<D> {
     ghost use Rattle.interpreter.specs.Terminals.{expect_of, on_terminal};
     ghost use Rattle.system_words.specs.declared.words.TerminalWord.TheVariants.{Expect, Key};
     ghost use Rattle.interpreter.specs.Standing.{device};
-    ghost use Rattle.interpreter.specs.Serving.{Serves, Lasts, Tells};
+    ghost use Rattle.interpreter.specs.Serving.{Serves, Continues, Lasts, Tells};
     ghost use Rattle.interpreter.specs.Stops.{stop_count};
     ghost use Rattle.interpreter.specs.Reading.{io_of, StepOf};
 
@@ -73,9 +73,7 @@ impl<D: SectorDevice> Forth<D> {
         requires within { a + u ≤ 65536 }
         ensures serves { Serves T.Terminal (λ _ c x. expect_of x.run.terminal a u c x)
             result self.old self.new terminal.old terminal.new }
-        ensures lasts { Lasts D.SectorDevice T.Terminal result (device self.old) (device self.new) terminal.old terminal.new }
-        ensures tells { Tells stop_count result self.old self.new }
-        ensures budget { self.new.budget ≡ self.old.budget }
+        ensures continues { Continues T.Terminal result self.old self.new terminal.old terminal.new }
     {
         let mut room = Room { count: 0, left: u };
         let mut some = false;
@@ -98,9 +96,7 @@ impl<D: SectorDevice> Forth<D> {
     /// `EXPECT`.
     pub(crate) fn expect<T: Terminal>(&mut self, terminal: &mut T) -> Result<(), Stop>
         ensures serves { Serves T.Terminal (λ a c x. on_terminal Expect c x) result self.old self.new terminal.old terminal.new }
-        ensures lasts { Lasts D.SectorDevice T.Terminal result (device self.old) (device self.new) terminal.old terminal.new }
-        ensures tells { Tells stop_count result self.old self.new }
-        ensures budget { self.new.budget ≡ self.old.budget }
+        ensures continues { Continues T.Terminal result self.old self.new terminal.old terminal.new }
     {
         match self.pop_two() {
             Ok((u, a)) => {
@@ -116,9 +112,7 @@ impl<D: SectorDevice> Forth<D> {
     /// `KEY`.
     pub(crate) fn key<T: Terminal>(&mut self, terminal: &mut T) -> Result<(), Stop>
         ensures serves { Serves T.Terminal (λ a c x. on_terminal Key c x) result self.old self.new terminal.old terminal.new }
-        ensures lasts { Lasts D.SectorDevice T.Terminal result (device self.old) (device self.new) terminal.old terminal.new }
-        ensures tells { Tells stop_count result self.old self.new }
-        ensures budget { self.new.budget ≡ self.old.budget }
+        ensures continues { Continues T.Terminal result self.old self.new terminal.old terminal.new }
     {
         if self.stack.depth() >= 256 {
             return Err(Stop::Fault(Fault::StackFull));

@@ -59,10 +59,9 @@ impl<D: SectorDevice> Forth<D> {
     ghost use Rattle.interpreter.specs.Law.{left};
     ghost use Rattle.interpreter.specs.Lexicon.{language_of, IsDue};
     ghost use Rattle.interpreter.specs.Falls.{WhereFree};
-    ghost use Rattle.interpreter.specs.Standing.{core, device, Stands, IsSound};
-    ghost use Rattle.interpreter.specs.Serving.{Altered, Spares, Serves, Lasts, Tells};
-    ghost use Rattle.interpreter.specs.Stops.{fault_count, stop_count};
-    ghost use Rattle.interpreter.specs.Rounds.{RanRound, LastsRound, weight};
+    ghost use Rattle.interpreter.specs.Standing.{core, Stands, IsSound};
+    ghost use Rattle.interpreter.specs.Serving.{Altered, Spares, Serves, Continues};
+    ghost use Rattle.interpreter.specs.Rounds.{RanRound, ContinuesRound, weight};
 
     /// A service, by the family of its word.
     fn do_service<T: Terminal>(&mut self, service: Service, terminal: &mut T) -> Result<Round, Stop>
@@ -74,10 +73,7 @@ impl<D: SectorDevice> Forth<D> {
             (on_service (suc m) (λ a due c x. serve m a due c x) service
             (around_of levels) (core self.old) (with_run r x))
             (λ c x. left (suc m) levels c x)) result self.old self.new terminal.old terminal.new x }
-        ensures lasts { LastsRound D.SectorDevice T.Terminal result (device self.old) (device self.new)
-            terminal.old terminal.new }
-        ensures tells { Tells stop_count result self.old self.new }
-        ensures budget { self.new.budget ≡ self.old.budget }
+        ensures continues { ContinuesRound T.Terminal result self.old self.new terminal.old terminal.new }
     {
         match service {
             Service::OnTerminal(word) => goes_on(self.on_terminal(word, terminal)),
@@ -99,8 +95,7 @@ impl<D: SectorDevice> Forth<D> {
             → meanings (language_of x) token ≡ Outside
             → Altered (λ r. user_word f inner token (entry x.words token) (around_of levels) (core self.old) (with_run r x))
             result self.old self.new levels x }
-        ensures spares { Spares self.old self.new }
-        ensures tells { Tells fault_count result self.old self.new }
+        ensures spares { Spares result self.old self.new }
     {
         if !self.lexicon.is_vocabulary(token) {
             return Err(Fault::Token);
@@ -119,10 +114,7 @@ impl<D: SectorDevice> Forth<D> {
             → RanRound T.Terminal (suc m) (λ r. and_then
             (serve (suc m) (around_of levels) (Word token) (core self.old) (with_run r x))
             (λ c x. left (suc m) levels c x)) result self.old self.new terminal.old terminal.new x }
-        ensures lasts { LastsRound D.SectorDevice T.Terminal result (device self.old) (device self.new)
-            terminal.old terminal.new }
-        ensures tells { Tells stop_count result self.old self.new }
-        ensures budget { self.new.budget ≡ self.old.budget }
+        ensures continues { ContinuesRound T.Terminal result self.old self.new terminal.old terminal.new }
     {
         match service_of(token) {
             Some(service) => self.do_service(service, terminal),
@@ -135,9 +127,7 @@ impl<D: SectorDevice> Forth<D> {
         requires text { (s : List ℕ) × TextAt self.old.lexicon.code place s }
         ensures serves { (s : List ℕ) → TextAt self.old.lexicon.code place s
             → Serves T.Terminal (λ a c x. print s c x) result self.old self.new terminal.old terminal.new }
-        ensures lasts { Lasts D.SectorDevice T.Terminal result (device self.old) (device self.new) terminal.old terminal.new }
-        ensures tells { Tells stop_count result self.old self.new }
-        ensures budget { self.new.budget ≡ self.old.budget }
+        ensures continues { Continues T.Terminal result self.old self.new terminal.old terminal.new }
     {
         let count = self.lexicon.text(place, &mut self.text);
         let (text, _) = self.text.split_at(count);
@@ -150,9 +140,7 @@ impl<D: SectorDevice> Forth<D> {
         ensures serves { (s : List ℕ) → TextAt self.old.lexicon.code place s
             → Serves T.Terminal (λ a c x. and_then (print s c x) (λ c x. Ends Aborts c x))
             result self.old self.new terminal.old terminal.new }
-        ensures lasts { Lasts D.SectorDevice T.Terminal result (device self.old) (device self.new) terminal.old terminal.new }
-        ensures tells { Tells stop_count result self.old self.new }
-        ensures budget { self.new.budget ≡ self.old.budget }
+        ensures continues { Continues T.Terminal result self.old self.new terminal.old terminal.new }
     {
         match self.print_text_at(place, terminal) {
             Ok(()) => Err(Stop::Abort),
@@ -171,10 +159,7 @@ impl<D: SectorDevice> Forth<D> {
             (serve n (around_of levels) due (core self.old) (with_run r x)) (λ c x. left n levels c x))
             result self.old self.new terminal.old terminal.new x }
         ensures given { WhereFree op (weight self.new ≤ weight self.old) }
-        ensures lasts { LastsRound D.SectorDevice T.Terminal result (device self.old) (device self.new)
-            terminal.old terminal.new }
-        ensures tells { Tells stop_count result self.old self.new }
-        ensures budget { self.new.budget ≡ self.old.budget }
+        ensures continues { ContinuesRound T.Terminal result self.old self.new terminal.old terminal.new }
     {
         match op {
             Op::Word(token) => self.do_word(token, terminal),

@@ -16,17 +16,13 @@ impl<D: SectorDevice> Forth<D> {
     ghost use Rattle.lexicon.specs.Language.{Language};
     ghost use Rattle.lexicon.specs.Adding.{MayBeAdded};
     ghost use Rattle.lexicon.specs.Stands.{Stands as Means, IsSound, IsWord};
-    ghost use Rattle.interpreter.specs.Standing.{device};
-    ghost use Rattle.interpreter.specs.Serving.{HandsOn, LastsAlone, Tells};
-    ghost use Rattle.interpreter.specs.Stops.{fault_count};
+    ghost use Rattle.interpreter.specs.Serving.{HandsOn, ContinuesAlone};
     ghost use Rattle.interpreter.specs.Taken.{taken, take_cut, take_name};
 
     /// Takes the next word from the stream.
     pub(crate) fn take_word(&mut self, delimiter: u8) -> Result<usize, Fault>
         ensures hands { HandsOn (λ c x go. take_word delimiter c x go) (taken result self.new.text) self.old self.new }
-        ensures lasts { LastsAlone D.SectorDevice (device self.old) (device self.new) }
-        ensures tells { Tells fault_count result self.old self.new }
-        ensures budget { self.new.budget ≡ self.old.budget }
+        ensures continues { ContinuesAlone result self.old self.new }
         ensures lexicon { self.new.lexicon ≡ self.old.lexicon }
         ensures within { IfOk result (λ count. count ≤ 1024) }
         ensures whole { IfOk result (λ count. length (take count self.new.text) ≡ count) }
@@ -37,9 +33,7 @@ impl<D: SectorDevice> Forth<D> {
     /// Takes the next text from the stream, without skipping.
     pub(crate) fn take_text(&mut self, delimiter: u8) -> Result<usize, Fault>
         ensures hands { HandsOn (λ c x go. take_text delimiter c x go) (taken result self.new.text) self.old self.new }
-        ensures lasts { LastsAlone D.SectorDevice (device self.old) (device self.new) }
-        ensures tells { Tells fault_count result self.old self.new }
-        ensures budget { self.new.budget ≡ self.old.budget }
+        ensures continues { ContinuesAlone result self.old self.new }
         ensures lexicon { self.new.lexicon ≡ self.old.lexicon }
         ensures within { IfOk result (λ count. count ≤ 1024) }
         ensures whole { IfOk result (λ count. length (take count self.new.text) ≡ count) }
@@ -50,9 +44,7 @@ impl<D: SectorDevice> Forth<D> {
     /// Takes the next word or text from the stream.
     fn take(&mut self, cut: Cut, delimiter: u8) -> Result<usize, Fault>
         ensures hands { HandsOn (λ c x go. take_cut cut delimiter c x go) (taken result self.new.text) self.old self.new }
-        ensures lasts { LastsAlone D.SectorDevice (device self.old) (device self.new) }
-        ensures tells { Tells fault_count result self.old self.new }
-        ensures budget { self.new.budget ≡ self.old.budget }
+        ensures continues { ContinuesAlone result self.old self.new }
         ensures lexicon { self.new.lexicon ≡ self.old.lexicon }
         ensures within { IfOk result (λ count. count ≤ 1024) }
         ensures whole { IfOk result (λ count. length (take count self.new.text) ≡ count) }
@@ -69,9 +61,7 @@ impl<D: SectorDevice> Forth<D> {
     /// Takes a name.
     fn take_name(&mut self) -> Result<usize, Fault>
         ensures hands { HandsOn (λ c x go. take_name c x go) (taken result self.new.text) self.old self.new }
-        ensures lasts { LastsAlone D.SectorDevice (device self.old) (device self.new) }
-        ensures tells { Tells fault_count result self.old self.new }
-        ensures budget { self.new.budget ≡ self.old.budget }
+        ensures continues { ContinuesAlone result self.old self.new }
         ensures lexicon { self.new.lexicon ≡ self.old.lexicon }
         ensures within { IfOk result (λ count. count ≤ 1024) }
         ensures whole { IfOk result (λ count. length (take count self.new.text) ≡ count) }
@@ -90,9 +80,7 @@ impl<D: SectorDevice> Forth<D> {
     /// Takes the name of a word that the text interpreter finds.
     pub(crate) fn take_token(&mut self) -> Result<u16, Fault>
         ensures hands { HandsOn (λ c x go. take_token c x go) result self.old self.new }
-        ensures lasts { LastsAlone D.SectorDevice (device self.old) (device self.new) }
-        ensures tells { Tells fault_count result self.old self.new }
-        ensures budget { self.new.budget ≡ self.old.budget }
+        ensures continues { ContinuesAlone result self.old self.new }
         ensures lexicon { self.new.lexicon ≡ self.old.lexicon }
         ensures word { IfOk result (λ token. (x : Language) → Means self.new.lexicon x → IsWord x token) }
     {
@@ -108,9 +96,7 @@ impl<D: SectorDevice> Forth<D> {
     /// Takes the name of a word in the compilation vocabulary.
     pub(crate) fn take_current(&mut self) -> Result<u16, Fault>
         ensures hands { HandsOn (λ c x go. take_known in_current c x go) result self.old self.new }
-        ensures lasts { LastsAlone D.SectorDevice (device self.old) (device self.new) }
-        ensures tells { Tells fault_count result self.old self.new }
-        ensures budget { self.new.budget ≡ self.old.budget }
+        ensures continues { ContinuesAlone result self.old self.new }
         ensures lexicon { self.new.lexicon ≡ self.old.lexicon }
         ensures word { IfOk result (λ token. (x : Language) → Means self.new.lexicon x → IsWord x token) }
     {
@@ -127,9 +113,7 @@ impl<D: SectorDevice> Forth<D> {
     pub(crate) fn take_new_word(&mut self) -> Result<usize, Fault>
         requires sound { IsSound self.old.lexicon }
         ensures hands { HandsOn (λ c x go. take_new_word c x go) (taken result self.new.text) self.old self.new }
-        ensures lasts { LastsAlone D.SectorDevice (device self.old) (device self.new) }
-        ensures tells { Tells fault_count result self.old self.new }
-        ensures budget { self.new.budget ≡ self.old.budget }
+        ensures continues { ContinuesAlone result self.old self.new }
         ensures lexicon { self.new.lexicon ≡ self.old.lexicon }
         ensures within { IfOk result (λ count. count ≤ 1024) }
         ensures fits { IfOk result (λ count. MayBeAdded self.new.lexicon (take count self.new.text)) }

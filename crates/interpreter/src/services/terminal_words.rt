@@ -21,9 +21,7 @@ impl<D: SectorDevice> Forth<D> {
     ghost use Rattle.std.specs.Prelude.{◌∷◌, []};
     ghost use Rattle.system_words.specs.declared.words.TerminalWord.TheVariants.{Emit, NewLine, Blank, Blanks, TypeText};
     ghost use Rattle.interpreter.specs.Terminals.{print, on_terminal};
-    ghost use Rattle.interpreter.specs.Standing.{device};
-    ghost use Rattle.interpreter.specs.Serving.{Serves, Lasts, Tells};
-    ghost use Rattle.interpreter.specs.Stops.{stop_count};
+    ghost use Rattle.interpreter.specs.Serving.{Serves, Continues};
 
     /// A word that prints, or reads the input after the line.
     pub(crate) fn on_terminal<T: Terminal>(
@@ -32,9 +30,7 @@ impl<D: SectorDevice> Forth<D> {
         terminal: &mut T,
     ) -> Result<(), Stop>
         ensures serves { Serves T.Terminal (λ a c x. on_terminal word c x) result self.old self.new terminal.old terminal.new }
-        ensures lasts { Lasts D.SectorDevice T.Terminal result (device self.old) (device self.new) terminal.old terminal.new }
-        ensures tells { Tells stop_count result self.old self.new }
-        ensures budget { self.new.budget ≡ self.old.budget }
+        ensures continues { Continues T.Terminal result self.old self.new terminal.old terminal.new }
     {
         match word {
             TerminalWord::NewLine => self.new_line(terminal),
@@ -53,8 +49,7 @@ impl<D: SectorDevice> Forth<D> {
     /// Prints these bytes, in one call of the terminal.
     pub(crate) fn print<T: Terminal>(&self, bytes: &[u8], terminal: &mut T) -> Result<(), Stop>
         ensures serves { Serves T.Terminal (λ a c x. print bytes.now c x) result self.now self.now terminal.old terminal.new }
-        ensures lasts { Lasts D.SectorDevice T.Terminal result (device self.now) (device self.now) terminal.old terminal.new }
-        ensures tells { Tells stop_count result self.now self.now }
+        ensures continues { Continues T.Terminal result self.now self.now terminal.old terminal.new }
     {
         match terminal.emit(bytes) {
             Ok(()) => Ok(()),
@@ -65,9 +60,7 @@ impl<D: SectorDevice> Forth<D> {
     /// `EMIT`.
     fn emit<T: Terminal>(&mut self, terminal: &mut T) -> Result<(), Stop>
         ensures serves { Serves T.Terminal (λ a c x. on_terminal Emit c x) result self.old self.new terminal.old terminal.new }
-        ensures lasts { Lasts D.SectorDevice T.Terminal result (device self.old) (device self.new) terminal.old terminal.new }
-        ensures tells { Tells stop_count result self.old self.new }
-        ensures budget { self.new.budget ≡ self.old.budget }
+        ensures continues { Continues T.Terminal result self.old self.new terminal.old terminal.new }
     {
         match self.stack.pop() {
             Ok(cell) => self.print(&[(cell % 256) as u8], terminal),
@@ -78,9 +71,7 @@ impl<D: SectorDevice> Forth<D> {
     /// `CR`.
     fn new_line<T: Terminal>(&mut self, terminal: &mut T) -> Result<(), Stop>
         ensures serves { Serves T.Terminal (λ a c x. on_terminal NewLine c x) result self.old self.new terminal.old terminal.new }
-        ensures lasts { Lasts D.SectorDevice T.Terminal result (device self.old) (device self.new) terminal.old terminal.new }
-        ensures tells { Tells stop_count result self.old self.new }
-        ensures budget { self.new.budget ≡ self.old.budget }
+        ensures continues { Continues T.Terminal result self.old self.new terminal.old terminal.new }
     {
         self.print(b"\n", terminal)
     }
@@ -88,9 +79,7 @@ impl<D: SectorDevice> Forth<D> {
     /// `SPACE`.
     fn blank<T: Terminal>(&mut self, terminal: &mut T) -> Result<(), Stop>
         ensures serves { Serves T.Terminal (λ a c x. on_terminal Blank c x) result self.old self.new terminal.old terminal.new }
-        ensures lasts { Lasts D.SectorDevice T.Terminal result (device self.old) (device self.new) terminal.old terminal.new }
-        ensures tells { Tells stop_count result self.old self.new }
-        ensures budget { self.new.budget ≡ self.old.budget }
+        ensures continues { Continues T.Terminal result self.old self.new terminal.old terminal.new }
     {
         self.print(b" ", terminal)
     }
@@ -98,9 +87,7 @@ impl<D: SectorDevice> Forth<D> {
     /// `SPACES`.
     fn blanks<T: Terminal>(&mut self, terminal: &mut T) -> Result<(), Stop>
         ensures serves { Serves T.Terminal (λ a c x. on_terminal Blanks c x) result self.old self.new terminal.old terminal.new }
-        ensures lasts { Lasts D.SectorDevice T.Terminal result (device self.old) (device self.new) terminal.old terminal.new }
-        ensures tells { Tells stop_count result self.old self.new }
-        ensures budget { self.new.budget ≡ self.old.budget }
+        ensures continues { Continues T.Terminal result self.old self.new terminal.old terminal.new }
     {
         match self.stack.pop() {
             Ok(cell) => {
@@ -119,9 +106,7 @@ impl<D: SectorDevice> Forth<D> {
     fn type_text<T: Terminal>(&mut self, terminal: &mut T) -> Result<(), Stop>
         ensures serves { Serves T.Terminal (λ a c x. on_terminal TypeText c x)
             result self.old self.new terminal.old terminal.new }
-        ensures lasts { Lasts D.SectorDevice T.Terminal result (device self.old) (device self.new) terminal.old terminal.new }
-        ensures tells { Tells stop_count result self.old self.new }
-        ensures budget { self.new.budget ≡ self.old.budget }
+        ensures continues { Continues T.Terminal result self.old self.new terminal.old terminal.new }
     {
         match self.pop_two() {
             Ok((u, a)) => {

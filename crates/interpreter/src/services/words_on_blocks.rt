@@ -26,15 +26,12 @@ pub(crate) fn block_fault(fault: BlockFault) -> Fault
 impl<D: SectorDevice> Forth<D> {
     ghost use Rattle.system_words.specs.declared.words.BlockWord.TheVariants.{Block, Buffer, Flush, SaveBuffers, Update};
     ghost use Rattle.interpreter.specs.Blocking.{on_blocks};
-    ghost use Rattle.interpreter.specs.Standing.{device};
-    ghost use Rattle.interpreter.specs.Serving.{Consults, LastsAlone, Tells};
+    ghost use Rattle.interpreter.specs.Serving.{Consults, ContinuesAlone};
 
     /// A word on blocks.
     pub(crate) fn on_blocks(&mut self, word: BlockWord) -> Result<(), Fault>
         ensures consults { Consults (λ a c x. on_blocks word c x) result self.old self.new }
-        ensures lasts { LastsAlone D.SectorDevice (device self.old) (device self.new) }
-        ensures tells { Tells fault_count result self.old self.new }
-        ensures budget { self.new.budget ≡ self.old.budget }
+        ensures continues { ContinuesAlone result self.old self.new }
     {
         match word {
             BlockWord::Block => self.block(),
@@ -48,9 +45,7 @@ impl<D: SectorDevice> Forth<D> {
     /// `BLOCK`.
     fn block(&mut self) -> Result<(), Fault>
         ensures consults { Consults (λ a c x. on_blocks Block c x) result self.old self.new }
-        ensures lasts { LastsAlone D.SectorDevice (device self.old) (device self.new) }
-        ensures tells { Tells fault_count result self.old self.new }
-        ensures budget { self.new.budget ≡ self.old.budget }
+        ensures continues { ContinuesAlone result self.old self.new }
     {
         match self.stack.pop() {
             Ok(u) => match self.blocks.block(&mut self.space, u) {
@@ -67,9 +62,7 @@ impl<D: SectorDevice> Forth<D> {
     /// `BUFFER`.
     fn buffer(&mut self) -> Result<(), Fault>
         ensures consults { Consults (λ a c x. on_blocks Buffer c x) result self.old self.new }
-        ensures lasts { LastsAlone D.SectorDevice (device self.old) (device self.new) }
-        ensures tells { Tells fault_count result self.old self.new }
-        ensures budget { self.new.budget ≡ self.old.budget }
+        ensures continues { ContinuesAlone result self.old self.new }
     {
         match self.stack.pop() {
             Ok(u) => match self.blocks.buffer(&mut self.space, u) {
@@ -86,9 +79,7 @@ impl<D: SectorDevice> Forth<D> {
     /// `UPDATE`.
     fn update(&mut self) -> Result<(), Fault>
         ensures consults { Consults (λ a c x. on_blocks Update c x) result self.old self.new }
-        ensures lasts { LastsAlone D.SectorDevice (device self.old) (device self.new) }
-        ensures tells { Tells fault_count result self.old self.new }
-        ensures budget { self.new.budget ≡ self.old.budget }
+        ensures continues { ContinuesAlone result self.old self.new }
     {
         match self.blocks.update() {
             Ok(()) => Ok(()),
@@ -99,9 +90,7 @@ impl<D: SectorDevice> Forth<D> {
     /// `SAVE-BUFFERS`.
     fn save_buffers(&mut self) -> Result<(), Fault>
         ensures consults { Consults (λ a c x. on_blocks SaveBuffers c x) result self.old self.new }
-        ensures lasts { LastsAlone D.SectorDevice (device self.old) (device self.new) }
-        ensures tells { Tells fault_count result self.old self.new }
-        ensures budget { self.new.budget ≡ self.old.budget }
+        ensures continues { ContinuesAlone result self.old self.new }
     {
         match self.blocks.save_buffers(&self.space) {
             Ok(()) => Ok(()),
@@ -112,9 +101,7 @@ impl<D: SectorDevice> Forth<D> {
     /// `FLUSH`.
     fn flush(&mut self) -> Result<(), Fault>
         ensures consults { Consults (λ a c x. on_blocks Flush c x) result self.old self.new }
-        ensures lasts { LastsAlone D.SectorDevice (device self.old) (device self.new) }
-        ensures tells { Tells fault_count result self.old self.new }
-        ensures budget { self.new.budget ≡ self.old.budget }
+        ensures continues { ContinuesAlone result self.old self.new }
     {
         match self.blocks.flush(&self.space) {
             Ok(()) => Ok(()),

@@ -20,21 +20,21 @@ round-requires g c =
 pub rounds-preserved : goal.rounds-preserved
 rounds-preserved g c =
     let round = rw c.in-Ok-GoesOn.field-0-is at c.in-Ok-GoesOn.ensures.round in
-    let lasts = c.in-Ok-GoesOn.ensures.lasts in
+    let lasts = c.in-Ok-GoesOn.ensures.continues.lasts in
     record {
       round = λ n levels x less stands.
           let h = c.rounds.invariant.round n levels x less stands in
           round_then g.D.SectorDevice g.T.Terminal g.met.D.SectorDevice.counts_now g.met.D.SectorDevice.widens g.met.D.SectorDevice.only_now n c.rounds.invariant.lasts lasts h
           (round n h.levels h.world (omega (arith, h.steps, less)) h.stands);
       lasts = lasts_then g.D.SectorDevice g.T.Terminal g.met.D.SectorDevice.widens c.rounds.invariant.lasts lasts;
-      told = c.in-Ok-GoesOn.ensures.tells ∙ c.rounds.invariant.told;
-      budget = c.in-Ok-GoesOn.ensures.budget ∙ c.rounds.invariant.budget;
+      told = c.in-Ok-GoesOn.ensures.continues.tells ∙ c.rounds.invariant.told;
+      budget = c.in-Ok-GoesOn.ensures.continues.budget ∙ c.rounds.invariant.budget;
     }
 
 pub returns-in-Ok-Over-clause-ran : goal.returns-in-Ok-Over-clause-ran
 returns-in-Ok-Over-clause-ran g c = λ n levels x less stands.
     let round = rw c.in-Ok-Over.field-0-is at c.in-Ok-Over.ensures.round in
-    let lasts = c.in-Ok-Over.ensures.lasts in
+    let lasts = c.in-Ok-Over.ensures.continues.lasts in
     let h = c.rounds.invariant.round n levels x less stands in
     over_ran g.T.Terminal n
     (round_then g.D.SectorDevice g.T.Terminal g.met.D.SectorDevice.counts_now g.met.D.SectorDevice.widens g.met.D.SectorDevice.only_now n c.rounds.invariant.lasts lasts h
@@ -44,5 +44,5 @@ pub returns-in-Err-clause-ran : goal.returns-in-Err-clause-ran
 returns-in-Err-clause-ran g c = λ n levels x less stands.
     let h = c.rounds.invariant.round n levels x less stands in
     stopped_ran g.T.Terminal n
-    (round_then g.D.SectorDevice g.T.Terminal g.met.D.SectorDevice.counts_now g.met.D.SectorDevice.widens g.met.D.SectorDevice.only_now n c.rounds.invariant.lasts c.in-Err.ensures.lasts h
+    (round_then g.D.SectorDevice g.T.Terminal g.met.D.SectorDevice.counts_now g.met.D.SectorDevice.widens g.met.D.SectorDevice.only_now n c.rounds.invariant.lasts c.in-Err.ensures.continues.lasts h
     (c.in-Err.ensures.round n h.levels h.world (omega (arith, h.steps, less)) h.stands))

@@ -25,7 +25,7 @@ returns-in-Ok-clause-lined g c = λ opening waits.
     let opens = line_opens opening c.args.text.now c.args.self.now.budget (core c.take_line.new.self) waits.budget short (c.take_line.ensures.taken opening.core (record { stack = waits.same_core.stack; space = waits.same_core.space })) in
     let h = c.in-Ok.ensures.ran (suc c.args.self.now.budget) [] opening.world (omega (arith, c.take_line.ensures.steps)) (c.take_line.ensures.stands opening.world waits.rests) in
     lined_as g.T.Terminal _ c.finish.result c.args.self.now opening.world (λ r. refl) c.take_line.ensures.device refl
-    (over_lined g.D.SectorDevice g.T.Terminal D.counts_now D.widens D.only_now _ h opens c.in-Ok.ensures.lasts c.finish.ensures.lasts
+    (over_lined g.D.SectorDevice g.T.Terminal D.counts_now D.widens D.only_now _ h opens c.in-Ok.ensures.continues.lasts c.finish.ensures.lasts
     (c.finish.ensures.lined (core c.interpret.new.self) h.world (record { stack = refl; space = refl }) h.stands.rests))
 
 pub returns-in-Err-Io-clause-lined : goal.returns-in-Err-Io-clause-lined
@@ -46,7 +46,7 @@ returns-in-Err-Fault-clause-lined g c = λ opening waits.
     let opens = line_opens opening c.args.text.now c.args.self.now.budget (core c.take_line.new.self) waits.budget short (c.take_line.ensures.taken opening.core (record { stack = waits.same_core.stack; space = waits.same_core.space })) in
     let ran = rw c.in-Err-Fault.field-0-is at c.in-Err-Fault.ensures.ran in
     let h = ran (suc c.args.self.now.budget) [] opening.world (omega (arith, c.take_line.ensures.steps)) (c.take_line.ensures.stands opening.world waits.rests) in
-    let lasts = rw c.in-Err-Fault.field-0-is at c.in-Err-Fault.ensures.lasts in
+    let lasts = rw c.in-Err-Fault.field-0-is at c.in-Err-Fault.ensures.continues.lasts in
     lined_as g.T.Terminal _ c.fail-in-Err-Fault.result c.args.self.now opening.world (λ r. refl) c.take_line.ensures.device refl
     (ends_lined g.D.SectorDevice g.T.Terminal D.counts_now D.widens D.only_now _ (stop.Fault c.in-Err-Fault.fault) refl h opens lasts c.fail-in-Err-Fault.ensures.lasts
     (λ d like. c.fail-in-Err-Fault.ensures.lined d h.world (record { space = like }) h.stands))
@@ -58,7 +58,7 @@ returns-in-Err-Quit-clause-lined g c = λ opening waits.
     let opens = line_opens opening c.args.text.now c.args.self.now.budget (core c.take_line.new.self) waits.budget short (c.take_line.ensures.taken opening.core (record { stack = waits.same_core.stack; space = waits.same_core.space })) in
     let ran = rw c.in-Err-Quit.field-0-is at c.in-Err-Quit.ensures.ran in
     let h = ran (suc c.args.self.now.budget) [] opening.world (omega (arith, c.take_line.ensures.steps)) (c.take_line.ensures.stands opening.world waits.rests) in
-    let lasts = rw c.in-Err-Quit.field-0-is at c.in-Err-Quit.ensures.lasts in
+    let lasts = rw c.in-Err-Quit.field-0-is at c.in-Err-Quit.ensures.continues.lasts in
     lined_as g.T.Terminal _ c.quit.result c.args.self.now opening.world (λ r. refl) c.take_line.ensures.device refl
     (ends_lined g.D.SectorDevice g.T.Terminal D.counts_now D.widens D.only_now _ stop.Quit refl h opens lasts c.quit.ensures.lasts
     (λ d like. c.quit.ensures.lined d h.world (record { stack = ap (λ e. e.stack) like; space = ap (λ e. e.space) like }) h.stands))
@@ -70,7 +70,7 @@ returns-in-Err-Abort-clause-lined g c = λ opening waits.
     let opens = line_opens opening c.args.text.now c.args.self.now.budget (core c.take_line.new.self) waits.budget short (c.take_line.ensures.taken opening.core (record { stack = waits.same_core.stack; space = waits.same_core.space })) in
     let ran = rw c.in-Err-Abort.field-0-is at c.in-Err-Abort.ensures.ran in
     let h = ran (suc c.args.self.now.budget) [] opening.world (omega (arith, c.take_line.ensures.steps)) (c.take_line.ensures.stands opening.world waits.rests) in
-    let lasts = rw c.in-Err-Abort.field-0-is at c.in-Err-Abort.ensures.lasts in
+    let lasts = rw c.in-Err-Abort.field-0-is at c.in-Err-Abort.ensures.continues.lasts in
     lined_as g.T.Terminal _ c.abort.result c.args.self.now opening.world (λ r. refl) c.take_line.ensures.device refl
     (ends_lined g.D.SectorDevice g.T.Terminal D.counts_now D.widens D.only_now _ stop.Abort refl h opens lasts c.abort.ensures.lasts
     (λ d like. c.abort.ensures.lined d h.world (record { space = like }) h.stands))
@@ -80,28 +80,28 @@ returns-then-text-gt-LINE_LIMIT-clause-tells g c = counts_as c.fail.result _ _ _
 
 pub returns-in-Ok-clause-tells : goal.returns-in-Ok-clause-tells
 returns-in-Ok-clause-tells g c =
-    counts_as c.finish.result _ _ _ (c.finish.ensures.tells ∙ c.in-Ok.ensures.tells ∙ same_count g.D.SectorDevice c.take_line.ensures.device) (c.finish.ensures.counts _)
+    counts_as c.finish.result _ _ _ (c.finish.ensures.tells ∙ c.in-Ok.ensures.continues.tells ∙ same_count g.D.SectorDevice c.take_line.ensures.device) (c.finish.ensures.counts _)
 
 pub returns-in-Err-Fault-clause-tells : goal.returns-in-Err-Fault-clause-tells
 returns-in-Err-Fault-clause-tells g c =
-    let told = rw c.in-Err-Fault.field-0-is at c.in-Err-Fault.ensures.tells in
+    let told = rw c.in-Err-Fault.field-0-is at c.in-Err-Fault.ensures.continues.tells in
     counts_as c.fail-in-Err-Fault.result _ _ _
     (c.fail-in-Err-Fault.ensures.tells ∙ told ∙ ap (λ n. fault_count c.in-Err-Fault.fault n) (same_count g.D.SectorDevice c.take_line.ensures.device))
     (c.fail-in-Err-Fault.ensures.counts _)
 
 pub returns-in-Err-Quit-clause-tells : goal.returns-in-Err-Quit-clause-tells
 returns-in-Err-Quit-clause-tells g c =
-    let told = rw c.in-Err-Quit.field-0-is at c.in-Err-Quit.ensures.tells in
+    let told = rw c.in-Err-Quit.field-0-is at c.in-Err-Quit.ensures.continues.tells in
     counts_as c.quit.result _ _ _ (c.quit.ensures.tells ∙ told ∙ same_count g.D.SectorDevice c.take_line.ensures.device) (c.quit.ensures.counts _)
 
 pub returns-in-Err-Abort-clause-tells : goal.returns-in-Err-Abort-clause-tells
 returns-in-Err-Abort-clause-tells g c =
-    let told = rw c.in-Err-Abort.field-0-is at c.in-Err-Abort.ensures.tells in
+    let told = rw c.in-Err-Abort.field-0-is at c.in-Err-Abort.ensures.continues.tells in
     counts_as c.abort.result _ _ _ (c.abort.ensures.tells ∙ told ∙ same_count g.D.SectorDevice c.take_line.ensures.device) (c.abort.ensures.counts _)
 
 pub returns-in-Err-Io-clause-tells : goal.returns-in-Err-Io-clause-tells
 returns-in-Err-Io-clause-tells g c =
-    let told = rw c.in-Err-Io.field-0-is at c.in-Err-Io.ensures.tells in
+    let told = rw c.in-Err-Io.field-0-is at c.in-Err-Io.ensures.continues.tells in
     inl (same_count g.D.SectorDevice c.abandon.ensures.spares.device ∙ told ∙ same_count g.D.SectorDevice c.take_line.ensures.device)
 
 pub returns-then-text-gt-LINE_LIMIT-clause-clears : goal.returns-then-text-gt-LINE_LIMIT-clause-clears
@@ -115,7 +115,7 @@ returns-in-Ok-clause-clears g c =
 pub returns-in-Ok-clause-spends : goal.returns-in-Ok-clause-spends
 returns-in-Ok-clause-spends g c =
     let h = c.in-Ok.ensures.ran (suc c.args.self.now.budget) [] c.requires.sound.0 (omega (arith, c.take_line.ensures.steps)) (c.take_line.ensures.stands c.requires.sound.0 c.requires.sound.1) in
-    omega (arith, h.steps, c.take_line.ensures.steps, c.finish.ensures.steps, c.take_line.ensures.budget, c.in-Ok.ensures.budget, c.finish.ensures.budget)
+    omega (arith, h.steps, c.take_line.ensures.steps, c.finish.ensures.steps, c.take_line.ensures.budget, c.in-Ok.ensures.continues.budget, c.finish.ensures.budget)
 
 pub returns-in-Err-Fault-clause-clears : goal.returns-in-Err-Fault-clause-clears
 returns-in-Err-Fault-clause-clears g c =
@@ -127,7 +127,7 @@ pub returns-in-Err-Fault-clause-spends : goal.returns-in-Err-Fault-clause-spends
 returns-in-Err-Fault-clause-spends g c =
     let ran = rw c.in-Err-Fault.field-0-is at c.in-Err-Fault.ensures.ran in
     let h = ran (suc c.args.self.now.budget) [] c.requires.sound.0 (omega (arith, c.take_line.ensures.steps)) (c.take_line.ensures.stands c.requires.sound.0 c.requires.sound.1) in
-    omega (arith, h.steps, c.take_line.ensures.steps, c.fail-in-Err-Fault.ensures.steps, c.take_line.ensures.budget, c.in-Err-Fault.ensures.budget, c.fail-in-Err-Fault.ensures.budget)
+    omega (arith, h.steps, c.take_line.ensures.steps, c.fail-in-Err-Fault.ensures.steps, c.take_line.ensures.budget, c.in-Err-Fault.ensures.continues.budget, c.fail-in-Err-Fault.ensures.budget)
 
 pub returns-in-Err-Quit-clause-clears : goal.returns-in-Err-Quit-clause-clears
 returns-in-Err-Quit-clause-clears g c =
@@ -139,7 +139,7 @@ pub returns-in-Err-Quit-clause-spends : goal.returns-in-Err-Quit-clause-spends
 returns-in-Err-Quit-clause-spends g c =
     let ran = rw c.in-Err-Quit.field-0-is at c.in-Err-Quit.ensures.ran in
     let h = ran (suc c.args.self.now.budget) [] c.requires.sound.0 (omega (arith, c.take_line.ensures.steps)) (c.take_line.ensures.stands c.requires.sound.0 c.requires.sound.1) in
-    omega (arith, h.steps, c.take_line.ensures.steps, c.quit.ensures.steps, c.take_line.ensures.budget, c.in-Err-Quit.ensures.budget, c.quit.ensures.budget)
+    omega (arith, h.steps, c.take_line.ensures.steps, c.quit.ensures.steps, c.take_line.ensures.budget, c.in-Err-Quit.ensures.continues.budget, c.quit.ensures.budget)
 
 pub returns-in-Err-Abort-clause-clears : goal.returns-in-Err-Abort-clause-clears
 returns-in-Err-Abort-clause-clears g c =
@@ -151,7 +151,7 @@ pub returns-in-Err-Abort-clause-spends : goal.returns-in-Err-Abort-clause-spends
 returns-in-Err-Abort-clause-spends g c =
     let ran = rw c.in-Err-Abort.field-0-is at c.in-Err-Abort.ensures.ran in
     let h = ran (suc c.args.self.now.budget) [] c.requires.sound.0 (omega (arith, c.take_line.ensures.steps)) (c.take_line.ensures.stands c.requires.sound.0 c.requires.sound.1) in
-    omega (arith, h.steps, c.take_line.ensures.steps, c.abort.ensures.steps, c.take_line.ensures.budget, c.in-Err-Abort.ensures.budget, c.abort.ensures.budget)
+    omega (arith, h.steps, c.take_line.ensures.steps, c.abort.ensures.steps, c.take_line.ensures.budget, c.in-Err-Abort.ensures.continues.budget, c.abort.ensures.budget)
 
 pub returns-in-Err-Io-clause-clears : goal.returns-in-Err-Io-clause-clears
 returns-in-Err-Io-clause-clears g c =
@@ -163,4 +163,4 @@ pub returns-in-Err-Io-clause-spends : goal.returns-in-Err-Io-clause-spends
 returns-in-Err-Io-clause-spends g c =
     let ran = rw c.in-Err-Io.field-0-is at c.in-Err-Io.ensures.ran in
     let h = ran (suc c.args.self.now.budget) [] c.requires.sound.0 (omega (arith, c.take_line.ensures.steps)) (c.take_line.ensures.stands c.requires.sound.0 c.requires.sound.1) in
-    omega (arith, h.steps, c.take_line.ensures.steps, c.abandon.ensures.steps, c.take_line.ensures.budget, c.in-Err-Io.ensures.budget, c.abandon.ensures.spares.budget)
+    omega (arith, h.steps, c.take_line.ensures.steps, c.abandon.ensures.steps, c.take_line.ensures.budget, c.in-Err-Io.ensures.continues.budget, c.abandon.ensures.spares.budget)

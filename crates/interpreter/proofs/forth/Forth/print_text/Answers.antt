@@ -6,7 +6,7 @@ pub returns-in-Ok-clause-serves : goal.returns-in-Ok-clause-serves
 returns-in-Ok-clause-serves g c = λ levels x stands.
     let h = c.in-Ok.ensures.hands levels x stands in
     handed_ran g.D.SectorDevice g.T.Terminal g.met.D.SectorDevice.counts_now g.met.D.SectorDevice.widens g.met.D.SectorDevice.only_now (λ s c x. print s c x) c.args.self.now c.take_text.new.self _
-    c.in-Ok.ensures.lasts c.print.ensures.lasts h (c.print.ensures.serves levels h.world h.stands)
+    c.in-Ok.ensures.continues.lasts c.print.ensures.continues.lasts h (c.print.ensures.serves levels h.world h.stands)
 
 pub returns-in-Err-clause-serves : goal.returns-in-Err-clause-serves
 returns-in-Err-clause-serves g c = λ levels x stands.
