@@ -51,6 +51,8 @@ impl<H: Host> SectorDevice for HostDisk<H> {
 
     ghost present = { λ d keeps. H.present d.host keeps };
 
+    ghost by_sectors = { λ d k keeps. H.by_sectors d.host k keeps };
+
     ghost counts_now = { λ d t c le now. H.counts_now d.host t c le now };
 
     ghost only_now = { λ d c since. H.only_now d.host c since };

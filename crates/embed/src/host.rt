@@ -95,6 +95,9 @@ pub trait Host {
     /// A stop now may leave the present content.
     ghost present: { (h : Self) → IsTrue (keeps_model h) → MayLeave (disk h) (disk h).content };
 
+    /// Each sector is a unit of its own: a write spoils no other one.
+    ghost by_sectors: { (h : Self) (k : ℕ) → IsTrue (keeps_model h) → (disk h).unit k ≡ k };
+
     /// A stop now counts since any time until now.
     ghost counts_now: { (h : Self) (t : ℕ) (c : Image) → t ≤ time h → MayLeave (disk h) c → left_since h t c };
 
@@ -125,7 +128,7 @@ impl Host for Numbered {
 
     ghost keeps_model = { λ h. false };
 
-    ghost disk = { λ h. record { content = λ k. []; synced = λ k. []; unsynced = λ k. true } };
+    ghost disk = { λ h. record { content = λ k. []; synced = λ k. []; unsynced = λ k. true; unit = λ k. k } };
 
     ghost asked = { λ h. [] };
 
@@ -134,6 +137,8 @@ impl Host for Numbered {
     ghost left_since = { λ h t c. Unit {0} };
 
     ghost present = { λ h keeps k synced. Prim.cc };
+
+    ghost by_sectors = { λ h k keeps. Prim.cc };
 
     ghost counts_now = { λ h t c le now. tt };
 

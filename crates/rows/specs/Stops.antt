@@ -25,7 +25,7 @@ after_calls disk (call ∷ calls) = after_calls (after_call disk call) calls
 
 -- a disk that holds this image, all of it synced
 abbrev pub synced_disk : Image → Disk
-synced_disk image = record { content = image; synced = image; unsynced = λ _. false }
+synced_disk image = record { content = image; synced = image; unsynced = λ _. false; unit = λ k. k }
 
 -- ---- what a stop leaves
 

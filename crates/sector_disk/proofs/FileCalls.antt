@@ -81,10 +81,10 @@ module _ (k : ℕ) (f g : FileBytes) (xs : List ℕ) (synced : g.synced ≡ f.sy
   ]
 
   pub is_written : disk_of_file g ≡ written (disk_of_file f) k xs
-  is_written = parts (fun_ext content_at) (ap sector_of synced) (fun_ext marks_at)
+  is_written = parts (fun_ext content_at) (ap sector_of synced) (fun_ext marks_at) refl
     where
-      parts : {a b : Disk} → a.content ≡ b.content → a.synced ≡ b.synced → a.unsynced ≡ b.unsynced → a ≡ b
-      parts one two three = grind (arith, one, two, three)
+      parts : {a b : Disk} → a.content ≡ b.content → a.synced ≡ b.synced → a.unsynced ≡ b.unsynced → a.unit ≡ b.unit → a ≡ b
+      parts one two three four = grind (arith, one, two, three, four)
 
 misses : (j k : ℕ) → j ≢ k → Misses (512 * k) 512 j
 misses j k not = ⊎_elim (λ low. inl (omega (arith, low))) (λ high. inr (omega (arith, high, not))) (cases_lt j k)
@@ -102,12 +102,12 @@ one_spoiled k f g spoils =
     (λ marked. inr (sector_of g.content k, is_written k f g (sector_of g.content k) spoils.synced (λ j not. spoils.missed j (misses j k not)) marked refl))
     (spoils.touched k)
   where
-    parts : {a b : Disk} → a.content ≡ b.content → a.synced ≡ b.synced → a.unsynced ≡ b.unsynced → a ≡ b
-    parts one two three = grind (arith, one, two, three)
+    parts : {a b : Disk} → a.content ≡ b.content → a.synced ≡ b.synced → a.unsynced ≡ b.unsynced → a.unit ≡ b.unit → a ≡ b
+    parts one two three four = grind (arith, one, two, three, four)
 
     all_same : ((j : ℕ) → SameSector j f g) → disk_of_file g ≡ disk_of_file f
     all_same each =
-        parts (fun_ext (λ j. same_sector g.content f.content j (each j).bytes)) (ap sector_of spoils.synced) (fun_ext (λ j. (each j).unsynced))
+        parts (fun_ext (λ j. same_sector g.content f.content j (each j).bytes)) (ap sector_of spoils.synced) (fun_ext (λ j. (each j).unsynced)) refl
 
 -- the first n bytes, and then m more
 pub puts_then : (at : ℕ) (bytes : List ℕ) (n : ℕ) (rest : List ℕ) (m size : ℕ) (f g h : FileBytes) → ((i : ℕ) → i < m → slice_index rest i ≡ slice_index bytes (n + i))

@@ -11,6 +11,9 @@ pub record Disk : Type 0 where
   pub content : Image
   pub synced : Image
   pub unsynced : ℕ → Bool
+  -- The number of a sector's unit, which is the sector itself where units are sectors. A write may spoil each sector of
+  -- its unit.
+  pub unit : ℕ → ℕ
 
 -- A stop may leave this image: a sector whose last write no sync has followed holds any bytes, each other one what it
 -- held at the last sync.
@@ -30,7 +33,8 @@ abbrev pub written : Disk → ℕ → List ℕ → Disk
 written disk k bytes = record {
   content = with_sector disk.content k bytes;
   synced = disk.synced;
-  unsynced = λ j. if j == k then true else disk.unsynced j;
+  unsynced = λ j. if disk.unit j == disk.unit k then true else disk.unsynced j;
+  unit = disk.unit;
 }
 
 -- After a write that failed, the disk is as before, or as after a write of any bytes to that sector.
@@ -39,10 +43,11 @@ MayWrite k old new = (new ≡ old) ⊎ ((bytes : List ℕ) × (new ≡ written o
 
 -- the disk after a sync
 abbrev pub settled : Disk → Disk
-settled disk = record { content = disk.content; synced = disk.content; unsynced = λ _. false }
+settled disk = record { content = disk.content; synced = disk.content; unsynced = λ _. false; unit = disk.unit }
 
 -- A sync that failed settled nothing: a stop may leave what it might have left before.
 -- What a read gives may have changed within that, as where bytes that hadn't reached the disk were given up.
 pub record SettlesNothing (old new : Disk) : Type 0 where
   pub synced : new.synced ≡ old.synced
   pub unsynced : new.unsynced ≡ old.unsynced
+  pub unit : new.unit ≡ old.unit

@@ -24,6 +24,7 @@ disk_of_file file = record {
   content = sector_of file.content;
   synced = sector_of file.synced;
   unsynced = file.unsynced;
+  unit = λ k. k;
 }
 
 -- the file after a sync

@@ -23,6 +23,7 @@ disk_of sectors = record {
   content = λ k. present_bytes (sector_at sectors k);
   synced = λ k. (sector_at sectors k).synced;
   unsynced = λ k. is_some (sector_at sectors k).unsynced;
+  unit = λ k. k;
 }
 
 abbrev pub settled_sector : Sector → Sector

@@ -134,6 +134,9 @@ pub trait SectorDevice {
     /// A stop now may leave the present content.
     ghost present: { (d : Self) → IsTrue (keeps_model d) → MayLeave (disk d) (disk d).content };
 
+    /// Each sector is a unit of its own: a write spoils no other one.
+    ghost by_sectors: { (d : Self) (k : ℕ) → IsTrue (keeps_model d) → (disk d).unit k ≡ k };
+
     /// A stop now counts since any time until now.
     ghost counts_now: { (d : Self) (t : ℕ) (c : Image) → t ≤ time d → MayLeave (disk d) c → left_since d t c };
 

@@ -75,6 +75,8 @@ impl<H: HostFile> SectorDevice for SectorFile<H> {
 
     ghost present = { λ f keeps. H.present f.file keeps };
 
+    ghost by_sectors = { λ f k keeps. Prim.cc };
+
     ghost counts_now = { λ f t c le now. H.counts_now f.file t c le now };
 
     ghost only_now = { λ f c since. H.only_now f.file c since };

@@ -154,6 +154,8 @@ impl<D: SectorDevice> SectorDevice for Fused<D> {
 
     ghost present = { λ f keeps. D.present f.device keeps };
 
+    ghost by_sectors = { λ f k keeps. D.by_sectors f.device k keeps };
+
     ghost counts_now = { λ f t c le now. D.counts_now f.device t c le now };
 
     ghost only_now = { λ f c since. D.only_now f.device c since };

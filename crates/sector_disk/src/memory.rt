@@ -163,6 +163,8 @@ impl SectorDevice for MemoryDisk {
 
     ghost present = { λ d _. present_of d.sectors.items };
 
+    ghost by_sectors = { λ d k keeps. Prim.cc };
+
     ghost counts_now = { λ d t c le now. now };
 
     ghost only_now = { λ d c now. now };

@@ -110,6 +110,8 @@ impl SectorDevice for Recorded {
 
     ghost present = { λ d keeps. present_of d.device.sectors.items };
 
+    ghost by_sectors = { λ d k keeps. Prim.cc };
+
     ghost counts_now = { λ d t c le now. inr now };
 
     ghost only_now = { λ d c since. now_alone d.past.items (held d.device) c since };
