@@ -5,6 +5,8 @@
 #[cfg(test)]
 mod buffers;
 #[cfg(test)]
+mod coarse;
+#[cfg(test)]
 mod contents;
 #[cfg(test)]
 mod file;

@@ -3,6 +3,7 @@
 use Rattle.std.specs.Prelude.{◌≡◌, ◌==◌, ◌&&◌, ◌||◌, not, ℕ, zero, suc, Bool, true, false, nat_eq, nat_lt, if◌then◌else◌, List, [], ◌∷◌, ◌++◌, codes, map, replicate, refl}
 use Rattle.std.specs.List.{flat_map, list_all}
 use lib.Pointwise.{pointwise}
+use Rattle.sector_disk.specs.Coarse.{in_eights}
 use Rattle.sector_disk.specs.Disk.{Image, Disk, written, settled}
 use Rattle.sector_disk.specs.Stop.{stopped}
 use Rattle.sector_disk.specs.declared.memory.Fate.{Fate}
@@ -156,6 +157,26 @@ one_sync_for_homes_and_gate = refl
 
 first_sync_left_out : keeps_either disk_with_an_unsynced_gate (home_writes ++ Sync ∷ Write 1 closed_gate ∷ Sync ∷ []) ≡ false
 first_sync_left_out = refl
+
+-- ---- where sectors lie in units of eight, the same save loses a block
+
+-- The first home is written, under the open gate: the sectors 64 to 71 are unsynced.
+abbrev pub half_saved : Disk
+half_saved = after_calls (in_eights 131 disk_at_rest) (slot_writes ++ the_record ∷ Sync ∷ Write 1 open_gate ∷ Sync ∷ Write 69 (65 ∷ 65 ∷ []) ∷ [])
+
+-- All of them are kept but sector 67, which is torn: there is the first half of block 0, which isn't saved at all.
+abbrev pub torn_neighbour : Image
+torn_neighbour = stopped half_saved (Kept ∷ Kept ∷ Kept ∷ Torn (255 ∷ 255 ∷ []) ∷ Kept ∷ Kept ∷ Kept ∷ Kept ∷ [])
+
+abbrev pub other_blocks : List ℕ
+other_blocks = 255 ∷ 255 ∷ 32 ∷ 32 ∷ replicate 4 65 ++ replicate 4 66 ++ replicate 8 32
+
+neither_old_nor_new : first_blocks torn_neighbour ≡ other_blocks
+neither_old_nor_new = refl
+
+-- A recovery of it leaves block 0 as it is.
+lost_for_good : first_blocks (after_calls (in_eights 131 (synced_disk torn_neighbour)) a_recovery).content ≡ other_blocks
+lost_for_good = refl
 
 -- ---- no stop leaves a damaged image
 

@@ -2,3 +2,4 @@ pub mod Fates
 pub mod FileCalls
 pub mod Histories
 pub mod Moments
+pub mod Units

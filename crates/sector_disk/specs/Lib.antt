@@ -1,3 +1,4 @@
+pub mod Coarse
 pub mod Counting
 pub mod Disk
 pub mod FileBytes

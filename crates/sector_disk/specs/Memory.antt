@@ -1,5 +1,5 @@
 -- What a disk in memory holds.
-use Rattle.std.specs.Prelude.{ℕ, List, [], replicate, slice_index_or, None, unwrap_or, is_some}
+use Rattle.std.specs.Prelude.{ℕ, List, [], replicate, slice_index_or, Some, None, unwrap_or, is_some}
 use Rattle.sector_disk.specs.Disk.{Disk}
 use Rattle.sector_disk.specs.Stop.{stopped}
 use Rattle.sector_disk.specs.declared.memory.Sector.{Sector}
@@ -25,6 +25,10 @@ disk_of sectors = record {
   unsynced = λ k. is_some (sector_at sectors k).unsynced;
   unit = λ k. k;
 }
+
+-- a sector with the bytes that it holds, as if they had just been written
+abbrev pub touched_sector : Sector → Sector
+touched_sector sector = record { synced = sector.synced; unsynced = Some (present_bytes sector) }
 
 abbrev pub settled_sector : Sector → Sector
 settled_sector sector = record { synced = present_bytes sector; unsynced = None }

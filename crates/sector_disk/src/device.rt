@@ -71,7 +71,7 @@ pub trait SectorDevice {
     ghost sector_count: { Self → ℕ };
 
     /// Whether it keeps the disk model, which is known of a disk in memory. Of a file no contract can know it, so a
-    /// file says false and nothing is said of its bytes.
+    /// file says false and nothing is said of its bytes. A disk whose sectors lie in larger units doesn't keep it.
     ghost keeps_model: { Self → Bool };
 
     /// What it holds.

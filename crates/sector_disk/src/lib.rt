@@ -1,6 +1,7 @@
 //! Devices of sectors of 512 bytes.
 #![tactic(auto)]
 
+mod coarse;
 mod device;
 mod file;
 mod fused;
@@ -13,6 +14,7 @@ mod std_files;
 mod tearing;
 mod whole;
 
+pub use coarse::Coarse;
 pub use device::{Counts, DeviceFault, SectorDevice};
 pub use file::SectorFile;
 pub use fused::Fused;

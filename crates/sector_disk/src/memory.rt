@@ -2,7 +2,7 @@
 ghost use Rattle.std.specs.Prelude.{◌≡◌, ◌⊎◌, ℕ, ◌<◌, ◌≤◌, ◌^◌, Bool, true, false, IsTrue, IsOk, OnOk, OnErr, IfOk, length, replicate};
 ghost use Rattle.std.proofs.Common.{inl, inr};
 ghost use Rattle.sector_disk.specs.Disk.{Disk, Image, MayLeave};
-ghost use Rattle.sector_disk.specs.Memory.{zeros, sector_at, settled_sector, stopped_sector, disk_of};
+ghost use Rattle.sector_disk.specs.Memory.{zeros, sector_at, touched_sector, settled_sector, stopped_sector, disk_of};
 ghost use Rattle.sector_disk.specs.Stop.{stopped, IsSector, CanLeave};
 
 use crate::{Counts, DeviceFault, SectorDevice};
@@ -94,6 +94,20 @@ impl MemoryDisk {
         meet_fates(&mut self.sectors, fates);
         self
     }
+
+    // Makes the sectors from `first` to `end` unsynced, with the bytes that they hold.
+    pub(crate) fn touch(&mut self, first: u32, end: u32)
+        requires order { first ≤ end }
+        requires within { end ≤ size self.old }
+        ensures sectors { size self.new ≡ size self.old }
+        ensures content { (k : ℕ) → (held self.new).content k ≡ (held self.old).content k }
+        ensures synced { (k : ℕ) → (held self.new).synced k ≡ (held self.old).synced k }
+        ensures touched { (k : ℕ) → first ≤ k → k < end → (held self.new).unsynced k ≡ true }
+        ensures others { (k : ℕ) → (k < first) ⊎ (end ≤ k) → (held self.new).unsynced k ≡ (held self.old).unsynced k }
+        ensures counts { begun self.new ≡ begun self.old }
+    {
+        touch_sectors(&mut self.sectors, first as usize, end as usize);
+    }
 }
 
 // So many sectors of zeros, all of them synced. Each is made in its place and not copied, so that of what isn't written yet
@@ -127,6 +141,27 @@ fn meet_fates(sectors: &mut [Sector], fates: &[Fate])
             sector.unsynced = None;
             met += 1;
         }
+    }
+}
+
+// Makes the sectors from `first` to `end` unsynced, with the bytes that they hold.
+fn touch_sectors(sectors: &mut [Sector], first: usize, end: usize)
+    requires order { first ≤ end }
+    requires within { end ≤ length sectors.old }
+    ensures length { length sectors.new ≡ length sectors.old }
+    ensures touched { (k : ℕ) → first ≤ k → k < end → sector_at sectors.new k ≡ touched_sector (sector_at sectors.old k) }
+    ensures others { (k : ℕ) → (k < first) ⊎ (end ≤ k) → sector_at sectors.new k ≡ sector_at sectors.old k }
+{
+    for k in first..end {
+        touch_sector(&mut sectors[k]);
+    }
+}
+
+fn touch_sector(sector: &mut Sector)
+    ensures { sector.new ≡ touched_sector sector.old }
+{
+    if sector.unsynced.is_none() {
+        sector.unsynced = Some(sector.synced);
     }
 }
 
