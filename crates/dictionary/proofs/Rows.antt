@@ -2,7 +2,7 @@
 use Rattle.std.proofs.Common.{◌≡◌, ℕ, true, false, List, [], length, codes, Some, None, refl}
 use Rattle.dictionary.specs.declared.Kind.TheVariants as given
 use Rattle.dictionary.specs.declared.DictionaryFault.TheVariants.{Protected, NotCreated, NameLength}
-use Rattle.dictionary.specs.Words.{find, forth_token}
+use Rattle.dictionary.specs.Words.{find, forth_token, system_count}
 use Rattle.dictionary.specs.System.{compile_only_token}
 use Rattle.dictionary.specs.Dictionary.{Dictionary, first_dictionary, with_word, add_refusal, immediate_refusal, does_refusal, forget_refusal, forgotten}
 
@@ -16,7 +16,7 @@ semicolon_token = refl
 forth_is_itself : find first_dictionary.words forth_token (codes "FORTH") ≡ Some forth_token
 forth_is_itself = refl
 
-system_words : length first_dictionary.words ≡ 132
+system_words : length first_dictionary.words ≡ system_count
 system_words = refl
 
 lower_case : find first_dictionary.words forth_token (codes "dup") ≡ None

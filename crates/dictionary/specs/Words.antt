@@ -1,6 +1,7 @@
 -- The dictionary: a list of words, oldest first. Tokens count the list's places, beginning with 1.
 use Rattle.std.specs.Prelude.{ℕ, zero, suc, ◌-◌, Bool, true, ◌&&◌, nat_le, nat_lt, ◌==◌, if◌then◌else◌, List, [], ◌∷◌, length, take, Option, Some, None, slice_get, nat_eq}
 use Rattle.std.specs.Cmp.Lexicographic.{pointwise}
+use Rattle.system_words.specs.Rows.{count}
 
 -- What a word is. B says what the body of a colon definition is, and P what a part is: the code that DOES> gave to a
 -- word, to be run with its data address.
@@ -25,7 +26,7 @@ abbrev pub forth_token : ℕ
 forth_token = 91
 
 abbrev pub system_count : ℕ
-system_count = 132
+system_count = count
 
 abbrev pub most_words : ℕ
 most_words = 4096

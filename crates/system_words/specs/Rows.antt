@@ -1,4 +1,4 @@
--- The 132 system words, in token order: name, mark, and what each does.
+-- The system words, in token order: name, mark, and what each does.
 use Rattle.std.specs.Prelude.{ℕ, zero, suc, List, [], ◌∷◌, ◌++◌, Option, Some, None, option_map, Bool, true, false, codes, slice_get}
 use Rattle.system_words.specs.declared.words.Mark.{Mark}
 use Rattle.system_words.specs.declared.words.Mark.TheVariants.{Plain, Immediate, CompileOnly, ImmediateOnly}
@@ -194,6 +194,10 @@ compiler =
 
 abbrev pub rows : List Row
 rows = nucleus ++ (device ++ (interpreter ++ compiler))
+
+-- how many there are, which is the token of the last one
+abbrev pub count : ℕ
+count = 132
 
 abbrev pub beside_name : Row → Mark × Meaning
 beside_name row = (row.mark, row.meaning)

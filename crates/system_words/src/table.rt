@@ -1,8 +1,9 @@
 //! The rows, in the order of the tokens.
 
 ghost use Rattle.std.specs.Prelude.{◌≡◌, map, length};
-ghost use Rattle.system_words.specs.Rows.{row_of, rows};
+ghost use Rattle.system_words.specs.Rows.{row_of, rows, count};
 
+use crate::COUNT;
 use crate::Row;
 use crate::words::Binary::Add;
 use crate::words::Binary::And;
@@ -154,12 +155,12 @@ use crate::words::Wide::WideProduct;
 #[inline]
 pub fn all() -> &'static [Row]
     ensures rows { map (λ row. row_of row.0.now row.1 row.2) result.now ≡ rows }
-    ensures count { length result.now ≡ 132 }
+    ensures count { length result.now ≡ count }
 {
     &ROWS
 }
 
-static ROWS: [Row; 132] = [
+static ROWS: [Row; COUNT as usize] = [
     (b"!", Plain, Runs(Space(Set))),
     (b"*", Plain, Runs(Two(Multiply))),
     (b"*/", Plain, Runs(Division(Scaled))),
