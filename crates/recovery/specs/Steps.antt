@@ -1,4 +1,4 @@
--- Within this crate: the states of a disk while an image is made, what a stop then may leave, and what a copy does.
+-- The states of a disk while an image is made, what a stop then may leave, and what a copy does.
 use Rattle.std.specs.Prelude.{◌≡◌, ◌≢◌, ◌⊎◌, ℕ, false, IsTrue}
 use Rattle.sector_disk.specs.Counting.{count_up}
 use Rattle.sector_disk.specs.Disk.{Disk, Image, MayLeave}

@@ -46,8 +46,9 @@ fn fill_homes<D: SectorDevice>(device: &mut D, blocks: u16) -> Result<(), Device
     Ok(())
 }
 
-// Takes a good label away.
-pub(crate) fn unlabel<D: SectorDevice>(device: &mut D, blocks: u16) -> Result<(), DeviceFault>
+/// Makes what is there stay, and takes a good label away, if one stands there: the first step of making an image of so many
+/// blocks.
+pub fn unlabel<D: SectorDevice>(device: &mut D, blocks: u16) -> Result<(), DeviceFault>
     requires many { fewest_blocks ≤ blocks }
     requires few { blocks ≤ most_blocks }
     requires size { D.sector_count device.old ≡ sectors_for blocks }
@@ -69,8 +70,8 @@ pub(crate) fn unlabel<D: SectorDevice>(device: &mut D, blocks: u16) -> Result<()
     }
 }
 
-// Closes the gate and clears the record.
-pub(crate) fn fill_head<D: SectorDevice>(device: &mut D) -> Result<(), DeviceFault>
+/// Closes the gate and clears the record. Nothing is synced.
+pub fn fill_head<D: SectorDevice>(device: &mut D) -> Result<(), DeviceFault>
     requires { 3 ≤ D.sector_count device.old }
     ensures ok { IsTrue (D.keeps_model device.old)
         → OnOk result (D.disk device.new ≡ written (written (D.disk device.old) 1 (replicate 512 0)) 2 (replicate 512 0)) }
@@ -125,8 +126,8 @@ fn prepare<D: SectorDevice>(device: &mut D, blocks: u16) -> Result<(), DeviceFau
     device.sync()
 }
 
-// Writes the label over an image.
-pub(crate) fn seal<D: SectorDevice>(device: &mut D, blocks: u16) -> Result<(), DeviceFault>
+/// Writes the label over an image whose other sectors are synced: the last step of making it.
+pub fn seal<D: SectorDevice>(device: &mut D, blocks: u16) -> Result<(), DeviceFault>
     requires many { fewest_blocks ≤ blocks }
     requires few { blocks ≤ most_blocks }
     requires size { D.sector_count device.old ≡ sectors_for blocks }

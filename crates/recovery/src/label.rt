@@ -26,8 +26,9 @@ pub fn blocks_of_size(sectors: u32, most: u16) -> Option<u16>
     }
 }
 
-// Whether a label is the good one of a layout, or else why not.
-pub(crate) fn check_label(label: &[u8; 512], version: u16, blocks: u16) -> Result<(), OpenFault>
+/// Whether a label is the good one of a layout, for an image of so many blocks, or else why not: the first of NoLabel,
+/// OtherVersion and WrongCount that holds.
+pub fn check_label(label: &[u8; 512], version: u16, blocks: u16) -> Result<(), OpenFault>
     ensures exact { MatchResult result (λ _. label_refusal_by version blocks label.now ≡ None)
         (λ e. label_refusal_by version blocks label.now ≡ Some e) }
     ensures good { OnOk result (label.now ≡ label_by version blocks) }
