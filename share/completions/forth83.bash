@@ -12,7 +12,7 @@ _forth83() {
                 new) COMPREPLY=($(compgen -W '--blocks --help' -- "$word")) ;;
                 export) COMPREPLY=($(compgen -W '--raw --help' -- "$word")) ;;
                 import) COMPREPLY=($(compgen -W '--raw --check --help' -- "$word")) ;;
-                run) COMPREPLY=($(compgen -W '--steps --help' -- "$word")) ;;
+                run) COMPREPLY=($(compgen -W '--steps --trace --help' -- "$word")) ;;
                 *) COMPREPLY=($(compgen -W '--help' -- "$word")) ;;
             esac ;;
         *) COMPREPLY=($(compgen -f -- "$word")) ;;

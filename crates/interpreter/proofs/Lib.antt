@@ -42,3 +42,4 @@ pub mod Expecting
 pub mod Holding
 pub mod Popping
 pub mod Clearing
+pub mod Worded

@@ -11,20 +11,22 @@ use Rattle.cell_machine.specs.Frames.{Core}
 use Rattle.cell_machine.specs.Value.{Outcome, Did, Ends}
 use Rattle.interpreter.specs.declared.terminal.Terminal.{Ghosts as TerminalGhosts}
 use Rattle.interpreter.specs.declared.fault.Stop.{Stop}
+use Rattle.interpreter.specs.declared.fault.Fault.{Fault}
 use Rattle.interpreter.specs.declared.fault.Stop.TheVariants as stop
 use Rattle.interpreter.specs.declared.lines.LineEnd.{LineEnd}
 use Rattle.interpreter.specs.declared.lines.LineEnd.TheVariants as end
 use Rattle.interpreter.specs.declared.forth.Forth.{Forth}
 use Rattle.interpreter.specs.Deeds.{Deed, then, before, after, mended, Fits}
+use Rattle.interpreter.specs.declared.place.Place.{Place}
 use Rattle.interpreter.specs.FaultNames.{fault_name}
 use Rattle.interpreter.specs.Law.{run_after, Grows}
 use Rattle.interpreter.specs.Lines as lines
 use Rattle.interpreter.specs.State as lines_state
 use Rattle.interpreter.specs.Law.{left}
-use Rattle.interpreter.specs.Lines.{line, line_if, with_line, text_of_line, Ended, at_rest, dropped, with_empty_stack, broken, replied, reply, after_fault, end_of_line, ended}
+use Rattle.interpreter.specs.Lines.{line, line_if, with_line, text_of_line, Ended, at_rest, dropped, with_empty_stack, broken, replied, reply, after_fault, end_of_line, ended, place_in}
 use Rattle.interpreter.specs.Promise.{HasRisenBy}
 use Rattle.interpreter.specs.State.{World, Run, with_run, with_output}
-use Rattle.interpreter.specs.Stops.{ending_of}
+use Rattle.interpreter.specs.Stops.{fault_of, ending_of}
 use Rattle.interpreter.specs.Text.{compiling}
 use Rattle.interpreter.specs.Terminal.{AppendsSome, Begins}
 use Rattle.interpreter.specs.Terminals.{terminal_call, print}
@@ -43,12 +45,12 @@ use Rattle.interpreter.proofs.Wearing.{within_same, within_then}
 use Rattle.sector_disk.specs.Counting.{count_up}
 
 -- an end that isn't that of a failed terminal
-pub line_left : (start : Run → Ended) (deed : Deed) (e : LineEnd) (c : Core) (x : World) → is_broken e ≡ false → LineLeft start deed e c x → LineComes start deed e c x
-line_left start deed end.Interpreting c x well h = h
-line_left start deed end.Compiling c x well h = h
-line_left start deed end.Quit c x well h = h
-line_left start deed (end.Fault f) c x well h = h
-line_left start deed end.Io c x well h = absurd (let no : true ≡ false = well in cc)
+pub line_left : (start : Run → Ended) (deed : Deed) (e : LineEnd) (place : Option Place) (c : Core) (x : World) → is_broken e ≡ false → LineLeft start deed e place c x → LineComes start deed e place c x
+line_left start deed end.Interpreting place c x well h = h
+line_left start deed end.Compiling place c x well h = h
+line_left start deed end.Quit place c x well h = h
+line_left start deed (end.Fault f) place c x well h = h
+line_left start deed end.Io place c x well h = absurd (let no : true ≡ false = well in cc)
 
 pub heard_well : (e : LineEnd) → is_broken e ≡ false → heard_of e ≡ Ok tt
 heard_well end.Interpreting well = refl
@@ -59,16 +61,16 @@ heard_well end.Io well = absurd (let no : true ≡ false = well in cc)
 
 -- ---- what a terminal that fails leaves
 
-replied_run : (e : lines.LineEnd) (o : Outcome World) → (replied e o).world.run ≡ run_after o
-replied_run e (Did c x) = refl
-replied_run e (Ends i c x) = refl
+replied_run : (e : lines.LineEnd) (place : Option Place) (o : Outcome World) → (replied e place o).world.run ≡ run_after o
+replied_run e place (Did c x) = refl
+replied_run e place (Ends i c x) = refl
 
-pub replied_broke : (e : lines.LineEnd) (start : Run → Outcome World) (deed : Deed) (c : Core) (x : World) (h : Broke start deed c x) → LineBroke (λ r. replied e (start r)) deed (with_empty_stack (at_rest h.core)) (dropped x)
-replied_broke e start deed c x h = record {
-  breaks = λ r fits none. let b : BreaksOff start deed h.core x r = h.breaks r fits none in record { run = b.run; ends = ap (λ o. replied e o) b.ends; input = b.input; output = b.output; saves = b.saves };
-  grows = λ r fits. subst (λ q. Grows (after (mended deed) r) q) (sym (replied_run e (start (before (mended deed) r)))) (h.grows r fits);
-  input = λ r fits never none. subst (λ q. q.input ≡ []) (sym (replied_run e (start (before deed r)))) (h.input r fits never none);
-  failures = λ r fits never none. subst (λ q. q.failures ≡ (after deed r).failures) (sym (replied_run e (start (before deed r)))) (h.failures r fits never none);
+pub replied_broke : (e : lines.LineEnd) (place : Option Place) (start : Run → Outcome World) (deed : Deed) (c : Core) (x : World) (h : Broke start deed c x) → LineBroke (λ r. replied e place (start r)) deed (with_empty_stack (at_rest h.core)) (dropped x)
+replied_broke e place start deed c x h = record {
+  breaks = λ r fits none. let b : BreaksOff start deed h.core x r = h.breaks r fits none in record { run = b.run; ends = ap (λ o. replied e place o) b.ends; input = b.input; output = b.output; saves = b.saves };
+  grows = λ r fits. subst (λ q. Grows (after (mended deed) r) q) (sym (replied_run e place (start (before (mended deed) r)))) (h.grows r fits);
+  input = λ r fits never none. subst (λ q. q.input ≡ []) (sym (replied_run e place (start (before deed r)))) (h.input r fits never none);
+  failures = λ r fits never none. subst (λ q. q.failures ≡ (after deed r).failures) (sym (replied_run e place (start (before deed r)))) (h.failures r fits never none);
 }
 
 -- ---- the end of a reply
@@ -78,15 +80,15 @@ same_model {D} {G} b c same model = subst (λ (b : Blocks D G). IsTrue (G.keeps_
 
 module _ {D T : Type 0} (G : Ghosts D) (H : TerminalGhosts T) (only_now : OnlyNow G) where
   -- it is printed
-  pub said_well : (e : LineEnd) (bytes : List ℕ) (forth : Forth D G) (t u : T) (c : Core) (x : World) → is_broken e ≡ false → SameStackAndSpace c forth → Rests forth x
+  pub said_well : (e : LineEnd) (place : Option Place) (bytes : List ℕ) (forth : Forth D G) (t u : T) (c : Core) (x : World) → is_broken e ≡ false → SameStackAndSpace c forth → Rests forth x
       → H.input u ≡ H.input t → Appends (H.output t) (H.output u) bytes → H.calls u ≡ count_up (H.calls t)
-      → Lined H (λ r. replied (line_end e) (print bytes c (with_run r x))) e forth forth t u x
-  said_well e bytes forth t u c x well same_core rests input printed counted = record {
+      → Lined H (λ r. replied (line_end e) place (print bytes c (with_run r x))) e forth (record forth { place = place }) t u x
+  said_well e place bytes forth t u c x well same_core rests input printed counted = record {
     deed = printing bytes 1;
     world = x;
     rests = rests;
     came = λ model.
-        record { core = c; same_core = same_core; comes = line_left _ (printing bytes 1) e c x well (record { ends = λ r fits. ap (λ o. replied (line_end e) o) (print-well bytes c x r) }) };
+        record { core = c; same_core = record { stack = same_core.stack; space = same_core.space }; comes = line_left _ (printing bytes 1) e place c x well (record { ends = λ r fits. ap (λ o. replied (line_end e) place o) (print-well bytes c x r) }) };
     heard = subst (λ (o : Result (Unit {0}) Stop). Heard H o (printing bytes 1) t u) (sym (heard_well e well))
         (heard_print H bytes input printed counted);
     cause = refl;
@@ -94,17 +96,17 @@ module _ {D T : Type 0} (G : Ghosts D) (H : TerminalGhosts T) (only_now : OnlyNo
   }
 
   -- the terminal fails
-  pub said_broke : (e : lines.LineEnd) (bytes : List ℕ) (old new : Forth D G) (t u : T) (c : Core) (x : World) → Rests old x → new.blocks ≡ old.blocks
+  pub said_broke : (e : lines.LineEnd) (place : Option Place) (bytes : List ℕ) (old new : Forth D G) (t u : T) (c : Core) (x : World) → Rests old x → new.blocks ≡ old.blocks
       → ((said : Core) → said.space ≡ c.space → SameStackAndSpace (with_empty_stack (at_rest said)) new) → Rests new (dropped x)
       → H.input u ≡ H.input t → AppendsSome (H.output t) (H.output u) bytes → H.calls u ≡ count_up (H.calls t)
-      → Lined H (λ r. replied e (print bytes c (with_run r x))) end.Io old new t u x
-  said_broke e bytes old new t u c x rests blocks same_core after_rests input printed counted = record {
+      → Lined H (λ r. replied e place (print bytes c (with_run r x))) end.Io old new t u x
+  said_broke e place bytes old new t u c x rests blocks same_core after_rests input printed counted = record {
     deed = trying bytes;
     world = dropped x;
     rests = after_rests;
     came = λ model.
         let h = print-fails bytes c x in
-        record { core = with_empty_stack (at_rest h.core); same_core = same_core h.core h.like; comes = replied_broke e (λ r. print bytes c (with_run r x)) (trying bytes) c x h };
+        record { core = with_empty_stack (at_rest h.core); same_core = same_core h.core h.like; comes = replied_broke e place (λ r. print bytes c (with_run r x)) (trying bytes) c x h };
     heard = heard_unprinted H bytes input printed counted;
     cause = ap (λ (b : Blocks D G). G.failures (device_of (store_of b))) blocks;
     keeps = λ model.
@@ -117,7 +119,7 @@ module _ {D T : Type 0} {G : Ghosts D} (H : TerminalGhosts T) where
   pub came_as : {start : Run → Ended} (start' : Run → Ended) {deed : Deed} (e : LineEnd) {new : Forth D G} {x : World} → ((r : Run) → start' r ≡ start r) → LineCame start deed e new x → LineCame start' deed e new x
   came_as {start} start' {deed} e {new} {x} same h = record { core = h.core; same_core = h.same_core; comes = comes e h.comes }
     where
-      comes : (e : LineEnd) → LineComes start deed e h.core x → LineComes start' deed e h.core x
+      comes : (e : LineEnd) → LineComes start deed e new.place h.core x → LineComes start' deed e new.place h.core x
       comes end.Interpreting k = record { ends = λ r fits. same (before deed r) ∙ k.ends r fits }
       comes end.Compiling k = record { ends = λ r fits. same (before deed r) ∙ k.ends r fits }
       comes end.Quit k = record { ends = λ r fits. same (before deed r) ∙ k.ends r fits }
@@ -148,8 +150,8 @@ module _ {D T : Type 0} {G : Ghosts D} (H : TerminalGhosts T) where
 -- ---- what came before the reply
 
 line_comes_then : (start start2 : Run → Ended) (d e : Deed) (first : (r : Run) → Fits d r → start (before d r) ≡ start2 (after d r)) (none : d.met ≡ true → e.given ≡ [])
-    (how : LineEnd) (c : Core) (x : World) → LineComes start2 e how c x → LineComes start (then d e) how c x
-line_comes_then start start2 d e first none how c x h = pick how h
+    (how : LineEnd) (place : Option Place) (c : Core) (x : World) → LineComes start2 e how place c x → LineComes start (then d e) how place c x
+line_comes_then start start2 d e first none how place c x h = pick how h
   where
     comes_of : (r : Run) → Fits (then d e) r → start (before (then d e) r) ≡ start2 (before e (after d r))
     comes_of r fits = both_come start start2 d e first none r fits
@@ -157,10 +159,10 @@ line_comes_then start start2 d e first none how c x h = pick how h
     seconds : (r : Run) → Fits (then d e) r → Fits e (after d r)
     seconds r fits = fits_second start start2 d e first none r fits
 
-    left_then : (i : LineEnd) → LineLeft start2 e i c x → LineLeft start (then d e) i c x
-    left_then i k = record { ends = λ r fits. comes_of r fits ∙ k.ends (after d r) (seconds r fits) ∙ ap (λ q. record { ending = line_end i; core = c; world = with_run q x }) (sym (after-then d e r)) }
+    left_then : (i : LineEnd) → LineLeft start2 e i place c x → LineLeft start (then d e) i place c x
+    left_then i k = record { ends = λ r fits. comes_of r fits ∙ k.ends (after d r) (seconds r fits) ∙ ap (λ q. record { ending = line_end i; place = place; core = c; world = with_run q x }) (sym (after-then d e r)) }
 
-    pick : (how : LineEnd) → LineComes start2 e how c x → LineComes start (then d e) how c x
+    pick : (how : LineEnd) → LineComes start2 e how place c x → LineComes start (then d e) how place c x
     pick end.Interpreting k = left_then end.Interpreting k
     pick end.Compiling k = left_then end.Compiling k
     pick end.Quit k = left_then end.Quit k
@@ -195,7 +197,7 @@ module _ {D T : Type 0} (G : Ghosts D) (H : TerminalGhosts T) (counts_now : (d :
     rests = h.rests;
     came = λ model.
         let k = h.came (subst IsTrue (sym on.model) model) in
-        record { core = k.core; same_core = k.same_core; comes = line_comes_then start start2 d h.deed (first model) (heard_none H heard h.heard) e k.core h.world k.comes };
+        record { core = k.core; same_core = k.same_core; comes = line_comes_then start start2 d h.deed (first model) (heard_none H heard h.heard) e new.place k.core h.world k.comes };
     heard = heard_then H heard h.heard;
     cause = risen_then d.failures h.deed.failures (G.failures (device old)) (G.failures (device mid)) (G.failures (device new)) cause h.cause;
     keeps = λ model.
@@ -214,23 +216,23 @@ follows_of : (p q : Run) (bytes : List ℕ) → q.output ≡ p.output ++ bytes �
 follows_of p q bytes out saves input failures wear =
     record { grows = record { output = (bytes, out); saves = ([], saves ∙ sym (append-nil p.saves)); wear = within_same p.wear q.wear wear }; input = input; failures = failures }
 
-call_follows : (e : lines.LineEnd) (o : Option ℕ) (c : Core) (bytes : List ℕ) (y : World) → Follows y.run (replied e (terminal_call o c y (λ x. Did c (with_output (x.run.output ++ bytes) x)))).world.run
-call_follows e None c bytes y = follows_of y.run (record y.run { output = y.run.output ++ bytes }) bytes refl refl refl refl refl
-call_follows e (Some zero) c bytes y = follows_of y.run y.run [] (sym (append-nil y.run.output)) refl refl refl refl
-call_follows e (Some (suc k)) c bytes y = follows_of y.run (record y.run { output = y.run.output ++ bytes; terminal = Some k }) bytes refl refl refl refl refl
+call_follows : (e : lines.LineEnd) (place : Option Place) (o : Option ℕ) (c : Core) (bytes : List ℕ) (y : World) → Follows y.run (replied e place (terminal_call o c y (λ x. Did c (with_output (x.run.output ++ bytes) x)))).world.run
+call_follows e place None c bytes y = follows_of y.run (record y.run { output = y.run.output ++ bytes }) bytes refl refl refl refl refl
+call_follows e place (Some zero) c bytes y = follows_of y.run y.run [] (sym (append-nil y.run.output)) refl refl refl refl
+call_follows e place (Some (suc k)) c bytes y = follows_of y.run (record y.run { output = y.run.output ++ bytes; terminal = Some k }) bytes refl refl refl refl refl
 
-said_follows : (e : lines.LineEnd) (bytes : List ℕ) (c : Core) (x : World) → Follows x.run (reply e bytes c x).world.run
-said_follows e bytes c x = call_follows e x.run.terminal c bytes x
+said_follows : (e : lines.LineEnd) (place : Option Place) (bytes : List ℕ) (c : Core) (x : World) → Follows x.run (reply e place bytes c x).world.run
+said_follows e place bytes c x = call_follows e place x.run.terminal c bytes x
 
 line_follows : (b : Bool) (c : Core) (x : World) → Follows x.run (end_of_line b c x).world.run
-line_follows true c x = said_follows lines.LineEnd.Compiling (10 ∷ []) c x
-line_follows false c x = said_follows lines.LineEnd.Interpreting (codes " ok" ++ 10 ∷ []) c x
+line_follows true c x = said_follows lines.LineEnd.Compiling None (10 ∷ []) c x
+line_follows false c x = said_follows lines.LineEnd.Interpreting None (codes " ok" ++ 10 ∷ []) c x
 
 ends_follow : (e : Ending) (c : Core) (x : World) → Follows x.run (ended (Ends e c x)).world.run
-ends_follow Quits c x = said_follows lines.LineEnd.Quit (10 ∷ []) (at_rest c) (dropped x)
-ends_follow Aborts c x = said_follows lines.LineEnd.Quit (10 ∷ []) (with_empty_stack (at_rest c)) (dropped x)
+ends_follow Quits c x = said_follows lines.LineEnd.Quit None (10 ∷ []) (at_rest c) (dropped x)
+ends_follow Aborts c x = said_follows lines.LineEnd.Quit None (10 ∷ []) (with_empty_stack (at_rest c)) (dropped x)
 ends_follow Breaks c x = follows_of x.run x.run [] (sym (append-nil x.run.output)) refl refl refl refl
-ends_follow (Faults f) c x = said_follows (lines.LineEnd.Fails f) (codes " ? " ++ (fault_name f ++ 10 ∷ [])) (with_empty_stack (at_rest c)) (dropped x)
+ends_follow (Faults f) c x = said_follows (lines.LineEnd.Fails f) (Some (place_in c.space)) (codes " ? " ++ (fault_name f ++ 10 ∷ [])) (with_empty_stack (at_rest c)) (dropped x)
 
 ended_follows : (o : Outcome World) → Follows (run_after o) (ended o).world.run
 ended_follows (Did c x) = line_follows (compiling c) c x
@@ -261,7 +263,7 @@ line_opens opening bytes budget c same short core r =
     ∙ ap (λ n. ended (text_of_line n (with_line bytes n opening.core) (with_run r opening.world))) same
     ∙ ap (λ c. ended (left (suc budget) [] c (with_run r opening.world))) (sym core)
 
-pub line_too_long : (opening : lines_state.Forth) (bytes : List ℕ) → nat_le (length bytes) 1024 ≡ false → (r : Run) → line opening bytes r ≡ after_fault LineLength opening.core (with_run r opening.world)
+pub line_too_long : (opening : lines_state.Forth) (bytes : List ℕ) → nat_le (length bytes) 1024 ≡ false → (r : Run) → line opening bytes r ≡ after_fault None LineLength opening.core (with_run r opening.world)
 line_too_long opening bytes long r = ap (λ b. line_if b bytes opening.budget opening.core (with_run r opening.world)) long
 
 -- a stop that is none of the terminal
@@ -325,6 +327,20 @@ module _ {D T : Type 0} (G : Ghosts D) (H : TerminalGhosts T) (counts_now : (d :
       lined_then G H counts_now widens only_now h.deed (lasts_calm G H s well on) on_then (heard_calm H s well h.heard) h.cause h.keeps
       (λ m r fits. absurd (no m)) (k (core mid) (like_itself (ending_of s) (core mid))))
       (known (device old) (G.keeps_model (device old)) refl)
+
+  -- a fault, whose place is where the stream stood then: what the reply doesn't name may change before it
+  pub fault_lined : {start : Run → Outcome World} (start' : Run → Ended) {e : LineEnd} (f : Fault) (place : Place) {old mid next new : Forth D G} {t u v : T} {x : World}
+      (h : Ran H start (Err (stop.Fault f)) old mid t u [] x)
+      → ((r : Run) → start' r ≡ ended (start r))
+      → Lasts G H (Err (stop.Fault f)) (device old) (device mid) t u → Lasts G H (heard_of e) (device mid) (device new) u v
+      → place ≡ place_in mid.space → next.blocks ≡ mid.blocks
+      → ((c : Core) → c.space ≡ mid.space → Lined H (λ r. after_fault (Some place) (fault_of f) c (with_run r h.world)) e next new u v h.world)
+      → Lined H start' e old new t v x
+  fault_lined start' {e} f place {old} {mid} h opens on on_then is blocks k =
+      ends_lined start' (stop.Fault f) refl h opens on on_then
+      (λ c like.
+      lined_as H (λ r. ended (Ends (Faults (fault_of f)) c (with_run r h.world))) e mid h.world
+      (λ r. ap (λ p. after_fault (Some p) (fault_of f) c (with_run r h.world)) (ap (λ s. place_in s) like ∙ sym is)) blocks refl (k c like))
 
   -- the terminal failed before the reply
   pub broke_lined : {start : Run → Outcome World} (start' : Run → Ended) {old mid : Forth D G} (new : Forth D G) {t u : T} {x : World} (h : Ran H start (Err stop.Io) old mid t u [] x)

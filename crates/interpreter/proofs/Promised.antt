@@ -12,6 +12,7 @@ use Rattle.interpreter.specs.declared.fault.Stop.TheVariants as stop
 use Rattle.interpreter.specs.declared.lines.LineEnd.{LineEnd}
 use Rattle.interpreter.specs.declared.lines.LineEnd.TheVariants as end
 use Rattle.interpreter.specs.declared.forth.Forth.{Forth}
+use Rattle.interpreter.specs.declared.place.Place.{Place}
 use Rattle.interpreter.specs.Deeds.{Deed, before, after, mended}
 use Rattle.interpreter.specs.Law.{Grows}
 use Rattle.interpreter.specs.Lines as lines
@@ -37,7 +38,7 @@ alone d t = ap (λ l. record idle { answers = l; input = d.given ++ []; terminal
 abbrev pub closing : state.Forth → Core → World → state.Forth
 closing opening c x = record { budget = opening.budget; core = record c { steps = 0 }; world = with_run idle x }
 
-module _ {D T : Type 0} (G : Ghosts D) (H : TerminalGhosts T) (opening : state.Forth) (bytes : List ℕ) (d : Deed) (c : Core) (x : World) (t u : T) (old new : D)
+module _ {D T : Type 0} (G : Ghosts D) (H : TerminalGhosts T) (opening : state.Forth) (bytes : List ℕ) (d : Deed) (place : Option Place) (c : Core) (x : World) (t u : T) (old new : D)
     (cause : HasRisenBy d.failures (G.failures old) (G.failures new)) (wears : WearsAtMost G old new d.wear) where
   none_before : d.failures ≡ 0 + d.failures
   none_before = omega arith
@@ -45,14 +46,15 @@ module _ {D T : Type 0} (G : Ghosts D) (H : TerminalGhosts T) (opening : state.F
   abbrev whole : Ended
   whole = line_on opening bytes d.given d.answers
 
-  pub replied : (e : LineEnd) → LineLeft (λ r. line opening bytes r) d e c x → Heard H (Ok tt) d t u → Replied G (line_end e) opening bytes (closing opening c x) (H.input t) (H.input u) (H.output t) (H.output u) old new d.saves
+  pub replied : (e : LineEnd) → LineLeft (λ r. line opening bytes r) d e place c x → Heard H (Ok tt) d t u → Replied G (line_end e) place opening bytes (closing opening c x) (H.input t) (H.input u) (H.output t) (H.output u) old new d.saves
   replied e l heard =
-      let run : whole ≡ record { ending = line_end e; core = c; world = with_run (after d idle) x } = ap (λ r. line opening bytes r) (sym (alone d None)) ∙ l.ends idle (λ h. refl) in
+      let run : whole ≡ record { ending = line_end e; place = place; core = c; world = with_run (after d idle) x } = ap (λ r. line opening bytes r) (sym (alone d None)) ∙ l.ends idle (λ h. refl) in
       record {
-        turn = record { given = d.given; at_end = d.met || false; reply = d.printed; ending = line_end e; saves = d.saves; failures = 0 + d.failures; wear = add_wear no_wear d.wear };
+        turn = record { given = d.given; at_end = d.met || false; reply = d.printed; ending = line_end e; place = place; saves = d.saves; failures = 0 + d.failures; wear = add_wear no_wear d.wear };
         line = record {
           answers = d.answers;
           ends = ap (λ e. e.ending) run;
+          placed = ap (λ e. e.place) run;
           leaves = ap (λ e. between_lines opening.budget e) run;
           taken = ap (λ e. e.world.run.input) run;
           met = ap (λ e. e.world.run.at_end) run;
@@ -62,6 +64,7 @@ module _ {D T : Type 0} (G : Ghosts D) (H : TerminalGhosts T) (opening : state.F
           worn = ap (λ e. e.world.run.wear) run;
         };
         ends = refl;
+        placed = refl;
         given = heard.given;
         at_end = λ h. heard.at_end (sym (or-none d.met) ∙ h);
         reply = heard.printed;
@@ -79,7 +82,7 @@ module _ {D T : Type 0} (G : Ghosts D) (H : TerminalGhosts T) (opening : state.F
       let told : whole.world.run.failures ≡ 0 + d.failures = subst (λ o. o.world.run.failures ≡ 0 + d.failures) run (l.failures idle (λ h. refl) refl refl) in
       let ends : (d.calls + 0) ≡ d.calls = omega arith in
       let b : LineBreaksOff (λ r. line opening bytes r) d c x (record idle { terminal = Some 0 }) = l.breaks (record idle { terminal = Some 0 }) (λ h. refl) refl in
-      let broke : line opening bytes (new_run d.given d.answers (Some d.calls)) ≡ record { ending = lines.LineEnd.Io; core = c; world = with_run b.run x } =
+      let broke : line opening bytes (new_run d.given d.answers (Some d.calls)) ≡ record { ending = lines.LineEnd.Io; place = None; core = c; world = with_run b.run x } =
       ap (λ n. line opening bytes (new_run d.given d.answers (Some n))) (sym ends) ∙ ap (λ r. line opening bytes r) (sym (alone d (Some (d.calls + 0)))) ∙ b.ends in
       let one_more : (m.calls + 0) ≡ d.calls + 1 = omega arith in
       let longer_run : line opening bytes (before m (record idle { terminal = Some 0 })) ≡ line opening bytes (new_run d.given d.answers (Some (d.calls + 1))) =
@@ -90,9 +93,9 @@ module _ {D T : Type 0} (G : Ghosts D) (H : TerminalGhosts T) (opening : state.F
       let shown : List ℕ = d.printed ++ part in
       let front : Begins shown (d.printed ++ d.tried) = (heard.printed.1.0, ap (λ l. d.printed ++ l) heard.printed.1.1 ∙ sym (append_assoc d.printed part heard.printed.1.0)) in
       record {
-        turn = record { given = d.given; at_end = whole.world.run.at_end; reply = whole.world.run.output; ending = whole.ending; saves = whole.world.run.saves; failures = whole.world.run.failures; wear = whole.world.run.wear };
+        turn = record { given = d.given; at_end = whole.world.run.at_end; reply = whole.world.run.output; ending = whole.ending; place = whole.place; saves = whole.world.run.saves; failures = whole.world.run.failures; wear = whole.world.run.wear };
         over = between_lines opening.budget whole;
-        line = record { answers = d.answers; ends = refl; leaves = refl; taken = none; met = refl; printed = refl; saved = refl; failed = refl; worn = refl };
+        line = record { answers = d.answers; ends = refl; placed = refl; leaves = refl; taken = none; met = refl; printed = refl; saved = refl; failed = refl; worn = refl };
         given = heard.given;
         shown = shown;
         reply = heard.printed.2;
@@ -118,21 +121,21 @@ module _ {D T : Type 0} (G : Ghosts D) (H : TerminalGhosts T) (opening : state.F
         last_call = heard.calls;
       }
 
-module _ {D T : Type 0} (G : Ghosts D) (H : TerminalGhosts T) (opening : state.Forth) (bytes : List ℕ) (d : Deed) (c : Core) (x : World) (t u : T) (a b : D)
+module _ {D T : Type 0} (G : Ghosts D) (H : TerminalGhosts T) (opening : state.Forth) (bytes : List ℕ) (d : Deed) (place : Option Place) (c : Core) (x : World) (t u : T) (a b : D)
     (cause : HasRisenBy d.failures (G.failures a) (G.failures b)) (wears : WearsAtMost G a b d.wear) where
-  answers_of : (e : LineEnd) → LineComes (λ r. line opening bytes r) d e c x → Heard H (heard_of e) d t u
-      → Answers G (line_end e) opening bytes (closing opening c x) (H.input t) (H.input u) (H.output t) (H.output u) (H.calls t) (H.calls u) a b d.saves
-  answers_of end.Interpreting l heard = replied G H opening bytes d c x t u a b cause wears end.Interpreting l heard
-  answers_of end.Compiling l heard = replied G H opening bytes d c x t u a b cause wears end.Compiling l heard
-  answers_of end.Quit l heard = replied G H opening bytes d c x t u a b cause wears end.Quit l heard
-  answers_of (end.Fault f) l heard = replied G H opening bytes d c x t u a b cause wears (end.Fault f) l heard
-  answers_of end.Io l heard = cut_off G H opening bytes d c x t u a b cause wears l heard
+  answers_of : (e : LineEnd) → LineComes (λ r. line opening bytes r) d e place c x → Heard H (heard_of e) d t u
+      → Answers G (line_end e) place opening bytes (closing opening c x) (H.input t) (H.input u) (H.output t) (H.output u) (H.calls t) (H.calls u) a b d.saves
+  answers_of end.Interpreting l heard = replied G H opening bytes d place c x t u a b cause wears end.Interpreting l heard
+  answers_of end.Compiling l heard = replied G H opening bytes d place c x t u a b cause wears end.Compiling l heard
+  answers_of end.Quit l heard = replied G H opening bytes d place c x t u a b cause wears end.Quit l heard
+  answers_of (end.Fault f) l heard = replied G H opening bytes d place c x t u a b cause wears (end.Fault f) l heard
+  answers_of end.Io l heard = cut_off G H opening bytes d place c x t u a b cause wears l heard
 
 module _ {D T : Type 0} (G : Ghosts D) (H : TerminalGhosts T) where
   pub promised : (opening : state.Forth) (bytes : List ℕ) (e : LineEnd) (old new : Forth D G) (t u : T) → IsSystem old opening → new.budget ≡ old.budget → G.keeps_model (device new) ≡ G.keeps_model (device old)
       → Lined H (λ r. line opening bytes r) e old new t u opening.world
       → (after : state.Forth) × (made : List Save) × IsSystem new after
-      × Answers G (line_end e) opening bytes after (H.input t) (H.input u) (H.output t) (H.output u) (H.calls t) (H.calls u) (device old) (device new) made
+      × Answers G (line_end e) new.place opening bytes after (H.input t) (H.input u) (H.output t) (H.output u) (H.calls t) (H.calls u) (device old) (device new) made
       × Keeps G opening after (device old) (device new) made
   promised opening bytes e old new t u system budget model h =
       let k = h.came system.model in
@@ -147,6 +150,6 @@ module _ {D T : Type 0} (G : Ghosts D) (H : TerminalGhosts T) where
           };
           model = subst IsTrue (sym model) system.model;
         },
-        answers_of G H opening bytes h.deed k.core h.world t u (device old) (device new) h.cause kept.wears e k.comes h.heard,
+        answers_of G H opening bytes h.deed new.place k.core h.world t u (device old) (device new) h.cause kept.wears e k.comes h.heard,
         kept.keeps,
       )

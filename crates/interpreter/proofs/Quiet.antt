@@ -149,7 +149,7 @@ module _ (most : ℕ) where
   }
 
   nowhere : Parting (λ e x. ⊥) (λ x. ⊥) (λ e. ⊥)
-  nowhere = record { ended_apart = λ e c x h. h; broken_apart = λ ending e c x h. h; ended_lost = λ r h. h; replied_lost = λ ending r h. h }
+  nowhere = record { ended_apart = λ e c x h. h; broken_apart = λ ending e c x h. h; ended_lost = λ r h. h; replied_lost = λ ending place r h. h }
 
   held : (r s : Outcome World) → Linked r s → Q (run_after r)
   held r s (did c x h) = h

@@ -138,7 +138,7 @@ quiet_reaches = record {
 
 quiet_end : (e f : Ended) → settle.Alike (λ r. answered_so true r) QuietRun (λ e x. Parts true e x) (λ x. ⊥) (λ e. Refuses true e) quiet_reaches none_lost (parting true) e f
     → QuietRun e.world.run
-quiet_end e f (alike ending c x h) = h
+quiet_end e f (alike ending place c x h) = h
 quiet_end e f (refused d g k) = absurd (let no : true ≡ false = k.0 in cc)
 
 pub never_fails : (s : Forth) (bytes given : List ℕ) → (line_on s bytes given []).world.run.failures ≡ 0

@@ -21,6 +21,7 @@ pub mod Rounds
 pub mod Falls
 pub mod Lining
 pub mod Taken
+pub mod Told
 pub mod Looking
 pub mod TextRounds
 pub mod Reading

@@ -1,5 +1,5 @@
 -- What a whole line promises, before it is said as a turn.
-use Rattle.std.specs.Prelude.{◌≡◌, ℕ, Bool, true, false, [], ◌++◌, Some, None, Result, Ok, Err}
+use Rattle.std.specs.Prelude.{◌≡◌, ℕ, Bool, true, false, [], ◌++◌, Option, Some, None, Result, Ok, Err}
 use Rattle.sector_disk.specs.declared.device.SectorDevice.{Ghosts}
 use Rattle.cell_machine.specs.Frames.{Core}
 use Rattle.interpreter.specs.declared.terminal.Terminal.{Ghosts as TerminalGhosts}
@@ -8,6 +8,7 @@ use Rattle.interpreter.specs.declared.fault.Stop.TheVariants as stop
 use Rattle.interpreter.specs.declared.lines.LineEnd.{LineEnd}
 use Rattle.interpreter.specs.declared.lines.LineEnd.TheVariants as end
 use Rattle.interpreter.specs.declared.forth.Forth.{Forth}
+use Rattle.interpreter.specs.declared.place.Place.{Place}
 use Rattle.interpreter.specs.Deeds.{Deed, before, after, Fits, mended}
 use Rattle.interpreter.specs.Law.{Grows}
 use Rattle.interpreter.specs.Lines as lines
@@ -44,13 +45,13 @@ abbrev pub Counts : LineEnd → (before after : ℕ) → Type 0
 Counts e before after = CountsDevice (line_end e) before after
 
 -- the line ends so, in each run
-pub record LineLeft (start : Run → Ended) (deed : Deed) (e : LineEnd) (c : Core) (x : World) : Type 0 where
-  pub ends : (r : Run) → Fits deed r → start (before deed r) ≡ record { ending = line_end e; core = c; world = with_run (after deed r) x }
+pub record LineLeft (start : Run → Ended) (deed : Deed) (e : LineEnd) (place : Option Place) (c : Core) (x : World) : Type 0 where
+  pub ends : (r : Run) → Fits deed r → start (before deed r) ≡ record { ending = line_end e; place = place; core = c; world = with_run (after deed r) x }
 
 -- the terminal broke it off
 pub record LineBreaksOff (start : Run → Ended) (deed : Deed) (c : Core) (x : World) (r : Run) : Type 0 where
   pub run : Run
-  pub ends : start (before deed r) ≡ record { ending = lines.LineEnd.Io; core = c; world = with_run run x }
+  pub ends : start (before deed r) ≡ record { ending = lines.LineEnd.Io; place = None; core = c; world = with_run run x }
   pub input : run.input ≡ r.input
   pub output : run.output ≡ r.output ++ deed.printed
   pub saves : run.saves ≡ r.saves ++ deed.saves
@@ -61,9 +62,9 @@ pub record LineBroke (start : Run → Ended) (deed : Deed) (c : Core) (x : World
   pub input : (r : Run) → Fits deed r → r.terminal ≡ None → r.input ≡ [] → (start (before deed r)).world.run.input ≡ []
   pub failures : (r : Run) → Fits deed r → r.terminal ≡ None → r.answers ≡ [] → (start (before deed r)).world.run.failures ≡ (after deed r).failures
 
-abbrev pub LineComes : (start : Run → Ended) → Deed → LineEnd → Core → World → Type 0
-LineComes start deed end.Io c x = LineBroke start deed c x
-LineComes start deed e c x = LineLeft start deed e c x
+abbrev pub LineComes : (start : Run → Ended) → Deed → LineEnd → Option Place → Core → World → Type 0
+LineComes start deed end.Io place c x = LineBroke start deed c x
+LineComes start deed e place c x = LineLeft start deed e place c x
 
 module _ {D : Type 0} {G : Ghosts D} where
   -- the same stack and data space: no steps are left over
@@ -96,7 +97,7 @@ module _ {D : Type 0} {G : Ghosts D} where
   pub record LineCame (start : Run → Ended) (deed : Deed) (e : LineEnd) (new : Forth D G) (x : World) : Type 0 where
     pub core : Core
     pub same_core : SameStackAndSpace core new
-    pub comes : LineComes start deed e core x
+    pub comes : LineComes start deed e new.place core x
 
 module _ {D T : Type 0} {G : Ghosts D} (H : TerminalGhosts T) where
   pub record Lined (start : Run → Ended) (e : LineEnd) (old new : Forth D G) (terminal terminal' : T) (x : World) : Type 0 where

@@ -4,6 +4,7 @@
 pub use fault::Fault;
 pub use forth::{Forth, NoMemory};
 pub use lines::LineEnd;
+pub use place::Place;
 pub use promise::Lines;
 pub use terminal::{IoFault, Terminal};
 
@@ -12,6 +13,7 @@ mod forth;
 mod interpreting;
 pub mod laws;
 mod lines;
+mod place;
 pub mod promise;
 mod services;
 mod system_cells;

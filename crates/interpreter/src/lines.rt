@@ -1,12 +1,13 @@
 //! A line and its reply.
-ghost use Rattle.std.specs.Prelude.{◌≡◌, ◌++◌, ◌∷◌, [], ◌≤◌, ◌+◌, length, codes};
+ghost use Rattle.std.specs.Prelude.{◌≡◌, ◌++◌, ◌∷◌, [], ◌≤◌, ◌+◌, None, Some, length, codes};
 ghost use Rattle.arrayvec.specs.ArrayVec.{array_vec_len};
 ghost use Rattle.interpreter.specs.FaultNames.{fault_name};
 ghost use Rattle.interpreter.specs.Stops.{fault_of, fault_count};
 
 use crate::fault::{Fault, Stop};
 use crate::forth::Forth;
-use crate::system_cells::{BLK, STATE, TIB, TIB_COUNT, TO_IN};
+use crate::place::{Place, take_loads};
+use crate::system_cells::{BLK, STATE, TIB, TIB_COUNT, TO_IN, cell_of};
 use crate::terminal::{IoFault, Terminal};
 use arrayvec::ArrayVec;
 use cell_machine::machine::Machine;
@@ -55,12 +56,12 @@ impl<D: SectorDevice> Forth<D> {
     ghost use Rattle.cell_machine.specs.Value.{Ends};
     ghost use Rattle.interpreter.specs.Terminals.{print};
     ghost use Rattle.interpreter.specs.Text.{compiling};
-    ghost use Rattle.interpreter.specs.Lines.{replied, ended, after_fault, end_of_line, at_rest, dropped, with_empty_stack, with_line, line};
+    ghost use Rattle.interpreter.specs.Lines.{replied, ended, after_fault, end_of_line, at_rest, dropped, with_empty_stack, with_line, line, place_in};
     ghost use Rattle.interpreter.specs.State.{World, Forth as Abstract, with_run};
     ghost use Rattle.interpreter.specs.Standing.{core, device, Rests, IsAtRest, Stands};
     ghost use Rattle.interpreter.specs.Lining.{Lined, LastsLine, line_end, SameStackAndSpace, SameSpace, Waits, IsSystem, Cleared, Clears, is_broken, Counts};
     ghost use Rattle.block_words.specs.Words.{Save};
-    ghost use Rattle.interpreter.specs.Promise.{Answers, Keeps};
+    ghost use Rattle.interpreter.specs.Promise.{Answers, Keeps, IsPlaced};
     ghost use Rattle.interpreter.specs.Serving.{SparesAll};
 
     /// STATE and BLK are 0, and no definition is open.
@@ -91,43 +92,78 @@ impl<D: SectorDevice> Forth<D> {
         self.stack.clear();
     }
 
-    /// Prints the end of the reply.
-    fn say<T: Terminal>(&mut self, bytes: &[u8], end: LineEnd, terminal: &mut T) -> LineEnd
+    /// What a terminal that failed leaves: the same, and no place.
+    fn break_off(&mut self)
+        ensures closes { (x : World) → Rests self.old x → Rests self.new (dropped x) }
+        ensures same_core { (c : Core) → SameSpace c self.old → SameStackAndSpace (with_empty_stack (at_rest c)) self.new }
+        ensures clears { (x : World) → Rests self.old x → Cleared self.new }
+        ensures steps { self.new.steps ≡ self.old.steps }
+        ensures spares { SparesAll self.old self.new }
+        ensures budget { self.new.budget ≡ self.old.budget }
+        ensures placed { self.new.place ≡ None }
+    {
+        self.abandon();
+        self.place = None;
+    }
+
+    /// Prints the end of the reply. Where the terminal fails there is no place.
+    fn say<T: Terminal>(
+        &mut self,
+        bytes: &[u8],
+        end: LineEnd,
+        place: Option<Place>,
+        terminal: &mut T,
+    ) -> LineEnd
         requires { is_broken end ≡ false }
         ensures lined { (c : Core) (x : World) → SameStackAndSpace c self.old → Rests self.old x
-            → Lined T.Terminal (λ r. replied (line_end end) (print bytes.now c (with_run r x)))
+            → Lined T.Terminal (λ r. replied (line_end end) place (print bytes.now c (with_run r x)))
             result self.old self.new terminal.old terminal.new x }
         ensures lasts { LastsLine D.SectorDevice T.Terminal result (device self.old) (device self.new) terminal.old terminal.new }
         ensures tells { D.failures (device self.new) ≡ D.failures (device self.old) }
         ensures counts { (before after : ℕ) → Counts end before after → Counts result before after }
         ensures clears { Clears end self.old → (x : World) → Rests self.old x → Clears result self.new }
+        ensures placed { IsPlaced (line_end end) place → IsPlaced (line_end result) self.new.place }
         ensures steps { self.new.steps ≡ self.old.steps }
         ensures budget { self.new.budget ≡ self.old.budget }
     {
         match terminal.emit(bytes) {
-            Ok(()) => end,
+            Ok(()) => {
+                self.place = place;
+                end
+            }
             Err(IoFault) => {
-                self.abandon();
+                self.break_off();
                 LineEnd::Io
             }
         }
     }
 
-    /// The end of a line that a fault stopped.
-    fn fail<T: Terminal>(&mut self, fault: Fault, terminal: &mut T) -> LineEnd
+    /// Where the stream stands.
+    fn here_in_stream(&self) -> Place
+        ensures { result ≡ place_in self.now.space }
+    {
+        Place {
+            block: cell_of(&self.space, BLK),
+            to_in: cell_of(&self.space, TO_IN),
+        }
+    }
+
+    /// The end of a line that a fault stopped at this place, if it was at any.
+    fn fail<T: Terminal>(&mut self, fault: Fault, place: Option<Place>, terminal: &mut T) -> LineEnd
         ensures lined { (c : Core) (x : World) → SameSpace c self.old → Rests self.old x
-            → Lined T.Terminal (λ r. after_fault (fault_of fault) c (with_run r x))
+            → Lined T.Terminal (λ r. after_fault place (fault_of fault) c (with_run r x))
             result self.old self.new terminal.old terminal.new x }
         ensures lasts { LastsLine D.SectorDevice T.Terminal result (device self.old) (device self.new) terminal.old terminal.new }
         ensures tells { D.failures (device self.new) ≡ D.failures (device self.old) }
         ensures counts { (count : ℕ) → Counts result count (fault_count fault count) }
         ensures clears { (x : World) → Rests self.old x → Clears result self.new }
+        ensures placed { IsPlaced (line_end result) self.new.place }
         ensures steps { self.new.steps ≡ self.old.steps }
         ensures budget { self.new.budget ≡ self.old.budget }
     {
         self.abandon();
         let text = fault_text(fault);
-        self.say(text.as_slice(), LineEnd::Fault(fault), terminal)
+        self.say(text.as_slice(), LineEnd::Fault(fault), place, terminal)
     }
 
     /// The end of a line that `QUIT` left: the data stack stays.
@@ -139,11 +175,12 @@ impl<D: SectorDevice> Forth<D> {
         ensures tells { D.failures (device self.new) ≡ D.failures (device self.old) }
         ensures counts { (count : ℕ) → Counts result count count }
         ensures clears { (x : World) → Rests self.old x → Clears result self.new }
+        ensures placed { IsPlaced (line_end result) self.new.place }
         ensures steps { self.new.steps ≡ self.old.steps }
         ensures budget { self.new.budget ≡ self.old.budget }
     {
         self.close();
-        self.say(b"\n", LineEnd::Quit, terminal)
+        self.say(b"\n", LineEnd::Quit, None, terminal)
     }
 
     /// The end of a line that `ABORT` left.
@@ -155,11 +192,12 @@ impl<D: SectorDevice> Forth<D> {
         ensures tells { D.failures (device self.new) ≡ D.failures (device self.old) }
         ensures counts { (count : ℕ) → Counts result count count }
         ensures clears { (x : World) → Rests self.old x → Clears result self.new }
+        ensures placed { IsPlaced (line_end result) self.new.place }
         ensures steps { self.new.steps ≡ self.old.steps }
         ensures budget { self.new.budget ≡ self.old.budget }
     {
         self.abandon();
-        self.say(b"\n", LineEnd::Quit, terminal)
+        self.say(b"\n", LineEnd::Quit, None, terminal)
     }
 
     /// Is a definition compiled?
@@ -178,13 +216,14 @@ impl<D: SectorDevice> Forth<D> {
         ensures tells { D.failures (device self.new) ≡ D.failures (device self.old) }
         ensures counts { (count : ℕ) → Counts result count count }
         ensures clears { (x : World) → Rests self.old x → Clears result self.new }
+        ensures placed { IsPlaced (line_end result) self.new.place }
         ensures steps { self.new.steps ≡ self.old.steps }
         ensures budget { self.new.budget ≡ self.old.budget }
     {
         if self.is_compiling() {
-            self.say(b"\n", LineEnd::Compiling, terminal)
+            self.say(b"\n", LineEnd::Compiling, None, terminal)
         } else {
-            self.say(b" ok\n", LineEnd::Interpreting, terminal)
+            self.say(b" ok\n", LineEnd::Interpreting, None, terminal)
         }
     }
 
@@ -212,13 +251,14 @@ impl<D: SectorDevice> Forth<D> {
         ensures sound { IsAtRest self.new }
         ensures runs { (opening : Abstract) → IsSystem self.old opening
             → (closing : Abstract) × (made : List Save) × IsSystem self.new closing
-            × Answers D.SectorDevice (line_end result) opening text.now closing
+            × Answers D.SectorDevice (line_end result) self.new.place opening text.now closing
             (T.input terminal.old) (T.input terminal.new) (T.output terminal.old) (T.output terminal.new)
             (T.calls terminal.old) (T.calls terminal.new) (device self.old) (device self.new) made
             × Keeps D.SectorDevice opening closing (device self.old) (device self.new) made }
         ensures lasts { LastsLine D.SectorDevice T.Terminal result (device self.old) (device self.new) terminal.old terminal.new }
         ensures tells { Counts result (D.failures (device self.old)) (D.failures (device self.new)) }
         ensures clears { Clears result self.new }
+        ensures placed { IsPlaced (line_end result) self.new.place }
         ensures budget { self.new.budget ≡ self.old.budget }
         ensures spends { self.new.steps ≤ self.new.budget }
     {
@@ -234,21 +274,26 @@ impl<D: SectorDevice> Forth<D> {
         ensures lasts { LastsLine D.SectorDevice T.Terminal result (device self.old) (device self.new) terminal.old terminal.new }
         ensures tells { Counts result (D.failures (device self.old)) (D.failures (device self.new)) }
         ensures clears { Clears result self.new }
+        ensures placed { IsPlaced (line_end result) self.new.place }
         ensures budget { self.new.budget ≡ self.old.budget }
         ensures spends { self.new.steps ≤ self.new.budget }
     {
         self.steps = self.budget;
         if text.len() > LINE_LIMIT {
-            return self.fail(Fault::LineLength, terminal);
+            return self.fail(Fault::LineLength, None, terminal);
         }
         self.take_line(text);
         match self.interpret(terminal) {
             Ok(()) => self.finish(terminal),
-            Err(Stop::Fault(fault)) => self.fail(fault, terminal),
+            Err(Stop::Fault(fault)) => {
+                let place = self.here_in_stream();
+                take_loads(&mut self.returns, &mut self.loads);
+                self.fail(fault, Some(place), terminal)
+            }
             Err(Stop::Quit) => self.quit(terminal),
             Err(Stop::Abort) => self.abort(terminal),
             Err(Stop::Io) => {
-                self.abandon();
+                self.break_off();
                 LineEnd::Io
             }
         }

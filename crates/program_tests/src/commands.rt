@@ -43,6 +43,9 @@ put A 1 : error: the following required arguments
 run : error: the following required arguments
 run A --steps 0 : error: invalid value '0'
 run A --steps 1000000001 : error: invalid value '1000000001'
+run A --trace=yes : error: unexpected value 'yes' for '--trace' found; no more were expected
+run A --trace --trace : error: the argument '--trace' cannot be used multiple times
+list A 1 --trace : error: unexpected argument '--trace'
 A : error: unrecognized subcommand 'A'
 --steps 5 : error: unexpected argument '--steps'
 NEW A --blocks 32 : error: unrecognized subcommand 'NEW'";

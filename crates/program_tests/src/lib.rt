@@ -16,4 +16,6 @@ mod support;
 #[cfg(test)]
 mod systems;
 #[cfg(test)]
+mod traces;
+#[cfg(test)]
 mod transferring;

@@ -12,3 +12,4 @@ pub mod LeftOver
 pub mod Ended
 pub mod EachStore
 pub mod Held
+pub mod TraceLemmas

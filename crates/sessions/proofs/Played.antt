@@ -91,6 +91,7 @@ play_is (suc n) s (b ∷ input) answers short whole =
         line = record {
           answers = answers;
           ends = refl;
+          placed = refl;
           leaves = refl;
           taken = is_none e.world.run.input (both_first (is_empty e.world.run.input) later.whole whole);
           met = refl;

@@ -5,3 +5,4 @@ pub mod Sessions
 pub mod Playing
 pub mod Streams
 pub mod Held
+pub mod Traces

@@ -35,6 +35,7 @@ turn_of given e =
       at_end = e.world.run.at_end;
       reply = e.world.run.output;
       ending = e.ending;
+      place = e.place;
       saves = e.world.run.saves;
       failures = e.world.run.failures;
       wear = e.world.run.wear;

@@ -2,9 +2,10 @@
 #![tactic(auto)]
 
 pub use byte_reader::ByteReader;
-pub use over_store::run_over;
+pub use over_store::{run_over, run_over_traced};
 pub use run_fault::RunFault;
-pub use session::run;
+pub use session::{run, run_traced};
+pub use tracing::{Tracer, Traces, Untraced};
 
 mod byte_reader;
 pub mod cut;
@@ -13,3 +14,5 @@ mod over_store;
 mod run_fault;
 mod session;
 pub mod streams;
+mod trace_text;
+mod tracing;

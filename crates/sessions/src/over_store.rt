@@ -10,7 +10,8 @@ ghost use Rattle.sessions.specs.Devices.{Becomes};
 ghost use Rattle.sessions.specs.Sessions.{Completes, BreaksOff};
 
 use super::run_fault::RunFault;
-use super::session::run;
+use super::session::run_traced;
+use super::tracing::{Tracer, Untraced};
 use interpreter::promise::Lines;
 use journal::Store;
 use sector_disk::SectorDevice;
@@ -44,9 +45,39 @@ pub fn run_over<D: SectorDevice + Drop, F: Lines<D>, R: Read, W: Write>(
     // Memory is refused before a line is read.
     ensures unbegun { OnErr result ((reader.new ≡ reader.old) × (writer.new ≡ writer.old)) }
 {
+    run_over_traced::<D, F, R, W, Untraced>(alloc, store, steps, reader, writer, &mut Untraced)
+}
+
+/// The same, where a tracer is told of each line once its reply is written.
+pub fn run_over_traced<D: SectorDevice + Drop, F: Lines<D>, R: Read, W: Write, T: Tracer>(
+    alloc: Global,
+    store: Store<D>,
+    steps: u32,
+    reader: &mut R,
+    writer: &mut W,
+    tracer: &mut T,
+) -> Result<(Store<D>, Result<(), RunFault>), AllocError>
+    requires { 0 < steps }
+    // From store to store: the session of a new system, of which a stop at any moment leaves the blocks of a save.
+    ensures ok { (m : Maps) → StandsFor store m → IfOk result (λ end.
+        (closing : Abstract) × (made : List Save) × StandsFor end.0 closing.world.maps
+        × Keeps D.SectorDevice (new_forth steps m) closing (device_of store) (device_of end.0) made
+        × OnOk end.1 (Completes D.SectorDevice (new_forth steps m) closing
+        (R.remaining reader.old) (R.remaining reader.new)
+        (W.contents writer.old) (W.contents writer.new)
+        (device_of store) (device_of end.0) made)
+        × IfErr end.1 (λ fault. BreaksOff D.SectorDevice fault (new_forth steps m) closing
+        (R.remaining reader.old) (R.remaining reader.new)
+        (W.contents writer.old) (W.contents writer.new)
+        (device_of store) (device_of end.0) made)) }
+    // Over any device: it is the same device, later.
+    ensures goes { IfOk result (λ end. Becomes D.SectorDevice (device_of store) (device_of end.0)) }
+    // Memory is refused before a line is read.
+    ensures unbegun { OnErr result ((reader.new ≡ reader.old) × (writer.new ≡ writer.old)) }
+{
     match F::new(alloc, store, steps) {
         Ok(mut forth) => {
-            let end = run(&mut forth, reader, writer);
+            let end = run_traced(&mut forth, reader, writer, tracer);
             Ok((forth.into_store(), end))
         }
         Err(error) => Err(error),

@@ -37,6 +37,10 @@ read_many words = option_map (λ given. (
 abbrev pub read_check : List Text → Option (Option Text)
 read_check words = option_map (λ given. one_of (codes "check") given.1) (subcommand_of forth83 (codes "forth83" ∷ words))
 
+-- whether a trace is asked for
+abbrev pub read_trace : List Text → Option (Option Text)
+read_trace words = option_map (λ given. one_of (codes "trace") given.1) (subcommand_of forth83 (codes "forth83" ∷ words))
+
 -- which refusals there may be
 abbrev pub refused : List Text → Kinds
 refused words = fault_of forth83 (codes "forth83" ∷ words)
@@ -54,6 +58,10 @@ pub record CommandsAreRead : Type 0 where
   pub runs_fits : refused (codes "run" ∷ codes "A" ∷ []) ≡ []
   pub steps : read (codes "run" ∷ codes "A" ∷ codes "--steps" ∷ codes "7" ∷ [])
       ≡ Some (codes "run", Some (codes "A"), None, None, Some (codes "7"), None)
+  pub traces : read_trace (codes "run" ∷ codes "A" ∷ codes "--trace" ∷ []) ≡ Some (Some (codes "true"))
+  pub traces_fits : refused (codes "run" ∷ codes "--trace" ∷ codes "A" ∷ []) ≡ []
+  pub traces_nothing : read_trace (codes "run" ∷ codes "A" ∷ []) ≡ Some (Some (codes "false"))
+  pub traces_no_list : refused (codes "list" ∷ codes "A" ∷ codes "1" ∷ codes "--trace" ∷ []) ≡ kind.UnknownArgument ∷ []
   pub lists : read (codes "list" ∷ codes "A" ∷ codes "31" ∷ [])
       ≡ Some (codes "list", Some (codes "A"), None, None, None, Some (codes "31"))
   pub puts : read (codes "put" ∷ codes "A" ∷ codes "1" ∷ codes "F" ∷ [])

@@ -7,7 +7,7 @@ use Rattle.clap.specs.declared.builder.value_parser.ValueParser.TheVariants as v
 use Rattle.terminal.specs.declared.orders.Form.{Form}
 use Rattle.terminal.specs.declared.orders.Form.TheVariants.{Text as Lines, Raw}
 use Rattle.terminal.specs.declared.orders.Order.{Order}
-use Rattle.terminal.specs.declared.orders.Order.TheVariants.{Memory, New, Run, List as ListBlock, Put, Export, Import, CheckImport, Upgrade}
+use Rattle.terminal.specs.declared.orders.Order.TheVariants.{Memory, New, Run, Trace, List as ListBlock, Put, Export, Import, CheckImport, Upgrade}
 
 -- an argument that has to be there
 abbrev pub wanted : Text → Rule
@@ -45,6 +45,9 @@ raw = flag (codes "raw")
 abbrev pub check : Rule
 check = flag (codes "check")
 
+abbrev pub trace : Rule
+trace = flag (codes "trace")
+
 abbrev pub file : Rule
 file = wanted (codes "FILE")
 
@@ -68,7 +71,7 @@ abbrev pub new_app_of : App
 new_app_of = with_rule (with_rule (new_app (codes "new")) image) blocks
 
 abbrev pub run_app : App
-run_app = with_rule (with_rule (new_app (codes "run")) image) steps
+run_app = with_rule (with_rule (with_rule (new_app (codes "run")) image) steps) trace
 
 abbrev pub list_app : App
 list_app = with_rule (with_rule (new_app (codes "list")) image) block
@@ -143,7 +146,9 @@ Orders None Memory = ⊤
 Orders (Some given) (New path n) = (given.0 ≡ codes "new") × HasText given.1 (codes "IMAGE") path.now
     × HasNumber given.1 (codes "blocks") n
 Orders (Some given) (Run path n) = (given.0 ≡ codes "run") × HasText given.1 (codes "IMAGE") path.now
-    × HasNumber given.1 (codes "steps") n
+    × HasNumber given.1 (codes "steps") n × IsUnset given.1 (codes "trace")
+Orders (Some given) (Trace path n) = (given.0 ≡ codes "run") × HasText given.1 (codes "IMAGE") path.now
+    × HasNumber given.1 (codes "steps") n × IsSet given.1 (codes "trace")
 Orders (Some given) (ListBlock path b) = (given.0 ≡ codes "list") × HasText given.1 (codes "IMAGE") path.now
     × HasNumber given.1 (codes "BLOCK") b
 Orders (Some given) (Put path b text) = (given.0 ≡ codes "put") × HasText given.1 (codes "IMAGE") path.now
@@ -166,4 +171,5 @@ IsOrderOf words order = Orders (subcommand_of forth83 words) order
 abbrev pub IsInRange : Order → Type 0
 IsInRange (New path n) = (32 ≤ n) × (n ≤ 3840)
 IsInRange (Run path n) = (1 ≤ n) × (n ≤ 1000000000)
+IsInRange (Trace path n) = (1 ≤ n) × (n ≤ 1000000000)
 IsInRange order = ⊤

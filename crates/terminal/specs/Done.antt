@@ -18,7 +18,7 @@ use Rattle.interpreter.specs.Lines.{new_forth}
 use Rattle.interpreter.specs.Promise.{Keeps}
 use Rattle.terminal.specs.declared.orders.Form.{Form}
 use Rattle.terminal.specs.declared.orders.Order.{Order}
-use Rattle.terminal.specs.declared.orders.Order.TheVariants.{Memory, New, Run, List as ListBlock, Put, Export, Import, CheckImport, Upgrade}
+use Rattle.terminal.specs.declared.orders.Order.TheVariants.{Memory, New, Run, Trace, List as ListBlock, Put, Export, Import, CheckImport, Upgrade}
 use Rattle.terminal.specs.Commands.{IsOrderOf}
 use Rattle.terminal.specs.Findings.{blocks_for, refusal, said, told}
 use Rattle.terminal.specs.Screen.{listing, screen_of}
@@ -185,6 +185,8 @@ module _ {D : Type 0} (G : Ghosts D) where
   IsDone opened made Memory left left' written written' = ⊤
   IsDone opened made (New path n) left left' written written' = DoneOn (made path.now (sectors_for n)) (MakesBlank n)
   IsDone opened made (Run path steps) left left' written written' =
+      DoneOn (opened path.now) (RunsSession steps left left' written written')
+  IsDone opened made (Trace path steps) left left' written written' =
       DoneOn (opened path.now) (RunsSession steps left left' written written')
   IsDone opened made (ListBlock path b) left left' written written' = DoneOn (opened path.now) (ListsBlock b written written')
   IsDone opened made (Put path b text) left left' written written' = DoneOn (opened path.now) (PutsBlock b)

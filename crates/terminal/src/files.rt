@@ -17,6 +17,7 @@ use journal::Store;
 use journal::layout::{MOST_BLOCKS, MOST_BLOCKS_1};
 use recovery::{blocks_of_size, upgrade};
 use sector_disk::{HostFile, HostFiles, SectorDevice, SectorFile, create_disk, open_disk};
+use sessions::Tracer;
 use std::alloc::Global;
 use std::fs::{File, Files};
 use std::io::{BufReader, Read, Write};
@@ -61,13 +62,21 @@ pub fn open_image<H: HostFile + Drop, O: HostFiles<H>>(
 }
 
 /// Runs the input over an image, with at most `steps` steps a line.
-pub fn run_image<H: HostFile + Drop, O: HostFiles<H>, F: Lines<SectorFile<H>>, R: Read, W: Write>(
+pub fn run_image<
+    H: HostFile + Drop,
+    O: HostFiles<H>,
+    F: Lines<SectorFile<H>>,
+    R: Read,
+    W: Write,
+    T: Tracer,
+>(
     alloc: Global,
     files: &O,
     path: &str,
     steps: u32,
     input: &mut R,
     output: &mut W,
+    tracer: &mut T,
 ) -> Result<Store<SectorFile<H>>, Failure>
     requires { 0 < steps }
     ensures ran { IfOk result (λ store. Comes ⟦<SectorFile<H> as SectorDevice>⟧
@@ -76,7 +85,7 @@ pub fn run_image<H: HostFile + Drop, O: HostFiles<H>, F: Lines<SectorFile<H>>, R
         (W.contents output.old) (W.contents output.new)) (device_of store)) }
 {
     let store = open_image(files, path)?;
-    run_session::<SectorFile<H>, F, R, W>(alloc, store, steps, input, output)
+    run_session::<SectorFile<H>, F, R, W, T>(alloc, store, steps, input, output, tracer)
 }
 
 /// Prints a block of an image. Nothing is written to the image, but by its recovery.

@@ -18,6 +18,8 @@ pub enum Order<'a> {
     New(&'a str, u16),
     /// Run the input over an image, with so many steps a line.
     Run(&'a str, u32),
+    /// The same, and tell beside the replies where a fault ended a line.
+    Trace(&'a str, u32),
     /// Print a block of an image.
     List(&'a str, u16),
     /// Make the lines of a file a block of an image.

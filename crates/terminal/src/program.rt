@@ -28,7 +28,7 @@ use interpreter::promise::Lines;
 use journal::Store;
 use recovery::format;
 use sector_disk::{FileDisk, HostFile, HostFiles, MemoryDisk, SectorDevice, SectorFile, StdFiles};
-use sessions::run_over;
+use sessions::{Tracer, Traces, Untraced, run_over_traced};
 use std::alloc::Global;
 use std::convert::AsStr;
 use std::fs::{File, Files};
@@ -129,13 +129,23 @@ fn perform<
     match asked {
         Order::Memory => run_in_memory::<M, R, W>(rt, input, output),
         Order::New(path, blocks) => closed(make_image::<H, O>(files, path, blocks)),
-        Order::Run(path, steps) => closed(run_image::<H, O, F, R, W>(
+        Order::Run(path, steps) => closed(run_image::<H, O, F, R, W, Untraced>(
             rt.alloc(),
             files,
             path,
             steps,
             input,
             output,
+            &mut Untraced,
+        )),
+        Order::Trace(path, steps) => closed(run_image::<H, O, F, R, W, Traces<'_, E>>(
+            rt.alloc(),
+            files,
+            path,
+            steps,
+            input,
+            output,
+            &mut Traces::new(errors),
         )),
         Order::List(path, block) => closed(list_image::<H, O, W>(files, path, block, output)),
         Order::Put(path, block, text) => {
@@ -177,12 +187,13 @@ fn run_in_memory<M: Lines<MemoryDisk>, R: Read, W: Write>(
 {
     match MemoryDisk::new(rt.alloc(), 3 + 4 * BLOCKS as u32) {
         Ok(disk) => match format(disk, BLOCKS) {
-            Ok(store) => closed(run_session::<MemoryDisk, M, R, W>(
+            Ok(store) => closed(run_session::<MemoryDisk, M, R, W, Untraced>(
                 rt.alloc(),
                 store,
                 STEPS,
                 input,
                 output,
+                &mut Untraced,
             )),
             Err((fault, _)) => Err(Failure::from(fault)),
         },
@@ -191,12 +202,13 @@ fn run_in_memory<M: Lines<MemoryDisk>, R: Read, W: Write>(
 }
 
 /// Runs the input over a store, and gives the store back: what was changed and not saved is given up.
-pub(crate) fn run_session<D: SectorDevice + Drop, F: Lines<D>, R: Read, W: Write>(
+pub(crate) fn run_session<D: SectorDevice + Drop, F: Lines<D>, R: Read, W: Write, T: Tracer>(
     alloc: Global,
     store: Store<D>,
     steps: u32,
     input: &mut R,
     output: &mut W,
+    tracer: &mut T,
 ) -> Result<Store<D>, Failure>
     requires { 0 < steps }
     ensures well { (m : Maps) → StandsFor store m → IfOk result (λ end.
@@ -210,7 +222,7 @@ pub(crate) fn run_session<D: SectorDevice + Drop, F: Lines<D>, R: Read, W: Write
     // Memory is refused before the session begins.
     ensures unbegun { IsErrOf result Failure.NoMemory → (input.new ≡ input.old) × (output.new ≡ output.old) }
 {
-    match run_over::<D, F, R, W>(alloc, store, steps, input, output) {
+    match run_over_traced::<D, F, R, W, T>(alloc, store, steps, input, output, tracer) {
         Ok((store, Ok(()))) => Ok(store),
         Ok((_, Err(fault))) => Err(Failure::from(fault)),
         Err(_) => Err(Failure::NoMemory),

@@ -2,7 +2,7 @@
 ghost use Rattle.std.specs.Prelude.{◌≡◌, ◌≤◌, ℕ, List, false, Some, map, codes, IfOk, IfSome};
 ghost use Rattle.clap.specs.Words.{FailsBy, app_of, fault_of, found_of, rows_of, rule_of, with_subcommand};
 ghost use Rattle.clap.specs.declared.builder.command.Command.TheViews.{out-Command};
-ghost use Rattle.terminal.specs.Commands.{image, old_image, new_image, block, first_block, last_block, file, raw, check, blocks, steps, new_app_of, run_app, list_app, put_app, export_app, import_app, import_without_flags, upgrade_app, program, forth83, over_blocks, ReadsAs, SufficesFor, HasForm, HasNumber, HasText, Orders, IsOrderOf, IsInRange};
+ghost use Rattle.terminal.specs.Commands.{image, old_image, new_image, block, first_block, last_block, file, raw, check, trace, blocks, steps, new_app_of, run_app, list_app, put_app, export_app, import_app, import_without_flags, upgrade_app, program, forth83, over_blocks, ReadsAs, SufficesFor, HasForm, HasNumber, HasText, Orders, IsOrderOf, IsInRange};
 
 use super::orders::{Form, Order};
 use clap::{Arg, ArgAction, ArgMatches, Command, Error};
@@ -51,10 +51,26 @@ fn order_over_image<'a>(name: &str, given: &ArgMatches<'a>) -> Option<Order<'a>>
     let image = given.get_str("IMAGE")?;
     match name {
         "new" => Some(Order::New(image, blocks_of(given)?)),
-        "run" => Some(Order::Run(image, steps_of(given)?)),
+        "run" => Some(order_of_run(image, steps_of(given)?, given)),
         "list" => Some(Order::List(image, block_of(given, "BLOCK")?)),
         "put" => Some(Order::Put(image, block_of(given, "BLOCK")?, given.get_str("FILE")?)),
         _ => order_over_blocks(name, image, given),
+    }
+}
+
+/// The order of a run, with a trace or without one.
+fn order_of_run<'a>(image: &'a str, steps: u32, given: &ArgMatches<'a>) -> Order<'a>
+    requires image { HasText (rows_of (found_of given.now)) (codes "IMAGE") image.now }
+    requires steps { HasNumber (rows_of (found_of given.now)) (codes "steps") steps }
+    requires many { 1 ≤ steps }
+    requires few { steps ≤ 1000000000 }
+    ensures given { Orders (Some (codes "run", rows_of (found_of given.now))) result }
+    ensures ranges { IsInRange result }
+{
+    if given.get_flag("trace") {
+        Order::Trace(image, steps)
+    } else {
+        Order::Run(image, steps)
     }
 }
 
@@ -259,6 +275,16 @@ fn check_option<'a>(alloc: Global) -> Arg<'a>
         .help("Tell what looks wrong in FILE, and write nothing")
 }
 
+fn trace_option<'a>(alloc: Global) -> Arg<'a>
+    ensures rule { rule_of result ≡ trace }
+    ensures local { result.global ≡ false }
+{
+    Arg::new(alloc, "trace")
+        .long("trace")
+        .action(ArgAction::SetTrue)
+        .help("Tell on standard error where a fault ended a line")
+}
+
 fn new_command<'a>(alloc: Global) -> Result<Command<'a>, AllocError>
     ensures app { IfOk result (λ c. app_of c ≡ new_app_of) }
     ensures local { IfOk result (λ c. (out-Command c).has_globals ≡ false) }
@@ -276,7 +302,8 @@ fn run_command<'a>(alloc: Global) -> Result<Command<'a>, AllocError>
     Command::new(alloc, "run")
         .about("Run the lines of standard input over an image")
         .arg(image_argument(alloc))?
-        .arg(steps_option(alloc))
+        .arg(steps_option(alloc))?
+        .arg(trace_option(alloc))
 }
 
 fn list_command<'a>(alloc: Global) -> Result<Command<'a>, AllocError>

@@ -12,7 +12,7 @@ use data_space::DataSpace;
 use sector_disk::SectorDevice;
 
 /// The line's text.
-fn line_of(space: &DataSpace) -> &[u8]
+pub(crate) fn line_of(space: &DataSpace) -> &[u8]
     ensures line { result.now ≡ bytes_at space.now 256 (min (cell_at space.now 24) 1024) }
     ensures within { length result.now ≤ 1024 }
 {
@@ -45,6 +45,14 @@ fn cut_from(cut: Cut, text: &[u8], delimiter: u8) -> (&[u8], usize)
     }
 }
 
+/// Puts a blank behind so many bytes, if there are any. It ends the word that is told after a fault in a block: no clause
+/// speaks of it.
+fn mark_end(kept: &mut [u8; 1024], count: usize) {
+    if 0 < count && count < kept.len() {
+        kept[count] = b' ';
+    }
+}
+
 /// Keeps what is cut from a text from `to_in` on, and gives how many bytes it has, and where `>IN` then stands.
 fn keep(cut: Cut, text: &[u8], to_in: u16, delimiter: u8, kept: &mut [u8; 1024]) -> (usize, u16)
     requires { length text.now ≤ 1024 }
@@ -55,6 +63,7 @@ fn keep(cut: Cut, text: &[u8], to_in: u16, delimiter: u8, kept: &mut [u8; 1024])
 {
     let start = usize::from(to_in).min(text.len());
     let (taken, over) = cut_from(cut, &text[start..], delimiter);
+    mark_end(kept, taken.len());
     kept[..taken.len()].copy_from_slice(taken);
     (taken.len(), (start + over) as u16)
 }

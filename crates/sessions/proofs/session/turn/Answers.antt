@@ -11,45 +11,45 @@ returns-in-Err-clause-err g c = λ opening is.
 pub returns-then-has_failed-clause-err : goal.returns-then-has_failed-clause-err
 returns-then-has_failed-clause-err g c = λ opening is.
     let kept = rw c.in-Ok-true.field-0-test at c.in-Ok-true.ensures.line in
-    let ran = c.line.ensures.runs opening is in
+    let ran = c.line-end.ensures.runs opening is in
     let none = c.in-Ok-true.ensures.none_failed ∙ c.requires.none_failed in
-    let some : 0 < c.line.new.terminal.failures = rw c.if-has_failed.true at c.has_failed.ensures.yes in (
+    let some : 0 < c.line-end.new.terminal.failures = rw c.if-has_failed.true at c.has_failed.ensures.yes in (
       ran.0,
       ran.1,
       ran.2,
       ran.4,
-      line_stopped g.D.SectorDevice c.long_lines.ensures opening _ _ _ _ _ _ c.read_line.new.line.items c.text.result.now kept (c.text.ensures ∙ ap (strip_last 13) c.as_slice.ensures.value) c.in-Ok-true.ensures.output _ _ ran.1 ran.0 c.line.ensures.time c.fault.result
-          (was_stopped g.D.SectorDevice opening c.text.result.now ran.0 _ _ _ _ _ _ _ _ ran.1 _ _ (g.F.Lines.ending c.line.result) ran.3 c.line.ensures.terminal_failures none some),
+      line_stopped g.D.SectorDevice c.long_lines.ensures opening _ _ _ _ _ _ c.read_line.new.line.items c.text.result.now kept (c.text.ensures ∙ ap (strip_last 13) c.as_slice.ensures.value) c.in-Ok-true.ensures.output _ _ ran.1 ran.0 c.line-end.ensures.time c.fault.result
+          (was_stopped g.D.SectorDevice opening c.text.result.now ran.0 _ _ _ _ _ _ _ _ ran.1 _ _ (g.F.Lines.ending c.line-end.result) (g.F.Lines.placed c.line-end.new.self) ran.3 c.line-end.ensures.terminal_failures none some),
     )
 
 pub returns-in-Ok-clause-done : goal.returns-in-Ok-clause-done
 returns-in-Ok-clause-done g c = λ opening is.
     let kept = rw c.in-Ok-true.field-0-test at c.in-Ok-true.ensures.line in
-    let ran = c.line.ensures.runs opening is in
+    let ran = c.line-end.ensures.runs opening is in
     let none = c.in-Ok-true.ensures.none_failed ∙ c.requires.none_failed in
-    let still : c.line.new.terminal.failures ≡ 0 = rw c.if-has_failed.false at c.has_failed.ensures.no_call in (
+    let still : c.line-end.new.terminal.failures ≡ 0 = rw c.if-has_failed.false at c.has_failed.ensures.no_call in (
       ran.0,
       ran.1,
       ran.2,
       ran.4,
-      line_replied g.D.SectorDevice c.long_lines.ensures opening _ _ _ _ _ _ c.read_line.new.line.items c.text.result.now kept (c.text.ensures ∙ ap (strip_last 13) c.as_slice.ensures.value) c.in-Ok-true.ensures.output _ _ ran.1 ran.0 c.line.ensures.time
-          (g.F.Lines.ending c.line.result)
-          (was_replied g.D.SectorDevice opening c.text.result.now ran.0 _ _ _ _ _ _ _ _ ran.1 _ _ (g.F.Lines.ending c.line.result) ran.3 c.line.ensures.terminal_failures none still)
+      line_replied g.D.SectorDevice c.long_lines.ensures opening _ _ _ _ _ _ c.read_line.new.line.items c.text.result.now kept (c.text.ensures ∙ ap (strip_last 13) c.as_slice.ensures.value) c.in-Ok-true.ensures.output _ _ ran.1 ran.0 c.line-end.ensures.time
+          (g.F.Lines.ending c.line-end.result) (g.F.Lines.placed c.line-end.new.self)
+          (was_replied g.D.SectorDevice opening c.text.result.now ran.0 _ _ _ _ _ _ _ _ ran.1 _ _ (g.F.Lines.ending c.line-end.result) (g.F.Lines.placed c.line-end.new.self) ran.3 c.line-end.ensures.terminal_failures none still)
           _ _ c.in-Ok.ensures.input c.in-Ok.ensures.output,
     )
 
-pub returns-in-Err-flush-clause-err : goal.returns-in-Err-flush-clause-err
-returns-in-Err-flush-clause-err g c = λ opening is.
+pub returns-clause-err : goal.returns-clause-err
+returns-clause-err g c = λ opening is.
     let kept = rw c.in-Ok-true.field-0-test at c.in-Ok-true.ensures.line in
-    let ran = c.line.ensures.runs opening is in
+    let ran = c.line-end.ensures.runs opening is in
     let none = c.in-Ok-true.ensures.none_failed ∙ c.requires.none_failed in
-    let still : c.line.new.terminal.failures ≡ 0 = rw c.if-has_failed.false at c.has_failed.ensures.no_call in (
+    let still : c.line-end.new.terminal.failures ≡ 0 = rw c.if-has_failed.false at c.has_failed.ensures.no_call in (
       ran.0,
       ran.1,
       ran.2,
       ran.4,
-      line_unflushed g.D.SectorDevice c.long_lines.ensures opening _ _ _ _ _ _ c.read_line.new.line.items c.text.result.now kept (c.text.ensures ∙ ap (strip_last 13) c.as_slice.ensures.value) c.in-Ok-true.ensures.output _ _ ran.1 ran.0 c.line.ensures.time
-          (g.F.Lines.ending c.line.result)
-          (was_replied g.D.SectorDevice opening c.text.result.now ran.0 _ _ _ _ _ _ _ _ ran.1 _ _ (g.F.Lines.ending c.line.result) ran.3 c.line.ensures.terminal_failures none still)
+      line_unflushed g.D.SectorDevice c.long_lines.ensures opening _ _ _ _ _ _ c.read_line.new.line.items c.text.result.now kept (c.text.ensures ∙ ap (strip_last 13) c.as_slice.ensures.value) c.in-Ok-true.ensures.output _ _ ran.1 ran.0 c.line-end.ensures.time
+          (g.F.Lines.ending c.line-end.result) (g.F.Lines.placed c.line-end.new.self)
+          (was_replied g.D.SectorDevice opening c.text.result.now ran.0 _ _ _ _ _ _ _ _ ran.1 _ _ (g.F.Lines.ending c.line-end.result) (g.F.Lines.placed c.line-end.new.self) ran.3 c.line-end.ensures.terminal_failures none still)
           _ _ c.in-Err-flush.ensures.input c.in-Err-flush.ensures.output,
     )

@@ -10,6 +10,10 @@ pub returns-in-Run-clause-done : goal.returns-in-Run-clause-done
 returns-in-Run-clause-done g c =
     rw c.in-Run.is (done_of c.run_image.result c.closed-in-Run.result c.closed-in-Run.ensures _ _ (λ store ran. (device_of store, ran)) c.run_image.ensures.ran)
 
+pub returns-in-Trace-clause-done : goal.returns-in-Trace-clause-done
+returns-in-Trace-clause-done g c =
+    rw c.in-Trace.is (done_of c.run_image-in-Trace.result c.closed-in-Trace.result c.closed-in-Trace.ensures _ _ (λ store ran. (device_of store, ran)) c.run_image-in-Trace.ensures.ran)
+
 pub returns-in-List-clause-done : goal.returns-in-List-clause-done
 returns-in-List-clause-done g c =
     rw c.in-List.is (done_of c.list_image.result c.closed-in-List.result c.closed-in-List.ensures _ _ (λ store listed. (device_of store, listed)) c.list_image.ensures.listed)

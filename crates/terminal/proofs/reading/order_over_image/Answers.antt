@@ -10,12 +10,8 @@ returns-in_ok-blocks_of-in-new-clause-given c = (
   c.in_ok-blocks_of-in-new.ensures.number,
 )
 
-pub returns-in_ok-steps_of-in-run-clause-given : goal.returns-in_ok-steps_of-in-run-clause-given
-returns-in_ok-steps_of-in-run-clause-given c = (
-  search rules,
-  text_given c.args.given.now (codes "IMAGE") c.in_ok-image.image.now c.in_ok-image.ensures,
-  c.in_ok-steps_of-in-run.ensures.number,
-)
+pub order_of_run-requires-clause-image : goal.order_of_run-requires-clause-image
+order_of_run-requires-clause-image c = text_given c.args.given.now (codes "IMAGE") c.in_ok-image.image.now c.in_ok-image.ensures
 
 pub returns-in_ok-block_of-in-list-clause-given : goal.returns-in_ok-block_of-in-list-clause-given
 returns-in_ok-block_of-in-list-clause-given c = (

@@ -22,3 +22,9 @@ returns-then-is_compiling-clause-clears g c = λ x rests. c.say.ensures.clears t
 
 pub returns-else-is_compiling-clause-clears : goal.returns-else-is_compiling-clause-clears
 returns-else-is_compiling-clause-clears g c = λ x rests. c.say-else-is_compiling.ensures.clears tt x rests
+
+pub returns-then-is_compiling-clause-placed : goal.returns-then-is_compiling-clause-placed
+returns-then-is_compiling-clause-placed g c = c.say.ensures.placed refl
+
+pub returns-else-is_compiling-clause-placed : goal.returns-else-is_compiling-clause-placed
+returns-else-is_compiling-clause-placed g c = c.say-else-is_compiling.ensures.placed refl

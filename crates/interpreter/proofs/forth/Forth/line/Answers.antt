@@ -6,7 +6,7 @@ use Rattle.interpreter.specs.declared.lines.LineEnd.TheVariants as end
 use Rattle.interpreter.specs.Standing.{core}
 use Rattle.interpreter.specs.Stops.{fault_count}
 use Rattle.interpreter.proofs.Telling.{counts_as, same_count}
-use Rattle.interpreter.proofs.Lining.{lined_as, line_too_long, line_opens, over_lined, ends_lined, broke_lined}
+use Rattle.interpreter.proofs.Lining.{lined_as, line_too_long, line_opens, over_lined, ends_lined, fault_lined, broke_lined}
 use Rattle.interpreter.proofs.forth.Forth.line.Goals as goal
 
 pub returns-then-text-gt-LINE_LIMIT-clause-lined : goal.returns-then-text-gt-LINE_LIMIT-clause-lined
@@ -36,8 +36,8 @@ returns-in-Err-Io-clause-lined g c = λ opening waits.
     let ran = rw c.in-Err-Io.field-0-is at c.in-Err-Io.ensures.ran in
     let h = ran (suc c.args.self.now.budget) [] opening.world (omega (arith, c.take_line.ensures.steps)) (c.take_line.ensures.stands opening.world waits.rests) in
     lined_as g.T.Terminal _ end.Io c.args.self.now opening.world (λ r. refl) c.take_line.ensures.device refl
-    (broke_lined g.D.SectorDevice g.T.Terminal D.counts_now D.widens D.only_now _ c.abandon.new.self h opens c.abandon.ensures.spares.device
-    (λ d space. c.abandon.ensures.same_core d space) (c.abandon.ensures.closes h.world h.stands))
+    (broke_lined g.D.SectorDevice g.T.Terminal D.counts_now D.widens D.only_now _ c.break_off.new.self h opens c.break_off.ensures.spares.device
+    (λ d space. c.break_off.ensures.same_core d space) (c.break_off.ensures.closes h.world h.stands))
 
 pub returns-in-Err-Fault-clause-lined : goal.returns-in-Err-Fault-clause-lined
 returns-in-Err-Fault-clause-lined g c = λ opening waits.
@@ -48,7 +48,8 @@ returns-in-Err-Fault-clause-lined g c = λ opening waits.
     let h = ran (suc c.args.self.now.budget) [] opening.world (omega (arith, c.take_line.ensures.steps)) (c.take_line.ensures.stands opening.world waits.rests) in
     let lasts = rw c.in-Err-Fault.field-0-is at c.in-Err-Fault.ensures.continues.lasts in
     lined_as g.T.Terminal _ c.fail-in-Err-Fault.result c.args.self.now opening.world (λ r. refl) c.take_line.ensures.device refl
-    (ends_lined g.D.SectorDevice g.T.Terminal D.counts_now D.widens D.only_now _ (stop.Fault c.in-Err-Fault.fault) refl h opens lasts c.fail-in-Err-Fault.ensures.lasts
+    (fault_lined g.D.SectorDevice g.T.Terminal D.counts_now D.widens D.only_now _ c.in-Err-Fault.fault c.here_in_stream-place.result h opens lasts c.fail-in-Err-Fault.ensures.lasts
+    c.here_in_stream-place.ensures refl
     (λ d like. c.fail-in-Err-Fault.ensures.lined d h.world (record { space = like }) h.stands))
 
 pub returns-in-Err-Quit-clause-lined : goal.returns-in-Err-Quit-clause-lined
@@ -102,7 +103,7 @@ returns-in-Err-Abort-clause-tells g c =
 pub returns-in-Err-Io-clause-tells : goal.returns-in-Err-Io-clause-tells
 returns-in-Err-Io-clause-tells g c =
     let told = rw c.in-Err-Io.field-0-is at c.in-Err-Io.ensures.continues.tells in
-    inl (same_count g.D.SectorDevice c.abandon.ensures.spares.device ∙ told ∙ same_count g.D.SectorDevice c.take_line.ensures.device)
+    inl (same_count g.D.SectorDevice c.break_off.ensures.spares.device ∙ told ∙ same_count g.D.SectorDevice c.take_line.ensures.device)
 
 pub returns-then-text-gt-LINE_LIMIT-clause-clears : goal.returns-then-text-gt-LINE_LIMIT-clause-clears
 returns-then-text-gt-LINE_LIMIT-clause-clears g c = c.fail.ensures.clears c.requires.sound.0 c.requires.sound.1
@@ -157,10 +158,10 @@ pub returns-in-Err-Io-clause-clears : goal.returns-in-Err-Io-clause-clears
 returns-in-Err-Io-clause-clears g c =
     let ran = rw c.in-Err-Io.field-0-is at c.in-Err-Io.ensures.ran in
     let h = ran (suc c.args.self.now.budget) [] c.requires.sound.0 (omega (arith, c.take_line.ensures.steps)) (c.take_line.ensures.stands c.requires.sound.0 c.requires.sound.1) in
-    c.abandon.ensures.clears h.world h.stands
+    c.break_off.ensures.clears h.world h.stands
 
 pub returns-in-Err-Io-clause-spends : goal.returns-in-Err-Io-clause-spends
 returns-in-Err-Io-clause-spends g c =
     let ran = rw c.in-Err-Io.field-0-is at c.in-Err-Io.ensures.ran in
     let h = ran (suc c.args.self.now.budget) [] c.requires.sound.0 (omega (arith, c.take_line.ensures.steps)) (c.take_line.ensures.stands c.requires.sound.0 c.requires.sound.1) in
-    omega (arith, h.steps, c.take_line.ensures.steps, c.abandon.ensures.steps, c.take_line.ensures.budget, c.in-Err-Io.ensures.continues.budget, c.abandon.ensures.spares.budget)
+    omega (arith, h.steps, c.take_line.ensures.steps, c.break_off.ensures.steps, c.take_line.ensures.budget, c.in-Err-Io.ensures.continues.budget, c.break_off.ensures.spares.budget)

@@ -10,3 +10,6 @@ returns-clause-lined g c = λ d x same_core rests.
 
 pub returns-clause-clears : goal.returns-clause-clears
 returns-clause-clears g c = λ x rests. c.say.ensures.clears tt (dropped x) (c.close.ensures.closes x rests)
+
+pub returns-clause-placed : goal.returns-clause-placed
+returns-clause-placed g c = c.say.ensures.placed refl

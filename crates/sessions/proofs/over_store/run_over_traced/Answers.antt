@@ -3,31 +3,31 @@ use Rattle.journal.specs.Store.{StandsFor, device_of}
 use Rattle.interpreter.specs.Lines.{new_forth}
 use Rattle.sessions.proofs.EachStore.{own_maps, stands_for_own}
 use Rattle.sessions.proofs.Ended.{ended}
-use Rattle.sessions.proofs.over_store.run_over.Goals as goal
+use Rattle.sessions.proofs.over_store.run_over_traced.Goals as goal
 
 pub returns-in-Ok-clause-ok : goal.returns-in-Ok-clause-ok
 returns-in-Ok-clause-ok g c =
     let before : g.F.Lines.device c.in-Ok.forth ≡ device_of c.args.store =
     c.in-Ok.ensures.device (device_of c.args.store) (λ held is. ap device_of is) in
-    let after : g.F.Lines.device c.run-end.new.forth ≡ device_of c.into_store.result = sym c.into_store.ensures.device in
-    let ok = rw (before, after) at c.run-end.ensures.ok in
-    let err = rw (before, after) at c.run-end.ensures.err in
-    λ m stands. ended c.run-end.result _ _ _ _ _ _ c.into_store.ensures.maps (new_forth c.args.steps m)
+    let after : g.F.Lines.device c.run_traced-end.new.forth ≡ device_of c.into_store.result = sym c.into_store.ensures.device in
+    let ok = rw (before, after) at c.run_traced-end.ensures.ok in
+    let err = rw (before, after) at c.run_traced-end.ensures.err in
+    λ m stands. ended c.run_traced-end.result _ _ _ _ _ _ c.into_store.ensures.maps (new_forth c.args.steps m)
     (c.in-Ok.ensures.opens m (λ held is. subst (λ s. StandsFor s m) (sym is) stands)) ok err
 
 pub returns-in-Ok-clause-goes : goal.returns-in-Ok-clause-goes
 returns-in-Ok-clause-goes g c =
     let before : g.F.Lines.device c.in-Ok.forth ≡ device_of c.args.store =
     c.in-Ok.ensures.device (device_of c.args.store) (λ held is. ap device_of is) in
-    let after : g.F.Lines.device c.run-end.new.forth ≡ device_of c.into_store.result = sym c.into_store.ensures.device in
+    let after : g.F.Lines.device c.run_traced-end.new.forth ≡ device_of c.into_store.result = sym c.into_store.ensures.device in
     record {
-      model = rw (before, after) at c.run-end.ensures.model;
-      time = rw (before, after) at c.run-end.ensures.time;
-      failures = rw (before, after) at c.run-end.ensures.failures;
+      model = rw (before, after) at c.run_traced-end.ensures.model;
+      time = rw (before, after) at c.run_traced-end.ensures.time;
+      failures = rw (before, after) at c.run_traced-end.ensures.failures;
     }
 
-pub run-end-requires : goal.run-end-requires
-run-end-requires g c =
+pub run_traced-end-requires : goal.run_traced-end-requires
+run_traced-end-requires g c =
     let present = g.met.D.SectorDevice.present in
     let sound = c.in-Ok.ensures.sound (own_maps present c.args.store)
     (λ held is keeps. subst (λ s. StandsFor s (own_maps present c.args.store)) (sym is)

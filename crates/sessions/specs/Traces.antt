@@ -1,0 +1,60 @@
+-- What is told, beside the reply, of a line that a fault ended.
+use Rattle.std.specs.Prelude.{◌≡◌, ℕ, zero, suc, ◌-◌, ◌/◌, ◌%◌, ◌==◌, if◌then◌else◌, List, [], ◌∷◌, ◌++◌, take, codes, Option, Some, None}
+use Rattle.std.specs.Io.KnownBytes.{Appends}
+use Rattle.number_io.specs.Writing.{number_text}
+use Rattle.cell_machine.specs.Fault.{Fault}
+use Rattle.interpreter.specs.declared.place.Place.{Place}
+use Rattle.interpreter.specs.FaultNames.{fault_name}
+use Rattle.interpreter.specs.Lines.{LineEnd, Fails}
+
+-- the number of the line after the n-th: the largest one stays
+abbrev pub next_number : ℕ → ℕ
+next_number n = if n == 4294967295 then n else suc n
+
+abbrev pub decimal : ℕ → List ℕ
+decimal n = number_text 10 n
+
+-- where the last byte that was taken stands: in the line by its column, in a block by its line too, all from 0
+abbrev pub in_line : ℕ → List ℕ
+in_line at = codes "column " ++ decimal at
+
+abbrev pub in_block : (block at : ℕ) → List ℕ
+in_block block at = codes "block " ++ decimal block ++ codes " line " ++ decimal (at / 64) ++ codes " " ++ in_line (at % 64)
+
+abbrev pub text_at : (block at : ℕ) → List ℕ
+text_at zero at = in_line at
+text_at (suc b) at = in_block (suc b) at
+
+abbrev pub place_text : Place → List ℕ
+place_text place = text_at place.block (place.to_in - 1)
+
+-- and nothing, where nothing was taken
+abbrev pub at_place : Option Place → List ℕ
+at_place None = []
+at_place (Some place) = codes " at " ++ place_text place
+
+-- in which line of the input, which fault, and where
+abbrev pub fault_told : ℕ → Fault → Option Place → List ℕ
+fault_told number fault place = codes "line " ++ decimal number ++ codes ": " ++ fault_name fault ++ at_place place
+
+-- the word before the place, its first bytes, and nothing where there is none
+abbrev pub word_text : List ℕ → List ℕ
+word_text [] = []
+word_text (b ∷ word) = codes ", after " ++ take 31 (b ∷ word)
+
+-- the loads that led there, as they are given
+abbrev pub load_text : Place → List ℕ
+load_text load = codes ", loaded at " ++ place_text load
+
+abbrev pub loads_text : List Place → List ℕ
+loads_text [] = []
+loads_text (load ∷ loads) = load_text load ++ loads_text loads
+
+-- a trace is one line
+abbrev pub trace_of : ℕ → Fault → Option Place → List ℕ → List Place → List ℕ
+trace_of number fault place word loads = ((fault_told number fault place ++ word_text word) ++ loads_text loads) ++ 10 ∷ []
+
+-- This was written for the line: its trace, where a fault ended it. Else nothing.
+abbrev pub Writes : ℕ → LineEnd → Option Place → List ℕ → List Place → (written written' : Option (List ℕ)) → Type 0
+Writes number (Fails fault) place word loads written written' = Appends written written' (trace_of number fault place word loads)
+Writes number ending place word loads written written' = written' ≡ written

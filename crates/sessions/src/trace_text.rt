@@ -1,0 +1,171 @@
+//! The text of a trace.
+ghost use Rattle.std.specs.Prelude.{◌≡◌, ◌≤◌, ◌+◌, ◌*◌, ◌++◌, length};
+ghost use Rattle.arrayvec.specs.ArrayVec.{array_vec_len};
+ghost use Rattle.interpreter.specs.Stops.{fault_of};
+ghost use Rattle.sessions.specs.Traces.{at_place, decimal, fault_told, in_block, in_line, load_text, loads_text, place_text, trace_of, word_text};
+
+use arrayvec::ArrayVec;
+use interpreter::{Fault, Place};
+use number_io::Held;
+
+/// How many bytes a trace has at most.
+const ROOM: usize = 2048;
+
+/// How many bytes of a word are told.
+const WORD_ROOM: usize = 31;
+
+/// How many bytes a line of a block has.
+const ROW: u16 = 64;
+
+/// A text that is put together.
+pub(super) type Text = ArrayVec<u8, ROOM>;
+
+fn append(text: &mut Text, bytes: &[u8])
+    requires { array_vec_len text.old + length bytes.now ≤ 2048 }
+    ensures after { text.new.items ≡ text.old.items ++ bytes.now }
+    ensures room { array_vec_len text.new ≡ array_vec_len text.old + length bytes.now }
+{
+    let _ = text.try_extend_from_slice(bytes);
+}
+
+/// The digits of a number.
+fn digits_of(number: u32) -> Held
+    ensures value { result ≡ decimal number }
+    ensures short { length result ≤ 32 }
+{
+    let mut text = Held::new();
+    text.digits(number, 10);
+    text
+}
+
+fn append_number(text: &mut Text, number: u32)
+    requires { array_vec_len text.old + 32 ≤ 2048 }
+    ensures after { text.new.items ≡ text.old.items ++ decimal number }
+    ensures room { array_vec_len text.new ≤ array_vec_len text.old + 32 }
+{
+    let digits = digits_of(number);
+    append(text, digits.finish());
+}
+
+/// Where in a line a byte stands.
+fn append_column(text: &mut Text, at: u16)
+    requires { array_vec_len text.old + 64 ≤ 2048 }
+    ensures after { text.new.items ≡ text.old.items ++ in_line at }
+    ensures room { array_vec_len text.new ≤ array_vec_len text.old + 64 }
+{
+    append(text, b"column ");
+    append_number(text, u32::from(at));
+}
+
+/// Where in a block a byte stands.
+fn append_row(text: &mut Text, block: u16, at: u16)
+    requires { array_vec_len text.old + 192 ≤ 2048 }
+    ensures after { text.new.items ≡ text.old.items ++ in_block block at }
+    ensures room { array_vec_len text.new ≤ array_vec_len text.old + 192 }
+{
+    append(text, b"block ");
+    append_number(text, u32::from(block));
+    append(text, b" line ");
+    append_number(text, u32::from(at / ROW));
+    append(text, b" ");
+    append_column(text, at % ROW);
+}
+
+/// A place, by the last byte that was taken.
+fn append_place(text: &mut Text, place: Place)
+    requires { array_vec_len text.old + 192 ≤ 2048 }
+    ensures after { text.new.items ≡ text.old.items ++ place_text place }
+    ensures room { array_vec_len text.new ≤ array_vec_len text.old + 192 }
+{
+    let at = place.to_in.saturating_sub(1);
+    match place.block {
+        0 => append_column(text, at),
+        block => append_row(text, block, at),
+    }
+}
+
+/// The place of a fault, if it has one.
+fn append_at(text: &mut Text, place: Option<Place>)
+    requires { array_vec_len text.old + 196 ≤ 2048 }
+    ensures after { text.new.items ≡ text.old.items ++ at_place place }
+    ensures room { array_vec_len text.new ≤ array_vec_len text.old + 196 }
+{
+    match place {
+        Some(place) => {
+            append(text, b" at ");
+            append_place(text, place)
+        }
+        None => {}
+    }
+}
+
+/// In which line, which fault, and where.
+fn told_of(number: u32, fault: Fault, place: Option<Place>) -> Text
+    ensures text { result.items ≡ fault_told number (fault_of fault) place }
+    ensures room { array_vec_len result ≤ 256 }
+{
+    let mut text = ArrayVec::new();
+    append(&mut text, b"line ");
+    append_number(&mut text, number);
+    append(&mut text, b": ");
+    append(&mut text, fault.name().as_bytes());
+    append_at(&mut text, place);
+    text
+}
+
+/// The word before the place, its first bytes.
+fn append_word(text: &mut Text, word: &[u8])
+    requires { array_vec_len text.old + 39 ≤ 2048 }
+    ensures after { text.new.items ≡ text.old.items ++ word_text word.now }
+    ensures room { array_vec_len text.new ≤ array_vec_len text.old + 39 }
+{
+    if word.is_empty() {
+        return;
+    }
+    append(text, b", after ");
+    append(text, &word[..WORD_ROOM.min(word.len())]);
+}
+
+/// Where a load stood.
+fn append_load(text: &mut Text, load: Place)
+    requires { array_vec_len text.old + 204 ≤ 2048 }
+    ensures after { text.new.items ≡ text.old.items ++ load_text load }
+    ensures room { array_vec_len text.new ≤ array_vec_len text.old + 204 }
+{
+    append(text, b", loaded at ");
+    append_place(text, load);
+}
+
+/// The loads that led to the place.
+fn append_loads(text: &mut Text, loads: &[Place])
+    requires { array_vec_len text.old + 204 * length loads.now ≤ 2048 }
+    ensures after { text.new.items ≡ text.old.items ++ loads_text loads.now }
+    ensures room { array_vec_len text.new ≤ array_vec_len text.old + 204 * length loads.now }
+{
+    match loads {
+        [] => {}
+        [load, rest @ ..] => {
+            append_load(text, *load);
+            append_loads(text, rest)
+        }
+    }
+}
+
+/// The trace of a line: in which line of the input which fault came, and where; then the word before the place, and the loads
+/// that led there, the innermost first.
+pub(super) fn trace_text(
+    number: u32,
+    fault: Fault,
+    place: Option<Place>,
+    word: &[u8],
+    loads: &[Place],
+) -> Text
+    requires { length loads.now ≤ 8 }
+    ensures { result.items ≡ trace_of number (fault_of fault) place word.now loads.now }
+{
+    let mut text = told_of(number, fault, place);
+    append_word(&mut text, word);
+    append_loads(&mut text, loads);
+    append(&mut text, b"\n");
+    text
+}
