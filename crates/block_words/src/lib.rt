@@ -67,7 +67,7 @@ impl From<StoreFault> for BlockFault {
 ///
 /// The buffers' bytes are those of data space at 61,440, 62,464, 63,488 and 64,512, which each call is lent; no other
 /// copy of them is kept. Where a block has a buffer, its bytes are those; where it has none, the store's. Memory is
-/// taken by `new`, and by the first `block` or `buffer` of a block that has none, and by no other call.
+/// taken by the first `block` or `buffer` of a block that has none, and by no other call.
 ///
 /// Contracts speak of the store and of the list of buffers, which is valid at any time (`laws::buffers_are_valid`).
 /// Where the device keeps the disk model, `CallRuns` says that a call is a run of its word, what a stop at any moment of
@@ -85,19 +85,13 @@ impl<D: SectorDevice> Blocks<D> {
     ghost use Rattle.block_words.specs.Parts.{store_of, buffers_of};
     ghost use Rattle.block_words.specs.Promises.{AsksFor, Saves};
 
-    /// Blocks over a store, in which no block has a buffer. Makes no device call.
-    ///
-    /// Fails only where memory for the list of buffers is refused.
-    pub fn new(alloc: Global, store: Store<D>) -> Result<Self, NoMemory>
-    where
-        D: Drop,
-        ensures store { IfOk result (λ blocks. store_of blocks ≡ store) }
-        ensures buffers { IfOk result (λ blocks. buffers_of blocks ≡ none_assigned) }
+    /// Blocks over a store, in which no block has a buffer. Takes no memory, and makes no device call.
+    pub fn new(mut buffers: Buffers, store: Store<D>) -> Self
+        ensures store { store_of result ≡ store }
+        ensures buffers { buffers_of result ≡ none_assigned }
     {
-        Ok(Blocks {
-            store,
-            buffers: Buffers::new(alloc)?,
-        })
+        buffers.unassign_all();
+        Blocks { store, buffers }
     }
 
     /// The store, as it is. Makes no device call, and saves nothing: what is updated or spilled is given up.

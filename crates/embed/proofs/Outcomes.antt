@@ -1,6 +1,6 @@
 -- What is known of how a call ended.
 use Rattle.std.proofs.Common.{◌≡◌, ◌≢◌, ◌⊎◌, ◌∙◌, List, [], ◌∷◌, ℕ, zero, suc, Result, Ok, Err, Option, Some, None, inl, inr, refl, sym, subst, ap}
-use Rattle.std.specs.Prelude.{IfErr, IfOk, IfSome, IsErrOf, MatchResult, OnErr, OnOk, unwrap_or, slice_index_or}
+use Rattle.std.specs.Prelude.{IfErr, IfOk, IfSome, MatchResult, OnErr, OnOk, unwrap_or, slice_index_or}
 use Rattle.journal.specs.Maps.{block_in, contents, fresh, none_pending, pending_in}
 use Rattle.recovery.specs.Opened.{first_of}
 use Rattle.recovery.specs.declared.fault.OpenFault.{OpenFault}
@@ -8,7 +8,7 @@ use Rattle.recovery.specs.declared.fault.OpenFault.TheVariants as image
 use Rattle.embed.specs.Calls.{device_after}
 use Rattle.embed.specs.Refusals.{IsOfImage, of_image}
 use Rattle.embed.specs.declared.refusal.Refusal.{Refusal}
-use Rattle.embed.specs.declared.refusal.Refusal.TheVariants.{Device, Input, NoSteps, Output}
+use Rattle.embed.specs.declared.refusal.Refusal.TheVariants.{Device}
 
 module _ {D : Type 0} where
   pub ok_after : (r : Result D (Refusal × D)) (P : D → Type 0) → P (device_after r) → IfOk r P
@@ -61,13 +61,3 @@ lies_with_image image.OtherVersion = tt
 lies_with_image image.WrongCount = tt
 lies_with_image image.Device = tt
 lies_with_image image.Damaged = tt
-
--- A refusal of the image is none of the others.
-pub no_input : {T : Type 0} (e : Refusal) (P : Type 0) → IsOfImage e → IsErrOf {T = T} (Err e) Input → P
-no_input e P of is = absurd (let same : e ≡ Input = cc in subst IsOfImage same of)
-
-pub no_output : {T : Type 0} (e : Refusal) (P : Type 0) → IsOfImage e → IsErrOf {T = T} (Err e) Output → P
-no_output e P of is = absurd (let same : e ≡ Output = cc in subst IsOfImage same of)
-
-pub no_steps : {T : Type 0} (e : Refusal) (P : Type 0) → IsOfImage e → IsErrOf {T = T} (Err e) NoSteps → P
-no_steps e P of is = absurd (let same : e ≡ NoSteps = cc in subst IsOfImage same of)

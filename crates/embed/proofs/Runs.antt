@@ -1,6 +1,6 @@
 -- A session over a store that was opened on a device.
 use Rattle.std.proofs.Common.{◌≡◌, ◌∙◌, ℕ, List, Option, IsTrue, Result, Ok, Err, refl, sym, subst}
-use Rattle.std.specs.Prelude.{IfErr, IsErrOf, OnOk}
+use Rattle.std.specs.Prelude.{IfErr, OnOk}
 use Rattle.sector_disk.specs.declared.device.SectorDevice.{Ghosts}
 use Rattle.journal.specs.declared.store.Store.{Store}
 use Rattle.journal.specs.Store.{StandsFor, device_of}
@@ -18,11 +18,11 @@ use Rattle.embed.specs.declared.refusal.Refusal.{Refusal}
 use Rattle.embed.specs.declared.refusal.Refusal.TheVariants.{Input, Output}
 
 -- which fault of a run it was, by what is told
-pub was_read : {T : Type 0} (fault : RunFault) (e : Refusal) → e ≡ of_run fault → IsErrOf {T = T} (Err e) Input → fault ≡ run.Read
+pub was_read : (fault : RunFault) (e : Refusal) → e ≡ of_run fault → e ≡ Input → fault ≡ run.Read
 was_read run.Read e of is = refl
 was_read run.Write e of is = absurd (let no : Output ≡ Input = cc in cc)
 
-pub was_write : {T : Type 0} (fault : RunFault) (e : Refusal) → e ≡ of_run fault → IsErrOf {T = T} (Err e) Output → fault ≡ run.Write
+pub was_write : (fault : RunFault) (e : Refusal) → e ≡ of_run fault → e ≡ Output → fault ≡ run.Write
 was_write run.Write e of is = refl
 was_write run.Read e of is = absurd (let no : Input ≡ Output = cc in cc)
 
@@ -59,16 +59,17 @@ module _ {D A : Type 0} (G : Ghosts D) (device : D) (steps : ℕ) (left left' wr
         };
       })
 
-  pub has_broken : (store end : Store D G) (outcome : Result A RunFault) (fault told : RunFault) → outcome ≡ Err fault → fault ≡ told
-      → OpensOn G device store → IsTrue (G.keeps_model device) → Ends store end outcome
-      → BreaksSession G told steps left left' written written' device
-  has_broken store end outcome fault told broken is opens keeps ended =
-      subst (λ it. BreaksSession G it steps left left' written written' device) is (record {
+  pub has_broken : (after : D) (store end : Store D G) (outcome : Result A RunFault) (fault told : RunFault) → outcome ≡ Err fault → fault ≡ told
+      → after ≡ device_of end → OpensOn G device store → Becomes G (device_of store) (device_of end) → IsTrue (G.keeps_model device) → Ends store end outcome
+      → BreaksSession G told steps left left' written written' device after
+  has_broken after store end outcome fault told broken is at opens goes keeps ended =
+      subst (λ d. BreaksSession G told steps left left' written written' device d) (sym at) (subst (λ it. BreaksSession G it steps left left' written written' device (device_of end)) is (record {
         begun = device_of store;
-        after = device_of end;
+        goes = opens.goes;
+        runs_on = goes;
         closing = ended.0;
         made = ended.1;
         stops = opens.stops keeps;
         breaks = if_err outcome fault _ broken ended.5;
         keeps = ended.3;
-      })
+      }))

@@ -35,9 +35,10 @@ module _ {D : Type 0} (G : Ghosts D) where
     pub runs : IsTrue (G.keeps_model device) → RunsFrom (system_on steps device) left left' written written' begun after
 
   -- The same, where input or output failed: the session broke off there.
-  pub record BreaksSession (fault : RunFault) (steps : ℕ) (left left' written written' : Option (List ℕ)) (device : D) : Type 0 where
+  pub record BreaksSession (fault : RunFault) (steps : ℕ) (left left' written written' : Option (List ℕ)) (device after : D) : Type 0 where
     pub begun : D
-    pub after : D
+    pub goes : Becomes G device begun
+    pub runs_on : Becomes G begun after
     pub closing : Forth
     pub made : List Save
     pub stops : StopsLeave G device begun (MayRecover G device)

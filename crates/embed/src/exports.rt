@@ -68,7 +68,7 @@ pub extern "C" fn silgwyrad_run(
     let device = disk(device, sectors);
     match run_image(alloc, device, steps, &mut reader, &mut writer) {
         Ok(_) => 0,
-        Err(refusal) => refusal.code(),
+        Err((refusal, _)) => refusal.code(),
     }
 }
 

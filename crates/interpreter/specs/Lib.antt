@@ -22,6 +22,7 @@ pub mod Falls
 pub mod Lining
 pub mod Taken
 pub mod Told
+pub mod Memory
 pub mod Looking
 pub mod TextRounds
 pub mod Reading

@@ -2,8 +2,9 @@
 #![tactic(auto)]
 
 pub use fault::Fault;
-pub use forth::{Forth, NoMemory};
+pub use forth::Forth;
 pub use lines::LineEnd;
+pub use memory::{Memory, NoMemory};
 pub use place::Place;
 pub use promise::Lines;
 pub use terminal::{IoFault, Terminal};
@@ -13,6 +14,7 @@ mod forth;
 mod interpreting;
 pub mod laws;
 mod lines;
+mod memory;
 mod place;
 pub mod promise;
 mod services;

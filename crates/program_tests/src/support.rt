@@ -1,7 +1,7 @@
 //! Calls of the program, and what they leave.
 ghost use Rattle.std.specs.Prelude.{◌<◌};
 
-use interpreter::Forth;
+use interpreter::{Forth, Memory};
 use recovery::format;
 use sector_disk::{FileDisk, HostFile, HostFiles, MemoryDisk, SectorFile};
 use sessions::{RunFault, run_over};
@@ -135,13 +135,10 @@ pub(crate) fn run<R: Read, W: Write>(
 {
     match format(MemoryDisk::new(rt.alloc(), 131)?, 32) {
         Ok(store) => {
+            let memory = Memory::new(rt.alloc())?;
             let (_, end) = run_over::<MemoryDisk, Forth<MemoryDisk>, R, W>(
-                rt.alloc(),
-                store,
-                steps,
-                reader,
-                writer,
-            )?;
+                memory, store, steps, reader, writer,
+            );
             Ok(end)
         }
         Err((fault, _)) => Err(fault)?,

@@ -1,4 +1,5 @@
 // Calls of block words.
+use block_buffers::Buffers;
 use block_words::{BlockFault, Blocks};
 use data_space::DataSpace;
 use sector_disk::SectorDevice;
@@ -111,7 +112,7 @@ impl Player for BlockCalls {
     ) -> Result<Played<D>, Fail> {
         let mut session = Session {
             space: DataSpace::new(alloc)?,
-            blocks: Blocks::new(alloc, opened(device)?)?,
+            blocks: Blocks::new(Buffers::new(alloc)?, opened(device)?),
         };
         let (answers, told) = follow(alloc, rows, &mut session, start)?;
         let Session { blocks, .. } = session;

@@ -1,5 +1,5 @@
 // Lines of Forth, which tell what they do to blocks.
-use interpreter::Forth;
+use interpreter::{Forth, Memory};
 use sector_disk::SectorDevice;
 use sessions::{RunFault, run_over};
 use std::alloc::{AllocError, Global};
@@ -65,7 +65,8 @@ pub fn between<D: SectorDevice + Drop, R: Read, W: Write>(
     writer: &mut W,
 ) -> Result<(D, Result<(), RunFault>), Fail> {
     let store = opened(device)?;
-    let (store, end) = run_over::<D, Forth<D>, R, W>(alloc, store, 100_000_000, reader, writer)?;
+    let memory = Memory::new(alloc)?;
+    let (store, end) = run_over::<D, Forth<D>, R, W>(memory, store, 100_000_000, reader, writer);
     Ok((store.into_device(), end))
 }
 

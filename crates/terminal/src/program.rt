@@ -24,6 +24,7 @@ use super::orders::Order;
 use super::reading::order;
 use clap::Error;
 use clap::error::ErrorKind;
+use interpreter::Memory;
 use interpreter::promise::Lines;
 use journal::Store;
 use recovery::format;
@@ -222,10 +223,15 @@ pub(crate) fn run_session<D: SectorDevice + Drop, F: Lines<D>, R: Read, W: Write
     // Memory is refused before the session begins.
     ensures unbegun { IsErrOf result Failure.NoMemory → (input.new ≡ input.old) × (output.new ≡ output.old) }
 {
-    match run_over_traced::<D, F, R, W, T>(alloc, store, steps, input, output, tracer) {
-        Ok((store, Ok(()))) => Ok(store),
-        Ok((_, Err(fault))) => Err(Failure::from(fault)),
-        Err(_) => Err(Failure::NoMemory),
+    let Ok(memory) = Memory::new(alloc) else {
+        return Err(Failure::NoMemory);
+    };
+    let (store, end) = run_over_traced::<D, F, R, W, T>(
+        memory, store, steps, input, output, tracer,
+    );
+    match end {
+        Ok(()) => Ok(store),
+        Err(fault) => Err(Failure::from(fault)),
     }
 }
 

@@ -1,7 +1,7 @@
 //! A session over an image in memory: what it is played with, what is typed, and what has to be written.
 use crate::image::with_block;
 use crate::report::{Report, past_same_lines};
-use interpreter::Forth;
+use interpreter::{Forth, Memory};
 use journal::Store;
 use recovery::open;
 use sector_disk::{Counts, Fused, MemoryDisk};
@@ -152,12 +152,12 @@ impl Session {
         };
         let mut input = self.input.as_bytes();
         let (store, end) = run_over::<_, Forth<Fused<MemoryDisk>>, _, _>(
-            alloc,
+            Memory::new(alloc)?,
             Store::adopt(device, blocks),
             self.steps.max(1),
             &mut input,
             written,
-        )?;
+        );
         if end.is_err() {
             written.extend_from_slice(b"the session broke off\n")?;
         }

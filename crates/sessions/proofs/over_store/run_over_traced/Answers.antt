@@ -5,20 +5,20 @@ use Rattle.sessions.proofs.EachStore.{own_maps, stands_for_own}
 use Rattle.sessions.proofs.Ended.{ended}
 use Rattle.sessions.proofs.over_store.run_over_traced.Goals as goal
 
-pub returns-in-Ok-clause-ok : goal.returns-in-Ok-clause-ok
-returns-in-Ok-clause-ok g c =
-    let before : g.F.Lines.device c.in-Ok.forth ≡ device_of c.args.store =
-    c.in-Ok.ensures.device (device_of c.args.store) (λ held is. ap device_of is) in
+pub returns-clause-session : goal.returns-clause-session
+returns-clause-session g c =
+    let before : g.F.Lines.device c.new-forth.result ≡ device_of c.args.store =
+    c.new-forth.ensures.device (device_of c.args.store) (λ held is. ap device_of is) in
     let after : g.F.Lines.device c.run_traced-end.new.forth ≡ device_of c.into_store.result = sym c.into_store.ensures.device in
     let ok = rw (before, after) at c.run_traced-end.ensures.ok in
     let err = rw (before, after) at c.run_traced-end.ensures.err in
     λ m stands. ended c.run_traced-end.result _ _ _ _ _ _ c.into_store.ensures.maps (new_forth c.args.steps m)
-    (c.in-Ok.ensures.opens m (λ held is. subst (λ s. StandsFor s m) (sym is) stands)) ok err
+    (c.new-forth.ensures.opens m (λ held is. subst (λ s. StandsFor s m) (sym is) stands)) ok err
 
-pub returns-in-Ok-clause-goes : goal.returns-in-Ok-clause-goes
-returns-in-Ok-clause-goes g c =
-    let before : g.F.Lines.device c.in-Ok.forth ≡ device_of c.args.store =
-    c.in-Ok.ensures.device (device_of c.args.store) (λ held is. ap device_of is) in
+pub returns-clause-goes : goal.returns-clause-goes
+returns-clause-goes g c =
+    let before : g.F.Lines.device c.new-forth.result ≡ device_of c.args.store =
+    c.new-forth.ensures.device (device_of c.args.store) (λ held is. ap device_of is) in
     let after : g.F.Lines.device c.run_traced-end.new.forth ≡ device_of c.into_store.result = sym c.into_store.ensures.device in
     record {
       model = rw (before, after) at c.run_traced-end.ensures.model;
@@ -29,7 +29,7 @@ returns-in-Ok-clause-goes g c =
 pub run_traced-end-requires : goal.run_traced-end-requires
 run_traced-end-requires g c =
     let present = g.met.D.SectorDevice.present in
-    let sound = c.in-Ok.ensures.sound (own_maps present c.args.store)
+    let sound = c.new-forth.ensures.sound (own_maps present c.args.store)
     (λ held is keeps. subst (λ s. StandsFor s (own_maps present c.args.store)) (sym is)
     (stands_for_own present c.args.store (subst (λ s. IsTrue (g.D.SectorDevice.keeps_model (device_of s))) is keeps))) in
     record { sound = sound }

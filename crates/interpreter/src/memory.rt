@@ -1,0 +1,33 @@
+//! The memory of a system.
+ghost use Rattle.std.specs.Prelude.{IfOk};
+ghost use Rattle.interpreter.specs.Memory.{IsBlank};
+
+use block_buffers::Buffers;
+use data_space::DataSpace;
+use lexicon::Lexicon;
+use std::alloc::{AllocError, Global};
+
+/// There is not enough memory.
+pub type NoMemory = AllocError;
+
+/// All memory that a system takes before its first line: data space of zeros, the system words, and a list of buffers. A system
+/// that is made of it takes no more but that of a block's buffer.
+#[derive(Drop)]
+pub struct Memory {
+    pub(crate) space: DataSpace,
+    pub(crate) lexicon: Lexicon,
+    pub(crate) buffers: Buffers,
+}
+
+impl Memory {
+    /// Takes it.
+    pub fn new(alloc: Global) -> Result<Memory, NoMemory>
+        ensures { IfOk result IsBlank }
+    {
+        Ok(Memory {
+            space: DataSpace::new(alloc)?,
+            lexicon: Lexicon::new(alloc)?,
+            buffers: Buffers::new(alloc)?,
+        })
+    }
+}
