@@ -1,5 +1,7 @@
 -- A request that the host took, and then the bytes of a sector.
-use Rattle.std.proofs.Common.{◌≡◌, ◌≤◌, ℕ, inl, inr, ⊎_elim, subst}
+use Rattle.std.proofs.Common.{◌≡◌, ◌≤◌, ℕ, Bool, Result, Ok, Err, inl, inr, ⊎_elim, subst, sym}
+use Rattle.std.specs.Prelude.{OnErr, OnOk, is_ok}
+use Rattle.std.specs.Bool.{OnFalse, OnTrue}
 use Rattle.sector_disk.specs.Disk.{Image, MayLeave, MayLeaveEither}
 use Rattle.sector_disk.specs.Moments.{Elapses, LeavesOnly}
 use Rattle.sector_disk.proofs.Moments.{leaves_then}
@@ -16,3 +18,12 @@ asked_then G a b d one two same first then =
     (subst (λ disk. LeavesOnly G.time G.left_since a b (MayLeaveEither (G.disk a) disk)) same first)
     (subst (λ disk. LeavesOnly G.time G.left_since b d (MayLeaveEither disk (G.disk d))) same then)
     (λ image either. ⊎_elim (λ was. inl was) (λ still. inl still) either) (λ image either. either)
+
+-- What is known where a call went well, or didn't, by the truth that it did.
+pub where_done : {T E : Type 0} (r : Result T E) (b : Bool) (P : Type 0) → b ≡ is_ok r → OnOk r P → OnTrue b P
+where_done (Ok v) b P is p = subst (λ b. OnTrue b P) (sym is) p
+where_done (Err e) b P is p = subst (λ b. OnTrue b P) (sym is) tt
+
+pub where_undone : {T E : Type 0} (r : Result T E) (b : Bool) (P : Type 0) → b ≡ is_ok r → OnErr r P → OnFalse b P
+where_undone (Ok v) b P is p = subst (λ b. OnFalse b P) (sym is) tt
+where_undone (Err e) b P is p = subst (λ b. OnFalse b P) (sym is) p

@@ -9,5 +9,6 @@ mod console;
 mod disk;
 mod exports;
 mod host;
+mod memory_host;
 mod refusal;
 mod running;
