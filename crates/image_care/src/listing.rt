@@ -1,0 +1,144 @@
+// What stands before the blocks of an image: its label, and the record of the save that is under way.
+ghost use Rattle.std.specs.Prelude.{◌≡◌, ◌≢◌, ◌⊎◌, ◌≤◌, ◌+◌, ◌*◌, true, false, None, Some, IsTrue, OnOk, IfOk, IfErr, MatchResult};
+ghost use Rattle.sector_disk.specs.Counting.{count_up};
+ghost use Rattle.sector_disk.specs.Disk.{MayLeave};
+ghost use Rattle.journal.specs.Calls.{StopsLeave, BeginsAtMost, ReadsAtMost, Passes, Proceeds};
+ghost use Rattle.journal.specs.Images.{is_true_record};
+ghost use Rattle.journal.specs.Layout.{fewest_blocks, most_blocks, sectors_for, label_by, gate_open, count_listed};
+ghost use Rattle.recovery.specs.Label.{label_refusal_by};
+ghost use Rattle.recovery.specs.Opened.{damage_refusal};
+ghost use Rattle.recovery.specs.declared.fault.OpenFault.{OpenFault};
+ghost use Rattle.recovery.specs.declared.fault.OpenFault.TheVariants.{BadSize, Device, Damaged};
+ghost use Rattle.image_care.specs.Examined.{record_in, reads_to_list};
+
+use crate::label::check_label;
+use journal::is_true_record;
+use journal::layout::{GATE, LABEL, RECORD, gate_is_open};
+use recovery::OpenFault;
+use sector_disk::{DeviceFault, SectorDevice};
+
+// Reads the label, and looks at it.
+pub(crate) fn read_label<D: SectorDevice>(
+    device: &mut D,
+    version: u16,
+    blocks: u16,
+) -> Result<(), OpenFault>
+    requires { 3 ≤ D.sector_count device.old }
+    ensures ok { IsTrue (D.keeps_model device.old)
+        → OnOk result ((D.disk device.old).content 0 ≡ label_by version blocks) }
+    ensures exact { IsTrue (D.keeps_model device.old) → MatchResult result
+        (λ _. label_refusal_by version blocks ((D.disk device.old).content 0) ≡ None)
+        (λ e. (e ≡ Device) ⊎ (label_refusal_by version blocks ((D.disk device.old).content 0) ≡ Some e)) }
+    ensures sized { IfErr result (λ e. e ≢ BadSize) }
+    ensures device { IfErr result (λ e. e ≡ Device → D.failures device.new ≡ count_up (D.failures device.old)) }
+    ensures refused { IfErr result (λ e. e ≢ Device → D.failures device.new ≡ D.failures device.old) }
+    ensures well { OnOk result (D.failures device.new ≡ D.failures device.old) }
+    ensures disk { IsTrue (D.keeps_model device.old) → D.disk device.new ≡ D.disk device.old }
+    ensures stops { IsTrue (D.keeps_model device.old)
+        → StopsLeave D.SectorDevice device.old device.new (MayLeave (D.disk device.old)) }
+    ensures passes { Proceeds D.SectorDevice device.old device.new }
+    ensures begins { BeginsAtMost D.SectorDevice device.old device.new 0 0 }
+    ensures reads { ReadsAtMost D.SectorDevice device.old device.new 1 }
+{
+    let mut label = [0; 512];
+    device.read(LABEL, &mut label)?;
+    check_label(&label, version, blocks)
+}
+
+// Reads the record, and checks that it belongs to the slots.
+fn read_record<D: SectorDevice>(
+    device: &mut D,
+    blocks: u16,
+    bytes: &mut [u8; 512],
+) -> Result<(), OpenFault>
+    requires many { fewest_blocks ≤ blocks }
+    requires few { blocks ≤ most_blocks }
+    requires size { D.sector_count device.old ≡ sectors_for blocks }
+    ensures bytes { IsTrue (D.keeps_model device.old) → OnOk result (bytes.new ≡ (D.disk device.old).content 2) }
+    ensures exact { IsTrue (D.keeps_model device.old) → MatchResult result
+        (λ _. is_true_record blocks ((D.disk device.old).content 2) (D.disk device.old).content ≡ true)
+        (λ e. (e ≡ Device)
+        ⊎ ((e ≡ Damaged) × (is_true_record blocks ((D.disk device.old).content 2) (D.disk device.old).content ≡ false))) }
+    ensures sized { IfErr result (λ e. e ≢ BadSize) }
+    ensures device { IfErr result (λ e. e ≡ Device → D.failures device.new ≡ count_up (D.failures device.old)) }
+    ensures refused { IfErr result (λ e. e ≢ Device → D.failures device.new ≡ D.failures device.old) }
+    ensures well { OnOk result (D.failures device.new ≡ D.failures device.old) }
+    ensures disk { IsTrue (D.keeps_model device.old) → D.disk device.new ≡ D.disk device.old }
+    ensures stops { IsTrue (D.keeps_model device.old)
+        → StopsLeave D.SectorDevice device.old device.new (MayLeave (D.disk device.old)) }
+    ensures passes { Proceeds D.SectorDevice device.old device.new }
+    ensures begins { BeginsAtMost D.SectorDevice device.old device.new 0 0 }
+    ensures reads { IsTrue (D.keeps_model device.old)
+        → ReadsAtMost D.SectorDevice device.old device.new (2 * count_listed ((D.disk device.old).content 2) blocks + 1) }
+{
+    device.read(RECORD, bytes)?;
+    if is_true_record(device, blocks, bytes)? {
+        Ok(())
+    } else {
+        Err(OpenFault::Damaged)
+    }
+}
+
+// The record under an open gate.
+fn take_record<D: SectorDevice>(device: &mut D, blocks: u16) -> Result<Option<[u8; 512]>, OpenFault>
+    requires many { fewest_blocks ≤ blocks }
+    requires few { blocks ≤ most_blocks }
+    requires size { D.sector_count device.old ≡ sectors_for blocks }
+    requires gate { IsTrue (D.keeps_model device.old) → gate_open ((D.disk device.old).content 1) ≡ true }
+    ensures ok { IsTrue (D.keeps_model device.old)
+        → IfOk result (λ listing. listing ≡ Some ((D.disk device.old).content 2)) }
+    ensures exact { IsTrue (D.keeps_model device.old) → MatchResult result
+        (λ _. damage_refusal blocks (D.disk device.old).content ≡ None)
+        (λ e. (e ≡ Device) ⊎ (damage_refusal blocks (D.disk device.old).content ≡ Some e)) }
+    ensures sized { IfErr result (λ e. e ≢ BadSize) }
+    ensures device { IfErr result (λ e. e ≡ Device → D.failures device.new ≡ count_up (D.failures device.old)) }
+    ensures refused { IfErr result (λ e. e ≢ Device → D.failures device.new ≡ D.failures device.old) }
+    ensures well { OnOk result (D.failures device.new ≡ D.failures device.old) }
+    ensures disk { IsTrue (D.keeps_model device.old) → D.disk device.new ≡ D.disk device.old }
+    ensures stops { IsTrue (D.keeps_model device.old)
+        → StopsLeave D.SectorDevice device.old device.new (MayLeave (D.disk device.old)) }
+    ensures passes { Proceeds D.SectorDevice device.old device.new }
+    ensures begins { BeginsAtMost D.SectorDevice device.old device.new 0 0 }
+    ensures reads { IsTrue (D.keeps_model device.old)
+        → ReadsAtMost D.SectorDevice device.old device.new (2 * count_listed ((D.disk device.old).content 2) blocks + 1) }
+{
+    let mut record = [0; 512];
+    match read_record(device, blocks, &mut record) {
+        Ok(()) => Ok(Some(record)),
+        Err(fault) => Err(fault),
+    }
+}
+
+// The record of the save that is under way, where the gate tells of one.
+pub(crate) fn read_listing<D: SectorDevice>(
+    device: &mut D,
+    blocks: u16,
+) -> Result<Option<[u8; 512]>, OpenFault>
+    requires many { fewest_blocks ≤ blocks }
+    requires few { blocks ≤ most_blocks }
+    requires size { D.sector_count device.old ≡ sectors_for blocks }
+    ensures ok { IsTrue (D.keeps_model device.old)
+        → IfOk result (λ listing. listing ≡ record_in (D.disk device.old).content) }
+    ensures exact { IsTrue (D.keeps_model device.old) → MatchResult result
+        (λ _. damage_refusal blocks (D.disk device.old).content ≡ None)
+        (λ e. (e ≡ Device) ⊎ (damage_refusal blocks (D.disk device.old).content ≡ Some e)) }
+    ensures sized { IfErr result (λ e. e ≢ BadSize) }
+    ensures device { IfErr result (λ e. e ≡ Device → D.failures device.new ≡ count_up (D.failures device.old)) }
+    ensures refused { IfErr result (λ e. e ≢ Device → D.failures device.new ≡ D.failures device.old) }
+    ensures well { OnOk result (D.failures device.new ≡ D.failures device.old) }
+    ensures disk { IsTrue (D.keeps_model device.old) → D.disk device.new ≡ D.disk device.old }
+    ensures stops { IsTrue (D.keeps_model device.old)
+        → StopsLeave D.SectorDevice device.old device.new (MayLeave (D.disk device.old)) }
+    ensures passes { Proceeds D.SectorDevice device.old device.new }
+    ensures begins { BeginsAtMost D.SectorDevice device.old device.new 0 0 }
+    ensures reads { IsTrue (D.keeps_model device.old)
+        → ReadsAtMost D.SectorDevice device.old device.new (reads_to_list blocks (D.disk device.old).content) }
+{
+    let mut gate = [0; 512];
+    device.read(GATE, &mut gate)?;
+    if gate_is_open(&gate) {
+        take_record(device, blocks)
+    } else {
+        Ok(None)
+    }
+}
