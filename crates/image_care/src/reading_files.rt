@@ -85,7 +85,12 @@ impl<R: Files<File = File>> HostFiles<ReadOnlyFile> for ReadingFiles<'_, R> {
 
     ghost makes = { λ files path file. Unit {0} };
 
+    // What is no file isn't opened: a folder can be, and a pipe would wait for its other end.
     fn open(&self, path: &str) -> Result<ReadOnlyFile, FileFault> {
+        let named = fs::metadata(self.rt, path).map_err(|_| FileFault::Cannot)?;
+        if !named.is_file() {
+            return Err(FileFault::Cannot);
+        }
         let file = OpenOptions::new()
             .read(true)
             .open(self.rt, path)
