@@ -3,7 +3,6 @@
 
 mod blocks;
 mod examining;
-mod label;
 mod listing;
 mod reading_files;
 

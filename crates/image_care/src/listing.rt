@@ -11,10 +11,9 @@ ghost use Rattle.recovery.specs.declared.fault.OpenFault.{OpenFault};
 ghost use Rattle.recovery.specs.declared.fault.OpenFault.TheVariants.{BadSize, Device, Damaged};
 ghost use Rattle.image_care.specs.Examined.{record_in, reads_to_list};
 
-use crate::label::check_label;
 use journal::is_true_record;
 use journal::layout::{GATE, LABEL, RECORD, gate_is_open};
-use recovery::OpenFault;
+use recovery::{OpenFault, check_label};
 use sector_disk::{DeviceFault, SectorDevice};
 
 // Reads the label, and looks at it.
