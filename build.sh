@@ -21,7 +21,7 @@ prove() {
 # Two calls over one crate wait for each other: these three share none.
 prove 2 system_words dictionary stacks data_space cell_machine compiler &
 machine=$!
-prove 1 sector_disk journal recovery &
+prove 1 sector_disk journal recovery image_care &
 disk=$!
 prove 1 number_io block_buffers &
 parts=$!

@@ -2,11 +2,11 @@
 _forth83() {
     local word=${COMP_WORDS[COMP_CWORD]}
     if [ "$COMP_CWORD" -eq 1 ]; then
-        COMPREPLY=($(compgen -W 'new run list put export import upgrade help --help -h --version -V' -- "$word"))
+        COMPREPLY=($(compgen -W 'new run list put export import check upgrade help --help -h --version -V' -- "$word"))
         return
     fi
     case ${COMP_WORDS[1]},$word in
-        help,*) [ "$COMP_CWORD" -gt 2 ] || COMPREPLY=($(compgen -W 'new run list put export import upgrade' -- "$word")) ;;
+        help,*) [ "$COMP_CWORD" -gt 2 ] || COMPREPLY=($(compgen -W 'new run list put export import check upgrade' -- "$word")) ;;
         *,-*)
             case ${COMP_WORDS[1]} in
                 new) COMPREPLY=($(compgen -W '--blocks --help' -- "$word")) ;;

@@ -27,6 +27,8 @@ new A --blocks : error: a value is required
 new A --blocks 32 --blocks 32 : error: the argument '--blocks <N>' cannot be used multiple times
 new --blocks 32 : error: the following required arguments
 upgrade A : error: the following required arguments
+check : error: the following required arguments
+check A B : error: unexpected argument 'B'
 list A : error: the following required arguments
 list A 70000 : error: invalid value '70000' for '<BLOCK>'
 list A -1 : error: unexpected argument '-1'

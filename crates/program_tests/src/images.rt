@@ -190,6 +190,18 @@ fn check_refused(
     path: &str,
     text: &str,
 ) -> Result<(), Fail> {
+    check_unwritable(rt, folder, path, text)?;
+    let script = format!(in rt.alloc(); "3 image: {text} : check {path}")?;
+    follow(rt, folder, &script)
+}
+
+/// Each command that may write an image refuses it with the same text.
+fn check_unwritable(
+    rt: &(impl Files<File = File> + AllocGlobal + Abort),
+    folder: &str,
+    path: &str,
+    text: &str,
+) -> Result<(), Fail> {
     for words in [
         "list PATH 0",
         "run PATH",
@@ -234,10 +246,17 @@ fn images_are_refused(rt: HostRuntime) -> Result<(), Fail> {
         fs::write(&rt, path, whole.get(..length).unwrap_or(&[]))?;
         check_refused(&rt, "program_refused", "@/A", "bad size")?;
     }
-    // A folder, no file, and the file of a program that runs, which nobody may write.
-    for path in ["@", "@/none", "/proc/self/exe"] {
+    for path in ["@", "@/none"] {
         check_refused(&rt, "program_refused", path, "cannot open")?;
     }
+    // The file of a program that runs, which nobody may write.
+    check_unwritable(&rt, "program_refused", "/proc/self/exe", "cannot open")?;
+    // A check opens what is a file, and nothing else.
+    follow(
+        &rt,
+        "program_refused",
+        "3 image: cannot open : check /dev/zero",
+    )?;
     fs::remove_dir_all(&rt, "program_refused")?;
     Ok(())
 }

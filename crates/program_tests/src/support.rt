@@ -78,13 +78,23 @@ pub(crate) fn call_over<H: HostFile + Drop, O: HostFiles<H>>(
     let status = terminal::command_over::<
         _,
         _,
+        _,
+        _,
         Forth<SectorFile<H>>,
         Forth<MemoryDisk>,
         _,
         _,
         _,
         _,
-    >(rt, files, words, &mut input, &mut output, &mut errors);
+    >(
+        rt,
+        files,
+        files,
+        words,
+        &mut input,
+        &mut output,
+        &mut errors,
+    );
     Left {
         status,
         output,

@@ -367,3 +367,98 @@ fn what_is_put_aside_is_given_up(rt: HostRuntime) -> Result<(), Fail> {
     assert_eq!(rt; (left.status, calls.writes.get()), (0, 0));
     run_over_files(&rt, &files, "> 1 BLOCK @ . 2 BLOCK @ .\n7 7  ok\n")
 }
+
+/// What is told of an image of 32 blocks, of which no save is under way, with blank blocks, and with 7 in two of them.
+const CHECKED_BLANK: &str = "\
+bytes: 67072
+layout: 2
+blocks: 32
+save under way: none
+sha256: e8ff7e9b520474a6f067f1c6c8a6ba49ec191b9b7ae24ce74ccc1bf7543d250a
+";
+
+const CHECKED_SEVENS: &str = "\
+bytes: 67072
+layout: 2
+blocks: 32
+save under way: none
+sha256: 79f7d73a213219cf214e37c633a0810ff10fe19dfe22cd4696e217b3c6d6192a
+";
+
+const CHECK: [&str; 3] = ["forth83", "check", "A"];
+
+/// The digests are those of all blocks. Each call of a check fails once: it is told, nothing is printed, and nothing written.
+#[test]
+fn checks_whose_calls_fail(rt: HostRuntime) -> Result<(), Fail> {
+    let file = empty(&rt)?;
+    let calls = Calls::new();
+    let files = OneFile {
+        file: &file,
+        calls: &calls,
+        is_there: Cell::new(false),
+    };
+    make_over(&rt, &files);
+    let left = call_over(&rt, &files, CHECK.as_slice(), b"");
+    assert_eq!(rt; left.status, 0);
+    assert_eq!(rt; left.output.as_slice(), CHECKED_BLANK.as_bytes());
+    run_over_files(&rt, &files, SAVED)?;
+    calls.begin(u64::MAX);
+    let left = call_over(&rt, &files, CHECK.as_slice(), b"");
+    assert_eq!(rt; left.status, 0);
+    assert_eq!(rt; left.output.as_slice(), CHECKED_SEVENS.as_bytes());
+    assert_eq!(rt;
+        (calls.openings.get(), calls.writes.get(), calls.made.get()),
+        (1, 0, 66)
+    );
+    for k in 0..66 {
+        calls.begin(k);
+        let left = call_over(&rt, &files, CHECK.as_slice(), b"");
+        assert_eq!(rt; (left.status, left.output.is_empty()), (3, true), "at {k}");
+        let text = b"forth83: image: device fault\n".as_slice();
+        assert_eq!(rt; left.errors.as_slice(), text, "at {k}");
+        assert_eq!(rt; calls.writes.get(), 0, "at {k}");
+    }
+    Ok(())
+}
+
+/// Each call of a session fails once, and the digest that is told then is the one after the recovery. Where a save is under way, it is
+/// told that it has two blocks.
+#[test]
+fn checks_before_a_recovery(rt: HostRuntime) -> Result<(), Fail> {
+    let mut under_way: u32 = 0;
+    for k in 0..60 {
+        let file = empty(&rt)?;
+        let calls = Calls::new();
+        let files = OneFile {
+            file: &file,
+            calls: &calls,
+            is_there: Cell::new(false),
+        };
+        make_over(&rt, &files);
+        calls.begin(k);
+        let (input, _) = transcript(&rt, SAVED)?;
+        let _ = call_over(&rt, &files, &["forth83", "run", "A"], input.as_slice());
+        calls.begin(u64::MAX);
+        let before = call_over(&rt, &files, CHECK.as_slice(), b"");
+        assert_eq!(rt; (before.status, calls.writes.get()), (0, 0), "at {k}");
+        let _ = call_over(&rt, &files, &["forth83", "run", "A"], b"");
+        let after = call_over(&rt, &files, CHECK.as_slice(), b"");
+        let before = str::from_utf8(before.output.as_slice()).unwrap_or("?");
+        let after = str::from_utf8(after.output.as_slice()).unwrap_or("!");
+        if before.contains(": 2 blocks, digest true\n") {
+            under_way = under_way.saturating_add(1);
+        }
+        assert!(rt; after.contains(": none\n"), "at {k}");
+        assert_eq!(rt; digest_in(before), digest_in(after), "at {k}");
+    }
+    assert!(rt; under_way > 4, "{under_way}");
+    Ok(())
+}
+
+/// The digest that a check told.
+fn digest_in(text: &str) -> &str {
+    match text.split_once("sha256: ") {
+        Some((_, digest)) => digest,
+        None => text,
+    }
+}

@@ -12,7 +12,7 @@ use Rattle.clap.proofs.FaultLemmas.{stopped_fault}
 use Rattle.clap.proofs.WalkLemmas.{walk_stopped}
 use Rattle.clap.proofs.OnLiterals.{clap_on_literals}
 use Rattle.std.specs.Prelude.{codes, slice_index_or}
-use Rattle.terminal.specs.Commands.{ReadsAs, SufficesFor, program, forth83, new_app_of, run_app, list_app, put_app, export_app, import_app, upgrade_app}
+use Rattle.terminal.specs.Commands.{ReadsAs, SufficesFor, program, forth83, new_app_of, run_app, list_app, put_app, export_app, import_app, check_app, upgrade_app}
 
 -- a walk that has met this command
 abbrev pub met_at : Text → List Text → Walk
@@ -95,6 +95,13 @@ pub import_alone : SufficesFor (with_subcommand program import_app.top) (codes "
 unfolding clap_on_literals
 import_alone first rest =
     let both = alike (with_subcommand program import_app.top) forth83 (codes "import") _ (record { met = refl; found = refl; quiet = refl; left = λ rest. refl })
+    (record { met = refl; found = refl; quiet = refl; left = λ rest. refl }) rest in
+    record { simple = refl; free = refl; subcommand = both.0; fault = both.1 }
+
+pub check_alone : SufficesFor (with_subcommand program check_app.top) (codes "check")
+unfolding clap_on_literals
+check_alone first rest =
+    let both = alike (with_subcommand program check_app.top) forth83 (codes "check") _ (record { met = refl; found = refl; quiet = refl; left = λ rest. refl })
     (record { met = refl; found = refl; quiet = refl; left = λ rest. refl }) rest in
     record { simple = refl; free = refl; subcommand = both.0; fault = both.1 }
 

@@ -92,6 +92,9 @@ pub record CommandsAreRead : Type 0 where
       ≡ Some (codes "import", Some (codes "A"), Some (codes "F"), Some (codes "0"), None, Some (codes "true"))
   pub checks_fits : refused (codes "import" ∷ codes "A" ∷ codes "1" ∷ codes "F" ∷ codes "--raw" ∷ codes "--check" ∷ []) ≡ []
   pub no_source : refused (codes "import" ∷ codes "A" ∷ codes "1" ∷ []) ≡ kind.MissingRequiredArgument ∷ []
+  pub checks_image : read (codes "check" ∷ codes "A" ∷ []) ≡ Some (codes "check", Some (codes "A"), None, None, None, None)
+  pub checks_image_fits : refused (codes "check" ∷ codes "A" ∷ []) ≡ []
+  pub no_image_to_check : refused (codes "check" ∷ []) ≡ kind.MissingRequiredArgument ∷ []
   pub upgrades : read_images (codes "upgrade" ∷ codes "A" ∷ codes "B" ∷ []) ≡ Some (codes "upgrade", Some (codes "A"), Some (codes "B"))
   pub upgrades_fits : refused (codes "upgrade" ∷ codes "A" ∷ codes "B" ∷ []) ≡ []
   pub no_new_image : refused (codes "upgrade" ∷ codes "A" ∷ []) ≡ kind.MissingRequiredArgument ∷ []

@@ -7,7 +7,7 @@ use Rattle.clap.specs.declared.builder.value_parser.ValueParser.TheVariants as v
 use Rattle.terminal.specs.declared.orders.Form.{Form}
 use Rattle.terminal.specs.declared.orders.Form.TheVariants.{Text as Lines, Raw}
 use Rattle.terminal.specs.declared.orders.Order.{Order}
-use Rattle.terminal.specs.declared.orders.Order.TheVariants.{Memory, New, Run, Trace, List as ListBlock, Put, Export, Import, CheckImport, Upgrade}
+use Rattle.terminal.specs.declared.orders.Order.TheVariants.{Memory, New, Run, Trace, List as ListBlock, Put, Export, Import, CheckImport, Check, Upgrade}
 
 -- an argument that has to be there
 abbrev pub wanted : Text → Rule
@@ -88,6 +88,9 @@ import_without_flags = with_rule (with_rule (with_rule (new_app (codes "import")
 abbrev pub import_app : App
 import_app = with_rule (with_rule import_without_flags raw) check
 
+abbrev pub check_app : App
+check_app = with_rule (new_app (codes "check")) image
+
 abbrev pub upgrade_app : App
 upgrade_app = with_rule (with_rule (new_app (codes "upgrade")) old_image) new_image
 
@@ -104,9 +107,9 @@ over_blocks app =
 abbrev pub program : App
 program = with_version (new_app (codes "forth83"))
 
--- the program with its seven commands
+-- the program with its eight commands
 abbrev pub forth83 : App
-forth83 = with_subcommand (over_blocks (with_subcommand (with_subcommand program new_app_of.top) run_app.top)) upgrade_app.top
+forth83 = with_subcommand (with_subcommand (over_blocks (with_subcommand (with_subcommand program new_app_of.top) run_app.top)) check_app.top) upgrade_app.top
 
 -- One program makes of the words what the other does, by simple rules.
 pub record ReadsAs (a b : App) (words : List Text) : Type 0 where
@@ -159,6 +162,7 @@ Orders (Some given) (Import path first source form) = (given.0 ≡ codes "import
     × HasNumber given.1 (codes "FIRST") first × HasText given.1 (codes "FILE") source.now × HasForm given.1 form × IsUnset given.1 (codes "check")
 Orders (Some given) (CheckImport path first source form) = (given.0 ≡ codes "import") × HasText given.1 (codes "IMAGE") path.now
     × HasNumber given.1 (codes "FIRST") first × HasText given.1 (codes "FILE") source.now × HasForm given.1 form × IsSet given.1 (codes "check")
+Orders (Some given) (Check path) = (given.0 ≡ codes "check") × HasText given.1 (codes "IMAGE") path.now
 Orders (Some given) (Upgrade old new) = (given.0 ≡ codes "upgrade") × HasText given.1 (codes "OLD") old.now
     × HasText given.1 (codes "NEW") new.now
 Orders _ _ = ⊥

@@ -1,4 +1,5 @@
 pub mod Screen
+pub mod Checked
 pub mod Commands
 pub mod CommandRows
 pub mod InMemory

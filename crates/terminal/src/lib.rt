@@ -6,6 +6,7 @@ pub use program::{command, command_over};
 pub use reading::order;
 pub use starting::start;
 
+mod checking;
 mod exporting;
 mod failure;
 mod files;

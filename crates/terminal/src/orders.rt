@@ -30,6 +30,8 @@ pub enum Order<'a> {
     Import(&'a str, u16, &'a str, Form),
     /// Tell what keeps a file from being imported there, and what else looks wrong in it.
     CheckImport(&'a str, u16, &'a str, Form),
+    /// Tell what an image holds.
+    Check(&'a str),
     /// Make an image of layout 2 of the blocks of one of layout 1.
     Upgrade(&'a str, &'a str),
 }

@@ -8,13 +8,15 @@ ghost use Rattle.interpreter.specs.State.{Forth as Abstract};
 ghost use Rattle.interpreter.specs.Lines.{new_forth};
 ghost use Rattle.sessions.specs.declared.run_fault.RunFault.{RunFault as AbstractFault};
 ghost use Rattle.terminal.specs.Commands.{IsInRange, forth83};
-ghost use Rattle.terminal.specs.Done.{IsDone, OrderIsDone, RunsFrom};
+ghost use Rattle.terminal.specs.Checked.{Checks};
+ghost use Rattle.terminal.specs.Done.{DoneOn, IsDone, OrderIsDone, RunsFrom};
 ghost use Rattle.sessions.specs.Devices.{Becomes};
 ghost use Rattle.terminal.specs.Failures.{status_of};
 ghost use Rattle.terminal.specs.Files.{IsMade, IsOpened};
 ghost use Rattle.terminal.specs.InMemory.{AsksForNothing, IsForMemory, CompletesInMemory, BreaksInMemory, IsHelp};
 ghost use Rattle.sessions.specs.Sessions.{BreaksOff};
 
+use super::checking::check_image;
 use super::failure::Failure;
 use super::files::{
     check_import, export_image, import_image, list_image, make_image, put_into_image, run_image,
@@ -24,6 +26,7 @@ use super::orders::Order;
 use super::reading::order;
 use clap::Error;
 use clap::error::ErrorKind;
+use image_care::ReadingFiles;
 use interpreter::Memory;
 use interpreter::promise::Lines;
 use journal::Store;
@@ -59,13 +62,17 @@ pub fn command<F: Lines<FileDisk>, M: Lines<MemoryDisk>, S: AsStr, R: Read, W: W
         (R.remaining input.old) (R.remaining input.new) (W.contents output.old) (W.contents output.new) }
 {
     let files = StdFiles::new(rt);
-    command_over::<_, _, F, M, S, R, W, E>(rt, &files, words, input, output, errors)
+    let looking = ReadingFiles::new(rt);
+    command_over::<_, _, _, _, F, M, S, R, W, E>(rt, &files, &looking, words, input, output, errors)
 }
 
-/// The same over the images of any system of files. The text for `put` is a file of this one.
+/// The same over the images of any system of files, and of one for those that are read alone. The text for `put` is a file of
+/// this one.
 pub fn command_over<
     H: HostFile + Drop,
     O: HostFiles<H>,
+    K: HostFile + Drop,
+    P: HostFiles<K>,
     F: Lines<SectorFile<H>>,
     M: Lines<MemoryDisk>,
     S: AsStr,
@@ -75,6 +82,7 @@ pub fn command_over<
 >(
     rt: &(impl Files<File = File> + AllocGlobal),
     files: &O,
+    looking: &P,
     words: &[S],
     input: &mut R,
     output: &mut W,
@@ -89,11 +97,15 @@ pub fn command_over<
     ensures done { fault_of forth83 (map S.text words.now) ≡ [] → result ≡ 0
         → OrderIsDone ⟦<SectorFile<H> as SectorDevice>⟧ (map S.text words.now)
         (λ path. IsOpened H.HostFile (O.opens files.now path)) (λ path. IsMade H.HostFile (O.makes files.now path))
+        (λ path written written'. DoneOn ⟦<SectorFile<K> as SectorDevice>⟧ (IsOpened K.HostFile (P.opens looking.now path))
+        (Checks ⟦<SectorFile<K> as SectorDevice>⟧ written written'))
         (R.remaining input.old) (R.remaining input.new) (W.contents output.old) (W.contents output.new) }
 {
     match order(rt.alloc(), words) {
         Ok(asked) => {
-            let outcome = perform::<H, O, F, M, R, W, E>(rt, files, asked, input, output, errors);
+            let outcome = perform::<H, O, K, P, F, M, R, W, E>(
+                rt, files, looking, asked, input, output, errors,
+            );
             told(outcome, errors)
         }
         Err(error) => explain(&error, output, errors),
@@ -104,6 +116,8 @@ pub fn command_over<
 fn perform<
     H: HostFile + Drop,
     O: HostFiles<H>,
+    K: HostFile + Drop,
+    P: HostFiles<K>,
     F: Lines<SectorFile<H>>,
     M: Lines<MemoryDisk>,
     R: Read,
@@ -112,6 +126,7 @@ fn perform<
 >(
     rt: &(impl Files<File = File> + AllocGlobal),
     files: &O,
+    looking: &P,
     asked: Order<'_>,
     input: &mut R,
     output: &mut W,
@@ -124,7 +139,9 @@ fn perform<
         → IfErr result (λ e. e ≢ Failure.NoMemory → BreaksInMemory ⟦<MemoryDisk as SectorDevice>⟧
         (R.remaining input.old) (R.remaining input.new) (W.contents output.old) (W.contents output.new)) }
     ensures done { OnOk result (IsDone ⟦<SectorFile<H> as SectorDevice>⟧
-        (λ path. IsOpened H.HostFile (O.opens files.now path)) (λ path. IsMade H.HostFile (O.makes files.now path)) asked.entry
+        (λ path. IsOpened H.HostFile (O.opens files.now path)) (λ path. IsMade H.HostFile (O.makes files.now path))
+        (λ path written written'. DoneOn ⟦<SectorFile<K> as SectorDevice>⟧ (IsOpened K.HostFile (P.opens looking.now path))
+        (Checks ⟦<SectorFile<K> as SectorDevice>⟧ written written')) asked.entry
         (R.remaining input.old) (R.remaining input.new) (W.contents output.old) (W.contents output.new)) }
 {
     match asked {
@@ -161,6 +178,7 @@ fn perform<
         Order::CheckImport(path, first, source, form) => closed(check_import::<H, O, E>(
             rt, files, path, first, source, form, errors,
         )),
+        Order::Check(path) => closed(check_image::<K, P, W>(rt.alloc(), looking, path, output)),
         Order::Upgrade(old, new) => closed(upgrade_image::<H, O>(files, old, new)),
     }
 }

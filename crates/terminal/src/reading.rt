@@ -2,7 +2,7 @@
 ghost use Rattle.std.specs.Prelude.{◌≡◌, ◌≤◌, ℕ, List, false, Some, map, codes, IfOk, IfSome};
 ghost use Rattle.clap.specs.Words.{FailsBy, app_of, fault_of, found_of, rows_of, rule_of, with_subcommand};
 ghost use Rattle.clap.specs.declared.builder.command.Command.TheViews.{out-Command};
-ghost use Rattle.terminal.specs.Commands.{image, old_image, new_image, block, first_block, last_block, file, raw, check, trace, blocks, steps, new_app_of, run_app, list_app, put_app, export_app, import_app, import_without_flags, upgrade_app, program, forth83, over_blocks, ReadsAs, SufficesFor, HasForm, HasNumber, HasText, Orders, IsOrderOf, IsInRange};
+ghost use Rattle.terminal.specs.Commands.{image, old_image, new_image, block, first_block, last_block, file, raw, check, trace, blocks, steps, new_app_of, run_app, list_app, put_app, export_app, import_app, import_without_flags, check_app, upgrade_app, program, forth83, over_blocks, ReadsAs, SufficesFor, HasForm, HasNumber, HasText, Orders, IsOrderOf, IsInRange};
 
 use super::orders::{Form, Order};
 use clap::{Arg, ArgAction, ArgMatches, Command, Error};
@@ -52,6 +52,7 @@ fn order_over_image<'a>(name: &str, given: &ArgMatches<'a>) -> Option<Order<'a>>
     match name {
         "new" => Some(Order::New(image, blocks_of(given)?)),
         "run" => Some(order_of_run(image, steps_of(given)?, given)),
+        "check" => Some(Order::Check(image)),
         "list" => Some(Order::List(image, block_of(given, "BLOCK")?)),
         "put" => Some(Order::Put(image, block_of(given, "BLOCK")?, given.get_str("FILE")?)),
         _ => order_over_blocks(name, image, given),
@@ -360,6 +361,15 @@ fn import_command<'a>(alloc: Global) -> Result<Command<'a>, AllocError>
         .arg(check_option(alloc))
 }
 
+fn check_command<'a>(alloc: Global) -> Result<Command<'a>, AllocError>
+    ensures app { IfOk result (λ c. app_of c ≡ check_app) }
+    ensures local { IfOk result (λ c. (out-Command c).has_globals ≡ false) }
+{
+    Command::new(alloc, "check")
+        .about("Tell what an image holds, by reading alone")
+        .arg(image_argument(alloc))
+}
+
 fn upgrade_command<'a>(alloc: Global) -> Result<Command<'a>, AllocError>
     ensures app { IfOk result (λ c. app_of c ≡ upgrade_app) }
     ensures local { IfOk result (λ c. (out-Command c).has_globals ≡ false) }
@@ -392,6 +402,7 @@ fn command_named<'a>(alloc: Global, name: &str) -> Result<Command<'a>, AllocErro
         "put" => alone(alloc, put_command(alloc)?),
         "export" => alone(alloc, export_command(alloc)?),
         "import" => alone(alloc, import_command(alloc)?),
+        "check" => alone(alloc, check_command(alloc)?),
         "upgrade" => alone(alloc, upgrade_command(alloc)?),
         _ => forth83(alloc),
     }
@@ -424,7 +435,9 @@ fn forth83<'a>(alloc: Global) -> Result<Command<'a>, AllocError>
     let command = program(alloc)
         .subcommand(new_command(alloc)?)?
         .subcommand(run_command(alloc)?)?;
-    with_blocks(alloc, command)?.subcommand(upgrade_command(alloc)?)
+    with_blocks(alloc, command)?
+        .subcommand(check_command(alloc)?)?
+        .subcommand(upgrade_command(alloc)?)
 }
 
 /// The program without a command.

@@ -37,3 +37,7 @@ returns-in-Import-clause-done g c =
 pub returns-in-CheckImport-clause-done : goal.returns-in-CheckImport-clause-done
 returns-in-CheckImport-clause-done g c =
     rw c.in-CheckImport.is (done_of c.check_import.result c.closed-in-CheckImport.result c.closed-in-CheckImport.ensures _ _ (λ disk looked. (disk, looked)) c.check_import.ensures.looked)
+
+pub returns-in-Check-clause-done : goal.returns-in-Check-clause-done
+returns-in-Check-clause-done g c =
+    rw c.in-Check.is (done_of c.check_image.result c.closed-in-Check.result c.closed-in-Check.ensures _ _ (λ disk checked. (disk, checked)) c.check_image.ensures.checked)

@@ -2,8 +2,8 @@ use Rattle.std.proofs.Common.{◌≡◌, ◌∙◌, ap, rules}
 use Rattle.std.specs.Prelude.{codes}
 use Rattle.std.proofs.lemmas.Result.{IfOk-weaker}
 use Rattle.clap.specs.Words.{App, app_of, with_subcommand}
-use Rattle.terminal.specs.Commands.{program, new_app_of, run_app, list_app, put_app, export_app, import_app, upgrade_app}
-use Rattle.terminal.proofs.Alone.{all_suffice, named, new_alone, run_alone, list_alone, put_alone, export_alone, import_alone, upgrade_alone}
+use Rattle.terminal.specs.Commands.{program, new_app_of, run_app, list_app, put_app, export_app, import_app, check_app, upgrade_app}
+use Rattle.terminal.proofs.Alone.{all_suffice, named, new_alone, run_alone, list_alone, put_alone, export_alone, import_alone, check_alone, upgrade_alone}
 use Rattle.terminal.proofs.reading.command_named.Goals as goal
 
 pub returns-in_ok-new_command-in-new : goal.returns-in_ok-new_command-in-new
@@ -41,6 +41,12 @@ returns-in_ok-import_command-in-import c =
     let is : c.args.name.now ≡ codes "import" = search rules in
     IfOk-weaker c.alone-in-import.result _ _ (λ command made. named c.args.name.now (codes "import") (app_of command) (with_subcommand program import_app.top) is
     (made ∙ ap (λ (a : App). with_subcommand program a.top) c.in_ok-import_command-in-import.ensures.app) import_alone) c.alone-in-import.ensures
+
+pub returns-in_ok-check_command-in-check : goal.returns-in_ok-check_command-in-check
+returns-in_ok-check_command-in-check c =
+    let is : c.args.name.now ≡ codes "check" = search rules in
+    IfOk-weaker c.alone-in-check.result _ _ (λ command made. named c.args.name.now (codes "check") (app_of command) (with_subcommand program check_app.top) is
+    (made ∙ ap (λ (a : App). with_subcommand program a.top) c.in_ok-check_command-in-check.ensures.app) check_alone) c.alone-in-check.ensures
 
 pub returns-in_ok-upgrade_command-in-upgrade : goal.returns-in_ok-upgrade_command-in-upgrade
 returns-in_ok-upgrade_command-in-upgrade c =

@@ -2,7 +2,7 @@ use Rattle.std.proofs.Common.{◌≡◌, ◌∙◌, ◌||◌, false, ap, ap₂}
 use Rattle.std.proofs.lemmas.Result.{IfOk-weaker}
 use Rattle.clap.specs.Words.{App, app_of, with_subcommand}
 use Rattle.clap.specs.declared.builder.command.Command.TheViews.{out-Command}
-use Rattle.terminal.specs.Commands.{over_blocks, program, new_app_of, run_app}
+use Rattle.terminal.specs.Commands.{over_blocks, program, new_app_of, run_app, check_app}
 use Rattle.terminal.proofs.reading.forth83.Goals as goal
 
 pub returns-clause-app : goal.returns-clause-app
@@ -11,9 +11,12 @@ returns-clause-app c =
     c.in_ok-subcommand.ensures.shape c.in_ok-new_command.ensures.local ∙ ap₂ with_subcommand c.program.ensures.app (ap (λ (a : App). a.top) c.in_ok-new_command.ensures.app) in
     let two : app_of c.in_ok-command.command ≡ with_subcommand (with_subcommand program new_app_of.top) run_app.top =
     c.in_ok-command.ensures.shape c.in_ok-run_command.ensures.local ∙ ap₂ with_subcommand one (ap (λ (a : App). a.top) c.in_ok-run_command.ensures.app) in
-    let more = c.in_ok-with_blocks.ensures.app ∙ ap over_blocks two in
-    IfOk-weaker c.subcommand-3.result _ _ (λ command added. added.shape c.in_ok-upgrade_command.ensures.local
-    ∙ ap₂ with_subcommand more (ap (λ (a : App). a.top) c.in_ok-upgrade_command.ensures.app)) c.subcommand-3.ensures
+    let blocks = c.in_ok-with_blocks.ensures.app ∙ ap over_blocks two in
+    let more : app_of c.in_ok-subcommand-2.field-0
+    ≡ with_subcommand (over_blocks (with_subcommand (with_subcommand program new_app_of.top) run_app.top)) check_app.top =
+    c.in_ok-subcommand-2.ensures.shape c.in_ok-check_command.ensures.local ∙ ap₂ with_subcommand blocks (ap (λ (a : App). a.top) c.in_ok-check_command.ensures.app) in
+    IfOk-weaker c.subcommand-4.result _ _ (λ command added. added.shape c.in_ok-upgrade_command.ensures.local
+    ∙ ap₂ with_subcommand more (ap (λ (a : App). a.top) c.in_ok-upgrade_command.ensures.app)) c.subcommand-4.ensures
 
 pub returns-clause-local : goal.returns-clause-local
 returns-clause-local c =
@@ -21,5 +24,7 @@ returns-clause-local c =
     c.in_ok-subcommand.ensures.globals ∙ ap₂ (λ a b. a || b) c.program.ensures.local c.in_ok-new_command.ensures.local in
     let two : (out-Command c.in_ok-command.command).has_globals ≡ false =
     c.in_ok-command.ensures.globals ∙ ap₂ (λ a b. a || b) one c.in_ok-run_command.ensures.local in
-    let more = c.in_ok-with_blocks.ensures.local two in
-    IfOk-weaker c.subcommand-3.result _ _ (λ command added. added.globals ∙ ap₂ (λ a b. a || b) more c.in_ok-upgrade_command.ensures.local) c.subcommand-3.ensures
+    let blocks = c.in_ok-with_blocks.ensures.local two in
+    let more : (out-Command c.in_ok-subcommand-2.field-0).has_globals ≡ false =
+    c.in_ok-subcommand-2.ensures.globals ∙ ap₂ (λ a b. a || b) blocks c.in_ok-check_command.ensures.local in
+    IfOk-weaker c.subcommand-4.result _ _ (λ command added. added.globals ∙ ap₂ (λ a b. a || b) more c.in_ok-upgrade_command.ensures.local) c.subcommand-4.ensures

@@ -13,6 +13,12 @@ returns-in_ok-blocks_of-in-new-clause-given c = (
 pub order_of_run-requires-clause-image : goal.order_of_run-requires-clause-image
 order_of_run-requires-clause-image c = text_given c.args.given.now (codes "IMAGE") c.in_ok-image.image.now c.in_ok-image.ensures
 
+pub returns-in-check-clause-given : goal.returns-in-check-clause-given
+returns-in-check-clause-given c = (
+  search rules,
+  text_given c.args.given.now (codes "IMAGE") c.in_ok-image.image.now c.in_ok-image.ensures,
+)
+
 pub returns-in_ok-block_of-in-list-clause-given : goal.returns-in_ok-block_of-in-list-clause-given
 returns-in_ok-block_of-in-list-clause-given c = (
   search rules,

@@ -1,0 +1,48 @@
+-- What is told of an image that is checked, on any device.
+use Rattle.std.specs.Prelude.{◌≡◌, ℕ, ◌+◌, ◌*◌, IsTrue, List, [], ◌∷◌, ◌++◌, Option, Some, None, codes}
+use Rattle.std.specs.Fmt.{decimal}
+use Rattle.std.specs.Io.KnownBytes.{Appends}
+use Rattle.std.specs.List.{concat}
+use Rattle.hex.specs.Hex.{encode_lower}
+use Rattle.sha2.specs.Sha256.{sha256}
+use Rattle.sector_disk.specs.Disk.{Image, MayLeave}
+use Rattle.sector_disk.specs.declared.device.SectorDevice.{Ghosts}
+use Rattle.journal.specs.Calls.{BeginsAtMost, ReadsAtMost, StopsLeave}
+use Rattle.journal.specs.Chain.{HasMeaning}
+use Rattle.journal.specs.Images.{meaning}
+use Rattle.image_care.specs.Examined.{record_in, count_in, reads_to_list}
+use Rattle.recovery.specs.Label.{blocks_in}
+use Rattle.sessions.specs.Devices.{Becomes}
+
+-- whether a save is under way, and of how many blocks: its digest is true, or the image would be refused
+abbrev pub save_text : Option ℕ → List ℕ
+save_text None = codes "none"
+save_text (Some n) = decimal n ++ codes " blocks, digest true"
+
+-- a line: what it is about, and what is told of that
+abbrev pub line : (about value : List ℕ) → List ℕ
+line about value = about ++ codes ": " ++ value ++ 10 ∷ []
+
+-- five lines, about the bytes of the file, the layout, the blocks, the save that is under way, and the digest of all blocks
+abbrev pub report : (bytes blocks : ℕ) → (under_way : Option ℕ) → (digest : List ℕ) → List ℕ
+report bytes blocks under_way digest =
+    line (codes "bytes") (decimal bytes) ++ line (codes "layout") (codes "2") ++ line (codes "blocks") (decimal blocks)
+    ++ line (codes "save under way") (save_text under_way) ++ line (codes "sha256") (encode_lower digest)
+
+-- what is told of an image of n blocks on a device of so many sectors
+abbrev pub told_of : (sectors n : ℕ) → Image → List ℕ
+told_of sectors n image = report (512 * sectors) n (count_in n (record_in image)) (sha256 (concat (meaning n image)))
+
+module _ {D : Type 0} (G : Ghosts D) where
+  -- `check`: the image on the device, which has a meaning, was told of by reads alone, and no more of them than it asks for.
+  -- Nothing was written or synced, so a stop at any moment leaves what one could leave before.
+  pub record Checks (written written' : Option (List ℕ)) (device after : D) : Type 0 where
+    pub goes : Becomes G device after
+    pub meant : IsTrue (G.keeps_model device) → HasMeaning (blocks_in (G.sector_count device)) (G.disk device).content
+    pub told : IsTrue (G.keeps_model device)
+        → Appends written written' (told_of (G.sector_count device) (blocks_in (G.sector_count device)) (G.disk device).content)
+    pub same : IsTrue (G.keeps_model device) → G.disk after ≡ G.disk device
+    pub stops : IsTrue (G.keeps_model device) → StopsLeave G device after (MayLeave (G.disk device))
+    pub begins : BeginsAtMost G device after 0 0
+    pub reads : IsTrue (G.keeps_model device) → ReadsAtMost G device after
+        (reads_to_list (blocks_in (G.sector_count device)) (G.disk device).content + 2 * blocks_in (G.sector_count device) + 1)
