@@ -19,14 +19,14 @@ abbrev the_fault : {A : Type 0} → BlockFault → Result A BlockFault
 the_fault f = Err f
 
 pub asks_past : {D : Type 0} (G : Ghosts D) {A : Type 0} (u : ℕ) (self : Blocks D G) → ((d : D) (c : Image) → G.left_since d (G.time d) c → MayLeave (G.disk d) c)
-    → self.store.blocks ≤ u → AsksFor {A = A} u (Err NoBlock) self self
+    → self.store.blocks.number ≤ u → AsksFor {A = A} u (Err NoBlock) self self
 asks_past G u self only_now past = record {
   no_block = (λ _. past, λ _. refl);
   closed = (λ is. absurd (cc), λ is. absurd (omega (arith, past, is.0.0)));
   failures = refl;
   no_buffer = λ is. absurd (cc);
   found = λ some.
-      let none : slot_of self.buffers u ≡ None = none_past self.store.blocks u self.buffers.list self.within past in
+      let none : slot_of self.buffers u ≡ None = none_past self.store.blocks.number u self.buffers.list self.within past in
       absurd (let no : false ≡ true = subst IsSome none some in cc);
   found_store = λ _. refl;
   closed_same = λ _. refl;

@@ -180,12 +180,12 @@ count_below_none bytes zero none = refl
 count_below_none bytes (suc n) none = ap (λ t. cond t (count_listed bytes n + 1) (count_listed bytes n)) (none n (omega arith)) ∙ count_below_none bytes n (λ b below. none b (omega arith))
 
 -- what a commit has to write is pending
-pub some_pending : {D : Type 0} {G : Ghosts D} (store : Store D G) (m : Maps) → StandsFor store m → store.closed ≡ false → (count_listed store.pending store.blocks ≡ 0 → ⊥) → any_pending m.pending ≡ true
+pub some_pending : {D : Type 0} {G : Ghosts D} (store : Store D G) (m : Maps) → StandsFor store m → store.closed ≡ false → (count_listed store.pending store.blocks.number ≡ 0 → ⊥) → any_pending m.pending ≡ true
 some_pending {D} {G} store m stands is_open counted = pick (any_pending m.pending) refl
   where
     pick : (t : Bool) → any_pending m.pending ≡ t → any_pending m.pending ≡ true
     pick true is = is
-    pick false is = absurd (counted (count_below_none store.pending store.blocks
+    pick false is = absurd (counted (count_below_none store.pending store.blocks.number
         (λ b below. not_listed (listed store.pending b) (slot_of (G.disk store.device).content b) (sym (none_at m.pending is b) ∙ stands.pending is_open b below))))
 
 pub device_fault : (f : StoreFault) → (f ≡ Shut → ⊥) → f ≡ Broken
@@ -210,7 +210,7 @@ pub none_left : {D : Type 0} {G : Ghosts D} (old mid : Store D G) (b : Buffers) 
     → ((u : ℕ) → is_pending mid u ≡ (is_among (updated_ones b) u || is_pending old u)) → pending_count old ≡ 0 → pending_count mid ≡ 0
 none_left old mid b none on pending zero_pending =
     ap (λ n. count_below (is_pending mid) n) on.blocks
-    ∙ count_below_same (is_pending mid) (is_pending old) old.blocks (λ u. pending u ∙ ap (λ (l : List Assigned). is_among l u || is_pending old u) none)
+    ∙ count_below_same (is_pending mid) (is_pending old) old.blocks.number (λ u. pending u ∙ ap (λ (l : List Assigned). is_among l u || is_pending old u) none)
     ∙ zero_pending
 
 -- a commit after spills
@@ -229,7 +229,7 @@ pub save_reads : {D : Type 0} (G : Ghosts D) (old mid new : Store D G) (b : Buff
     → ((u : ℕ) → is_pending mid u ≡ (is_among (updated_ones b) u || is_pending old u)) → DeviceReads old mid 0
     → DeviceReads mid new (4 * pending_count mid) → DeviceReads old new (4 * changed_count old b)
 save_reads G old mid new b on pending first then =
-    let same : pending_count mid ≡ changed_count old b = ap (λ n. count_below (is_pending mid) n) on.blocks ∙ count_below_same (is_pending mid) (is_changed old b) old.blocks pending in
+    let same : pending_count mid ≡ changed_count old b = ap (λ n. count_below (is_pending mid) n) on.blocks ∙ count_below_same (is_pending mid) (is_changed old b) old.blocks.number pending in
     omega (arith, first, then, same)
 
 -- the writes of a commit after spills
@@ -237,7 +237,7 @@ pub save_begins : {D : Type 0} (G : Ghosts D) (old mid new : Store D G) (b : Buf
     → ((u : ℕ) → is_pending mid u ≡ (is_among (updated_ones b) u || is_pending old u)) → DeviceBegins old mid (2 * length (updated_ones b)) 0
     → DeviceBegins mid new (2 * pending_count mid + 3) 4 → DeviceBegins old new (2 * length (updated_ones b) + 2 * changed_count old b + 3) 4
 save_begins G old mid new b on pending first then =
-    let same : pending_count mid ≡ changed_count old b = ap (λ n. count_below (is_pending mid) n) on.blocks ∙ count_below_same (is_pending mid) (is_changed old b) old.blocks pending in
+    let same : pending_count mid ≡ changed_count old b = ap (λ n. count_below (is_pending mid) n) on.blocks ∙ count_below_same (is_pending mid) (is_changed old b) old.blocks.number pending in
     record {
       few_writes = omega (arith, first.few_writes, then.few_writes, same);
       few_syncs = omega (arith, first.few_syncs, then.few_syncs);

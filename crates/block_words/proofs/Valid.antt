@@ -91,10 +91,10 @@ few_among n (x ∷ xs) apart h =
     let one = count_one_more (is_among xs) x.block n (within_first n x xs h) (not_among x xs apart.0) in
     omega (arith, rest, one)
 
-pub few_changed : {D : Type 0} {G : Ghosts D} (store : Store D G) (b : Buffers) → IsValid b → within store.blocks b.list ≡ true
+pub few_changed : {D : Type 0} {G : Ghosts D} (store : Store D G) (b : Buffers) → IsValid b → within store.blocks.number b.list ≡ true
     → length (updated_ones b) ≤ changed_count store b
 few_changed store b v h =
     let xs = updated_ones b in
-    let few = few_among store.blocks xs (all_apart_filter (λ x. x.updated) b.list v.apart) (within_filter store.blocks (λ x. x.updated) b.list h) in
-    let grown = count_grows (is_among xs) (is_changed store b) store.blocks (λ u is. left_true (is_among xs u) _ is) in
+    let few = few_among store.blocks.number xs (all_apart_filter (λ x. x.updated) b.list v.apart) (within_filter store.blocks.number (λ x. x.updated) b.list h) in
+    let grown = count_grows (is_among xs) (is_changed store b) store.blocks.number (λ u is. left_true (is_among xs u) _ is) in
     omega (arith, few, grown)

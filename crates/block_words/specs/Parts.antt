@@ -6,7 +6,7 @@ use Rattle.journal.specs.declared.store.Store.{Store}
 use Rattle.journal.specs.Calls.{StopsLeave}
 use Rattle.journal.specs.Images.{Means}
 use Rattle.journal.specs.Maps.{Maps}
-use Rattle.journal.specs.Store.{StandsFor}
+use Rattle.journal.specs.Store.{StandsFor, blocks_of}
 use Rattle.block_buffers.specs.Buffers.{Buffers, slot_of, updated_ones, IsValid}
 use Rattle.block_words.specs.declared.Blocks.{Blocks}
 use Rattle.block_words.specs.Words.{next_map}
@@ -21,7 +21,7 @@ module _ {D : Type 0} {G : Ghosts D} where
 
   -- Block u is there and has no buffer.
   abbrev pub HasNoBuffer : Blocks D G → ℕ → Type 0
-  HasNoBuffer blocks u = (u < blocks.store.blocks) × (slot_of blocks.buffers u ≡ None)
+  HasNoBuffer blocks u = (u < blocks_of blocks.store) × (slot_of blocks.buffers u ≡ None)
 
   -- A stop of an open store at any moment since the old state leaves the saved blocks, or all that were changed over them too.
   abbrev pub ChangesAllOrNone : Store D G → Store D G → Buffers → List ℕ → Type 0

@@ -2,7 +2,7 @@
 use Rattle.std.specs.Prelude.{◌≡◌, ◌⊎◌, ◌↔◌, ◌≤◌, ◌+◌, ◌*◌, ℕ, true, false, List, [], length, Result, IsOk, IsErr, IfErr, OnOk, IsErrOf, IsSome}
 use Rattle.sector_disk.specs.declared.device.SectorDevice.{Ghosts}
 use Rattle.journal.specs.declared.store.Store.{Store}
-use Rattle.journal.specs.Store.{Continues, DeviceBegins, DeviceReads, KeepsSaved, is_pending, pending_count}
+use Rattle.journal.specs.Store.{Continues, DeviceBegins, DeviceReads, KeepsSaved, blocks_of, is_pending, pending_count}
 use Rattle.block_buffers.specs.Buffers.{Buffers, slot_of, updated_ones}
 use Rattle.block_words.specs.declared.BlockFault.{BlockFault}
 use Rattle.block_words.specs.declared.BlockFault.TheVariants.{NoBlock, NoBuffer, Device, Closed}
@@ -19,7 +19,7 @@ module _ {D : Type 0} {G : Ghosts D} where
   -- A call asks for block u: where it has no buffer, the store has to read it, or to spill another one.
   pub record AsksFor {A : Type 0} (u : ℕ) (result : Result A BlockFault) (old new : Blocks D G) : Type 0 where
     -- there is no such block: this is said before all else
-    pub no_block : IsErrOf result NoBlock ↔ (old.store.blocks ≤ u)
+    pub no_block : IsErrOf result NoBlock ↔ (blocks_of old.store ≤ u)
     -- the block has no buffer, and the store is closed
     pub closed : IsErrOf result Closed ↔ (HasNoBuffer old u × (old.store.closed ≡ true))
     -- the device failed once where the call says so, and else not

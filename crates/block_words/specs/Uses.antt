@@ -3,7 +3,7 @@ use Rattle.std.specs.Prelude.{◌≡◌, ℕ, ◌==◌, ◌&&◌, ◌||◌, ◌<
 use Rattle.sector_disk.specs.declared.device.SectorDevice.{Ghosts}
 use Rattle.journal.specs.declared.store.Store.{Store}
 use Rattle.journal.specs.Layout.{count_below}
-use Rattle.journal.specs.Store.{is_pending, text_of}
+use Rattle.journal.specs.Store.{blocks_of, is_pending, text_of}
 use Rattle.data_space.specs.Space.{buffer_at, buffer_bytes, with_bytes}
 use Rattle.block_buffers.specs.declared.Assigned.{Assigned}
 use Rattle.block_buffers.specs.Buffers.{Buffers, assigned, slot_of, touched, oldest, slot_for, placed, updated_ones}
@@ -76,7 +76,7 @@ module _ {D : Type 0} {G : Ghosts D} where
 
   -- how many blocks a save has to commit
   abbrev pub changed_count : Store D G → Buffers → ℕ
-  changed_count store buffers = count_below (is_changed store buffers) store.blocks
+  changed_count store buffers = count_below (is_changed store buffers) (blocks_of store)
 
   -- what is pending once a buffer gave up its place: what was before, and its block if it was updated
   abbrev pub PendingOnceReplaced : Store D G → Store D G → Option Assigned → Type 0

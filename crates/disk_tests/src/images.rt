@@ -8,8 +8,8 @@ use std::process::Abort;
 use std::test::Fail;
 use stops::disks::{BLOCKS, SECTORS, formatted, opened, put, sector, spill};
 
-// A commit record with these first bytes, and the digest that belongs to it over slots that are full of these bytes.
-fn record(bits: &[u8], slots: &[u8]) -> [u8; 512] {
+/// A commit record with these first bytes, and the digest that belongs to it over slots that are full of these bytes.
+pub(crate) fn record(bits: &[u8], slots: &[u8]) -> [u8; 512] {
     let mut bytes = [0; 512];
     for (byte, bit) in bytes.iter_mut().zip(bits.iter()).take(480) {
         *byte = *bit;

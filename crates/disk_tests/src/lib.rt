@@ -1,5 +1,5 @@
-//! Tests of devices, journal, recovery and buffers, by their public calls alone: bytes, layouts, digests, sizes and refusals. What a
-//! stop or a failing call leaves stands in the texts that `stop_texts` follows.
+//! Tests of devices, journal, recovery, image_care and buffers, by their public calls alone: bytes, layouts, digests, sizes and
+//! refusals. What a stop or a failing call leaves of one image stands in the texts that `stop_texts` follows.
 #![tactic(auto)]
 
 #[cfg(test)]
@@ -8,6 +8,8 @@ mod buffers;
 mod coarse;
 #[cfg(test)]
 mod contents;
+#[cfg(test)]
+mod copies;
 #[cfg(test)]
 mod file;
 #[cfg(test)]

@@ -4,48 +4,16 @@ ghost use Rattle.sha2.specs.Hashers.{Holds256};
 ghost use Rattle.sha2.specs.Sha256.{sha256};
 ghost use Rattle.sector_disk.specs.Disk.{MayLeave};
 ghost use Rattle.journal.specs.Calls.{StopsLeave, BeginsAtMost, ReadsAtMost, Passes};
-ghost use Rattle.journal.specs.Images.{pair_at};
 ghost use Rattle.journal.specs.Layout.{fewest_blocks, most_blocks, sectors_for};
 ghost use Rattle.image_care.specs.Examined.{place_in, found_in, joined_below};
 
-use journal::layout::{home_sector, is_listed, slot_sector};
+use journal::layout::{BlockCount, home_sector, is_listed, slot_sector};
+use journal::read_pair;
 use sector_disk::{DeviceFault, SectorDevice};
 use sha2::{Digest, Sha256};
 
-// Reads two sectors in a row.
-fn read_pair<D: SectorDevice>(device: &mut D, k: u32, out: &mut [u8]) -> Result<(), DeviceFault>
-    requires small { k < 2 ^ 16 }
-    requires within { k + 1 < D.sector_count device.old }
-    requires room { length out.old ≡ 1024 }
-    ensures bytes { IsTrue (D.keeps_model device.old)
-        → OnOk result (out.new ≡ pair_at (D.disk device.old).content k) }
-    ensures err { OnErr result (out.new ≡ out.old) }
-    ensures disk { IsTrue (D.keeps_model device.old) → D.disk device.new ≡ D.disk device.old }
-    ensures stops { IsTrue (D.keeps_model device.old)
-        → StopsLeave D.SectorDevice device.old device.new (MayLeave (D.disk device.old)) }
-    ensures passes { Passes D.SectorDevice device.old device.new result }
-    ensures begins { BeginsAtMost D.SectorDevice device.old device.new 0 0 }
-    ensures reads { ReadsAtMost D.SectorDevice device.old device.new 2 }
-{
-    let mut first = [0; 512];
-    let mut second = [0; 512];
-    device.read(k, &mut first)?;
-    device.read(k + 1, &mut second)?;
-    join(&first, &second, out);
-    Ok(())
-}
-
-fn join(first: &[u8; 512], second: &[u8; 512], out: &mut [u8])
-    requires { length out.old ≡ 1024 }
-    ensures { out.new ≡ first.now ++ second.now }
-{
-    let (front, back) = out.split_at_mut(512);
-    front.copy_from_slice(first);
-    back.copy_from_slice(second);
-}
-
 // The first of the two sectors that hold a block: its slot where a save under way lists it, else its home.
-fn place_of(blocks: u16, listing: &Option<[u8; 512]>, b: u16) -> u32
+pub(crate) fn place_of(blocks: u16, listing: &Option<[u8; 512]>, b: u16) -> u32
     requires many { fewest_blocks ≤ blocks }
     requires few { blocks ≤ most_blocks }
     requires below { b < blocks }
@@ -55,7 +23,7 @@ fn place_of(blocks: u16, listing: &Option<[u8; 512]>, b: u16) -> u32
 {
     match listing {
         Some(bytes) => place_by(blocks, bytes, b),
-        None => home_sector(blocks, b),
+        None => home_sector(BlockCount { number: blocks }, b),
     }
 }
 
@@ -70,7 +38,7 @@ fn place_by(blocks: u16, bytes: &[u8; 512], b: u16) -> u32
     if is_listed(bytes, b) {
         slot_sector(b)
     } else {
-        home_sector(blocks, b)
+        home_sector(BlockCount { number: blocks }, b)
     }
 }
 

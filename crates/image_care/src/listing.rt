@@ -11,9 +11,8 @@ ghost use Rattle.recovery.specs.declared.fault.OpenFault.{OpenFault};
 ghost use Rattle.recovery.specs.declared.fault.OpenFault.TheVariants.{BadSize, Device, Damaged};
 ghost use Rattle.image_care.specs.Examined.{record_in, reads_to_list};
 
-use journal::is_true_record;
-use journal::layout::{GATE, LABEL, RECORD, gate_is_open};
-use recovery::{OpenFault, check_label};
+use journal::layout::{BlockCount, GATE, LABEL, VERSION, gate_is_open};
+use recovery::{OpenFault, check_label, read_record};
 use sector_disk::{DeviceFault, SectorDevice};
 
 // Reads the label, and looks at it.
@@ -44,40 +43,6 @@ pub(crate) fn read_label<D: SectorDevice>(
     check_label(&label, version, blocks)
 }
 
-// Reads the record, and checks that it belongs to the slots.
-fn read_record<D: SectorDevice>(
-    device: &mut D,
-    blocks: u16,
-    bytes: &mut [u8; 512],
-) -> Result<(), OpenFault>
-    requires many { fewest_blocks ≤ blocks }
-    requires few { blocks ≤ most_blocks }
-    requires size { D.sector_count device.old ≡ sectors_for blocks }
-    ensures bytes { IsTrue (D.keeps_model device.old) → OnOk result (bytes.new ≡ (D.disk device.old).content 2) }
-    ensures exact { IsTrue (D.keeps_model device.old) → MatchResult result
-        (λ _. is_true_record blocks ((D.disk device.old).content 2) (D.disk device.old).content ≡ true)
-        (λ e. (e ≡ Device)
-        ⊎ ((e ≡ Damaged) × (is_true_record blocks ((D.disk device.old).content 2) (D.disk device.old).content ≡ false))) }
-    ensures sized { IfErr result (λ e. e ≢ BadSize) }
-    ensures device { IfErr result (λ e. e ≡ Device → D.failures device.new ≡ count_up (D.failures device.old)) }
-    ensures refused { IfErr result (λ e. e ≢ Device → D.failures device.new ≡ D.failures device.old) }
-    ensures well { OnOk result (D.failures device.new ≡ D.failures device.old) }
-    ensures disk { IsTrue (D.keeps_model device.old) → D.disk device.new ≡ D.disk device.old }
-    ensures stops { IsTrue (D.keeps_model device.old)
-        → StopsLeave D.SectorDevice device.old device.new (MayLeave (D.disk device.old)) }
-    ensures passes { Proceeds D.SectorDevice device.old device.new }
-    ensures begins { BeginsAtMost D.SectorDevice device.old device.new 0 0 }
-    ensures reads { IsTrue (D.keeps_model device.old)
-        → ReadsAtMost D.SectorDevice device.old device.new (2 * count_listed ((D.disk device.old).content 2) blocks + 1) }
-{
-    device.read(RECORD, bytes)?;
-    if is_true_record(device, blocks, bytes)? {
-        Ok(())
-    } else {
-        Err(OpenFault::Damaged)
-    }
-}
-
 // The record under an open gate.
 fn take_record<D: SectorDevice>(device: &mut D, blocks: u16) -> Result<Option<[u8; 512]>, OpenFault>
     requires many { fewest_blocks ≤ blocks }
@@ -102,10 +67,8 @@ fn take_record<D: SectorDevice>(device: &mut D, blocks: u16) -> Result<Option<[u
         → ReadsAtMost D.SectorDevice device.old device.new (2 * count_listed ((D.disk device.old).content 2) blocks + 1) }
 {
     let mut record = [0; 512];
-    match read_record(device, blocks, &mut record) {
-        Ok(()) => Ok(Some(record)),
-        Err(fault) => Err(fault),
-    }
+    read_record(device, VERSION, BlockCount { number: blocks }, &mut record)?;
+    Ok(Some(record))
 }
 
 // The record of the save that is under way, where the gate tells of one.

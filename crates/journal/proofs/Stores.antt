@@ -19,61 +19,61 @@ use Rattle.journal.proofs.Meaning.{sound_means, means_sized, homes_sized, pair_s
 
 module _ {D : Type 0} {G : Ghosts D} where
   -- what each block was spilled or saved as
-  pub latest_is : (store : Store D G) (s : Maps) → StandsFor store s → store.closed ≡ false → (b : ℕ) → b < store.blocks
-      → contents s b ≡ merged store.blocks store.pending (G.disk store.device).content b
+  pub latest_is : (store : Store D G) (s : Maps) → StandsFor store s → store.closed ≡ false → (b : ℕ) → b < store.blocks.number
+      → contents s b ≡ merged store.blocks.number store.pending (G.disk store.device).content b
   latest_is store s stands now b below =
-      (λ t. unwrap_or (stands.pending now b below t) (stands.saved now b below t)) ∙ both (listed store.pending b) (slot_of (G.disk store.device).content b) (home_of store.blocks (G.disk store.device).content b)
+      (λ t. unwrap_or (stands.pending now b below t) (stands.saved now b below t)) ∙ both (listed store.pending b) (slot_of (G.disk store.device).content b) (home_of store.blocks.number (G.disk store.device).content b)
     where
       both : (t : Bool) (slot home : List ℕ) → unwrap_or (cond t (Some slot) None) home ≡ cond t slot home
       both true slot home = refl
       both false slot home = refl
 
-  pub latest_in : (store : Store D G) (s : Maps) → StandsFor store s → store.closed ≡ false → (b : ℕ) → b < store.blocks
-      → block_in (latest s) b ≡ merged store.blocks store.pending (G.disk store.device).content b
+  pub latest_in : (store : Store D G) (s : Maps) → StandsFor store s → store.closed ≡ false → (b : ℕ) → b < store.blocks.number
+      → block_in (latest s) b ≡ merged store.blocks.number store.pending (G.disk store.device).content b
   latest_in store s stands now b below = at_overridden s.saved s.pending b (omega (arith, stands.size)) ∙ latest_is store s stands now b below
 
   -- with nothing spilled
-  pub none_pending : (store : Store D G) (s : Maps) → StandsFor store s → store.closed ≡ false → count_listed store.pending store.blocks ≡ 0
-      → (b : ℕ) → b < store.blocks → slice_index_or s.pending b None ≡ None
+  pub none_pending : (store : Store D G) (s : Maps) → StandsFor store s → store.closed ≡ false → count_listed store.pending store.blocks.number ≡ 0
+      → (b : ℕ) → b < store.blocks.number → slice_index_or s.pending b None ≡ None
   none_pending store s stands now zero b below =
-      stands.pending now b below ∙ ap (λ t. cond t (Some (slot_of (G.disk store.device).content b)) None) (count_zero store.pending store.blocks b zero below)
+      stands.pending now b below ∙ ap (λ t. cond t (Some (slot_of (G.disk store.device).content b)) None) (count_zero store.pending store.blocks.number b zero below)
 
 module _ {D : Type 0} {G : Ghosts D} (store : Store D G) (s : Maps) (stands : StandsFor store s) (now : store.closed ≡ false) where
   -- A commit of nothing saves what was saved.
-  pub nothing_new : count_listed store.pending store.blocks ≡ 0 → latest s ≡ s.saved
+  pub nothing_new : count_listed store.pending store.blocks.number ≡ 0 → latest s ≡ s.saved
   nothing_new zero = same_list (latest s) s.saved (length-overridden s.saved s.pending) (λ b below.
       at_overridden s.saved s.pending b below
       ∙ ap (λ o. unwrap_or o (block_in s.saved b)) (none_pending store s stands now zero b (omega (arith, stands.size, below))))
 
   -- An image has the homes, or the slots of the pending blocks over them.
-  pub means_either : (c : Image) → HasBlocks store.blocks (home_of store.blocks (G.disk store.device).content) c
-      ⊎ HasBlocks store.blocks (merged store.blocks store.pending (G.disk store.device).content) c → Means s.saved c ⊎ Means (latest s) c
+  pub means_either : (c : Image) → HasBlocks store.blocks.number (home_of store.blocks.number (G.disk store.device).content) c
+      ⊎ HasBlocks store.blocks.number (merged store.blocks.number store.pending (G.disk store.device).content) c → Means s.saved c ⊎ Means (latest s) c
   means_either c = ⊎_elim
-      (λ has. inl (means_sized store.blocks _ s.saved c store.many store.few stands.size (stands.saved now) has))
-      (λ has. inr (means_sized store.blocks _ (latest s) c store.many store.few (length-overridden s.saved s.pending ∙ stands.size) (latest_in store s stands now) has))
+      (λ has. inl (means_sized store.blocks.number _ s.saved c store.blocks.many store.blocks.few stands.size (stands.saved now) has))
+      (λ has. inr (means_sized store.blocks.number _ (latest s) c store.blocks.many store.blocks.few (length-overridden s.saved s.pending ∙ stands.size) (latest_in store s stands now) has))
 
-  pub homes_either : (c : Image) → (c 1 ≡ open_gate_bytes) ⊎ HasHomes store.blocks (home_of store.blocks (G.disk store.device).content) c
-      ⊎ HasHomes store.blocks (merged store.blocks store.pending (G.disk store.device).content) c → (c 1 ≡ open_gate_bytes) ⊎ HomesHold s.saved c ⊎ HomesHold (latest s) c
+  pub homes_either : (c : Image) → (c 1 ≡ open_gate_bytes) ⊎ HasHomes store.blocks.number (home_of store.blocks.number (G.disk store.device).content) c
+      ⊎ HasHomes store.blocks.number (merged store.blocks.number store.pending (G.disk store.device).content) c → (c 1 ≡ open_gate_bytes) ⊎ HomesHold s.saved c ⊎ HomesHold (latest s) c
   homes_either c = ⊎_elim (λ is. inl is) (⊎_elim
-      (λ has. inr (inl (homes_sized store.blocks _ s.saved c stands.size (stands.saved now) has)))
-      (λ has. inr (inr (homes_sized store.blocks _ (latest s) c (length-overridden s.saved s.pending ∙ stands.size) (latest_in store s stands now) has))))
+      (λ has. inr (inl (homes_sized store.blocks.number _ s.saved c stands.size (stands.saved now) has)))
+      (λ has. inr (inr (homes_sized store.blocks.number _ (latest s) c (length-overridden s.saved s.pending ∙ stands.size) (latest_in store s stands now) has))))
 
 module _ {D : Type 0} {G : Ghosts D} (present : (d : D) → IsTrue (G.keeps_model d) → MayLeave (G.disk d) (G.disk d).content) where
   -- An image that differs in slots alone means the saved blocks.
   pub saved_means : (store : Store D G) (s : Maps) → StandsFor store s → s.closed ≡ false
-      → (P : ℕ → Type 0) → ((k : ℕ) → P k → InSlots store.blocks k) → (c : Image) → IsAsSynced P (G.disk store.device) c → Means s.saved c
+      → (P : ℕ → Type 0) → ((k : ℕ) → P k → InSlots store.blocks.number k) → (c : Image) → IsAsSynced P (G.disk store.device) c → Means s.saved c
   saved_means store s stands is_open P within c is =
       let now : store.closed ≡ false = sym stands.closed ∙ is_open in
-      means_sized store.blocks (home_of store.blocks (G.disk store.device).content) s.saved c store.many store.few stands.size (stands.saved now)
-      (sound_means store.blocks (G.disk store.device) (present store.device stands.model) (store.sound stands.model now) P (λ k p. inr (within k p)) c is)
+      means_sized store.blocks.number (home_of store.blocks.number (G.disk store.device).content) s.saved c store.blocks.many store.blocks.few stands.size (stands.saved now)
+      (sound_means store.blocks.number (G.disk store.device) (present store.device stands.model) (store.sound stands.model now) P (λ k p. inr (within k p)) c is)
 
   -- a store over a clean image
-  pub adopted : (store : Store D G) → IsTrue (G.keeps_model store.device) → IsClean store.blocks (G.disk store.device)
+  pub adopted : (store : Store D G) → IsTrue (G.keeps_model store.device) → IsClean store.blocks.number (G.disk store.device)
       → store.closed ≡ false → ((b : ℕ) → listed store.pending b ≡ false)
-      → StandsFor store (fresh (meaning store.blocks (G.disk store.device).content))
+      → StandsFor store (fresh (meaning store.blocks.number (G.disk store.device).content))
   adopted store keeps clean is_open none =
       let image = (G.disk store.device).content in
-      let n = store.blocks in
+      let n = store.blocks.number in
       let blocks = meaning n image in
       let same : (b : ℕ) → b < n → block_in blocks b ≡ home_of n image b = λ b below.
       at_below (block_of n image) n b below ∙ pick_shut (gate_open (image 1)) (listed (image 2) b) (slot_of image b) (home_of n image b) clean.gate in
@@ -84,7 +84,7 @@ module _ {D : Type 0} {G : Ghosts D} (present : (d : D) → IsTrue (G.keeps_mode
         pending_size = length-map blocks _ ∙ length-below (block_of n image) n;
         saved = λ now b below. same b below;
         pending = λ now b below. at_none blocks b ∙ sym (ap (λ t. cond t (Some (slot_of image b)) None) (none b));
-        left = λ now c may. means_sized n (home_of n image) blocks c store.many store.few (length-below (block_of n image) n) same
+        left = λ now c may. means_sized n (home_of n image) blocks c store.blocks.many store.blocks.few (length-below (block_of n image) n) same
             (sound_means n (G.disk store.device) (present store.device keeps) (record { label = clean.label.label; gate = clean.gate; synced = λ k _. clean.synced k })
             (λ k. ⊥) (λ k none. absurd none) c (λ k _ synced. may k synced));
       }

@@ -22,7 +22,7 @@ module _ {D : Type 0} {G : Ghosts D} where
   disk_of store = G.disk store.device
 
   abbrev pub blocks_of : Store D G → ℕ
-  blocks_of store = store.blocks
+  blocks_of store = store.blocks.number
 
   abbrev pub closed_of : Store D G → Bool
   closed_of store = store.closed
@@ -41,7 +41,7 @@ module _ {D : Type 0} {G : Ghosts D} where
 
   -- how many blocks were spilled since the last save
   abbrev pub pending_count : Store D G → ℕ
-  pending_count store = count_below (is_pending store) store.blocks
+  pending_count store = count_below (is_pending store) (blocks_of store)
 
   -- The same blocks are pending.
   abbrev pub SamePending : Store D G → Store D G → Type 0
@@ -53,17 +53,17 @@ module _ {D : Type 0} {G : Ghosts D} where
   pub record StandsFor (store : Store D G) (m : Maps) : Type 0 where
     pub model : IsTrue (G.keeps_model store.device)
     pub closed : m.closed ≡ store.closed
-    pub size : length m.saved ≡ store.blocks
-    pub pending_size : length m.pending ≡ store.blocks
-    pub saved : store.closed ≡ false → (b : ℕ) → b < store.blocks
-        → block_in m.saved b ≡ home_of store.blocks (disk_of store).content b
-    pub pending : store.closed ≡ false → (b : ℕ) → b < store.blocks
+    pub size : length m.saved ≡ blocks_of store
+    pub pending_size : length m.pending ≡ blocks_of store
+    pub saved : store.closed ≡ false → (b : ℕ) → b < blocks_of store
+        → block_in m.saved b ≡ home_of (blocks_of store) (disk_of store).content b
+    pub pending : store.closed ≡ false → (b : ℕ) → b < blocks_of store
         → pending_in m.pending b ≡ (if is_pending store b then Some (slot_of (disk_of store).content b) else None)
     pub left : store.closed ≡ false → (image : Image) → MayLeave (disk_of store) image → Means m.saved image
 
   -- what each call on a store keeps
   pub record Continues (old new : Store D G) : Type 0 where
-    pub blocks : new.blocks ≡ old.blocks
+    pub blocks : blocks_of new ≡ blocks_of old
     pub model : G.keeps_model new.device ≡ G.keeps_model old.device
     pub time : Elapses G.time G.left_since old.device new.device
     pub failures : G.failures old.device ≤ G.failures new.device

@@ -8,12 +8,8 @@ ghost use Rattle.journal.specs.Steps.{WritesOnly, IsAsSynced};
 
 use sector_disk::{DeviceFault, SectorDevice};
 
-// Reads two sectors in a row. A fault leaves `out` as it was.
-pub(crate) fn read_pair<D: SectorDevice>(
-    device: &mut D,
-    k: u32,
-    out: &mut [u8],
-) -> Result<(), DeviceFault>
+/// Reads two sectors in a row, as the 1,024 bytes of a block. A fault leaves `out` as it was.
+pub fn read_pair<D: SectorDevice>(device: &mut D, k: u32, out: &mut [u8]) -> Result<(), DeviceFault>
     requires small { k < 2 ^ 16 }
     requires within { k + 1 < D.sector_count device.old }
     requires room { length out.old ≡ 1024 }

@@ -8,7 +8,7 @@ ghost use Rattle.journal.specs.Maps.{Maps, contents, latest, fresh, spilled, com
 ghost use Rattle.journal.specs.Steps.{IsSound, merged};
 
 use crate::commit::save;
-use crate::layout::{home_sector, is_listed, slot_sector};
+use crate::layout::{BlockCount, home_sector, is_listed, slot_sector};
 use crate::pairs::{read_pair, write_pair};
 use sector_disk::SectorDevice;
 use thiserror::Error;
@@ -27,20 +27,18 @@ pub enum StoreFault {
 #[derive(Drop)]
 pub struct Store<D: SectorDevice> {
     device: D,
-    blocks: u16,
+    blocks: BlockCount,
     // the bits of the blocks spilled since the last save, with zeros where a commit record has its digest
     pending: [u8; 512],
     closed: bool,
     // the block whose text was read last, and its bytes, as long as nothing was written since
     kept: Option<u16>,
     text: [u8; 1024],
-    ghost many: { fewest_blocks ≤ blocks },
-    ghost few: { blocks ≤ most_blocks },
-    ghost size: { D.sector_count device ≡ sectors_for blocks },
-    ghost clear: { (b : ℕ) → blocks ≤ b → listed pending b ≡ false },
-    ghost sound: { IsTrue (D.keeps_model device) → closed ≡ false → IsSound blocks (D.disk device) },
+    ghost size: { D.sector_count device ≡ sectors_for blocks.number },
+    ghost clear: { (b : ℕ) → blocks.number ≤ b → listed pending b ≡ false },
+    ghost sound: { IsTrue (D.keeps_model device) → closed ≡ false → IsSound blocks.number (D.disk device) },
     ghost keeps: { IsTrue (D.keeps_model device) → closed ≡ false
-        → (b : ℕ) → kept ≡ Some b → text ≡ merged blocks pending (D.disk device).content b },
+        → (b : ℕ) → kept ≡ Some b → text ≡ merged blocks.number pending (D.disk device).content b },
 }
 
 impl<D: SectorDevice> Store<D> {
@@ -62,7 +60,7 @@ impl<D: SectorDevice> Store<D> {
     {
         Store {
             device,
-            blocks,
+            blocks: BlockCount { number: blocks },
             pending: empty_record(),
             closed: false,
             kept: None,
@@ -79,7 +77,7 @@ impl<D: SectorDevice> Store<D> {
         // No other block is ever pending.
         ensures pending { (b : ℕ) → result ≤ b → is_pending self.now b ≡ false }
     {
-        self.blocks
+        self.blocks.number
     }
 
     /// Whether a fault has closed the store. It stays closed until the device is opened again.
@@ -303,12 +301,11 @@ fn list_block(bytes: &mut [u8; 512], b: u16)
 }
 
 // How many of the first blocks a commit record lists.
-fn count_blocks(bytes: &[u8; 512], blocks: u16) -> u16
-    requires { blocks ≤ most_blocks }
-    ensures { result ≡ count_listed bytes.now blocks }
+fn count_blocks(bytes: &[u8; 512], blocks: BlockCount) -> u16
+    ensures { result ≡ count_listed bytes.now blocks.number }
 {
     let mut count = 0;
-    for b in 0..blocks {
+    for b in 0..blocks.number {
         if is_listed(bytes, b) {
             count += 1;
         }

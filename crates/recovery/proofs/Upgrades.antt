@@ -4,12 +4,13 @@ use Rattle.std.proofs.lemmas.Bool.{cases_lt}
 use Rattle.sector_disk.specs.Disk.{Disk, Image, MayLeave}
 use Rattle.journal.specs.Chain.{MayRedo}
 use Rattle.journal.specs.Images.{slot_of, home_of, block_of, meaning, Means}
-use Rattle.journal.specs.Layout.{fewest_blocks, most_blocks, label_1_of, gate_open, listed}
+use Rattle.journal.specs.Layout.{fewest_blocks, most_blocks, most_blocks_1, label_1_of, gate_open, listed}
 use Rattle.journal.specs.Layout1.{HasGoodLabel1, Means1}
 use Rattle.journal.specs.Steps.{HasRecovered}
 use Rattle.journal.proofs.Blocks.{same_below, at_below, length-below}
 use Rattle.journal.proofs.Meaning.{redo_blocks, redo_label, pick_shut}
 use Rattle.recovery.specs.Formatted.{MakingLeaves}
+use Rattle.recovery.specs.Recovered.{LeavesBy}
 use Rattle.recovery.specs.Steps.{TakenAway, Sealed, IsPrepared, IsMade, CarriedLeaves}
 use Rattle.recovery.specs.Upgraded.{MeansAsBefore, OldLeaves}
 use Rattle.recovery.proofs.Formats.{same_or_not, unlabelled, making, AreHomes, filled_means, filled_same, made_means}
@@ -67,6 +68,11 @@ module _ (n : ℕ) (disk : Disk) where
       where
         same : (k : ℕ) → x k ≡ now.content k
         same k = may k (done.synced k) ∙ sym (here k (done.synced k))
+
+  -- at any moment of a recovery by layout 1
+  pub old_by : MayLeave disk disk.content → fewest_blocks ≤ n → n ≤ most_blocks_1 → (x : Image) → LeavesBy 1 n disk x → OldLeaves n disk x
+  old_by present many few x = ⊎_elim (old_now x) (λ made. old_later present (record { many = many; few = few; label = made.0 }) x
+      (⊎_elim (λ same. inl same) (λ redo. inr redo.1) made.1))
 
 -- The homes of a recovered image are the blocks that it meant.
 pub recovered_homes : (n : ℕ) (old new : Disk) → HasRecovered n old new → AreHomes n new.content (meaning n old.content)

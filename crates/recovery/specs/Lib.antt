@@ -1,5 +1,6 @@
 pub mod Formatted
 pub mod Label
 pub mod Opened
+pub mod Recovered
 pub mod Steps
 pub mod Upgraded

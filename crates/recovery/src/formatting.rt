@@ -6,7 +6,7 @@ ghost use Rattle.sector_disk.specs.Moments.{Elapses};
 ghost use Rattle.journal.specs.Calls.{StopsLeave, BeginsAtMost, ReadsAtMost, Passes};
 ghost use Rattle.journal.specs.Clean.{IsClean};
 ghost use Rattle.journal.specs.Images.{Means};
-ghost use Rattle.journal.specs.Layout.{fewest_blocks, most_blocks, sectors_for, label_of};
+ghost use Rattle.journal.specs.Layout.{sectors_for, label_of};
 ghost use Rattle.journal.specs.Maps.{fresh};
 ghost use Rattle.journal.specs.Steps.{WritesOnly, IsAsSynced};
 ghost use Rattle.journal.specs.Store.{device_of, disk_of, blocks_of, closed_of, is_pending, StandsFor};
@@ -19,28 +19,26 @@ ghost use Rattle.recovery.specs.declared.fault.OpenFault.TheVariants.{BadSize, D
 use crate::OpenFault;
 use crate::label::fits;
 use crate::settling::settle;
-use journal::layout::{GATE, LABEL, MOST_BLOCKS, RECORD, home_sector, label};
+use journal::layout::{BlockCount, GATE, LABEL, MOST_BLOCKS, RECORD, home_sector, label};
 use journal::{Store, write_through};
 use sector_disk::{DeviceFault, SectorDevice};
 
 // Fills the homes with blanks.
-fn fill_homes<D: SectorDevice>(device: &mut D, blocks: u16) -> Result<(), DeviceFault>
-    requires many { fewest_blocks ≤ blocks }
-    requires few { blocks ≤ most_blocks }
-    requires size { D.sector_count device.old ≡ sectors_for blocks }
+fn fill_homes<D: SectorDevice>(device: &mut D, blocks: BlockCount) -> Result<(), DeviceFault>
+    requires size { D.sector_count device.old ≡ sectors_for blocks.number }
     ensures ok { IsTrue (D.keeps_model device.old)
-        → OnOk result ((k : ℕ) → 3 + 2 * blocks ≤ k → k < 3 + 4 * blocks → (D.disk device.new).content k ≡ replicate 512 32) }
+        → OnOk result ((k : ℕ) → 3 + 2 * blocks.number ≤ k → k < 3 + 4 * blocks.number → (D.disk device.new).content k ≡ replicate 512 32) }
     ensures only { IsTrue (D.keeps_model device.old)
-        → WritesOnly (λ k. 3 + 2 * blocks ≤ k) (D.disk device.old) (D.disk device.new) }
+        → WritesOnly (λ k. 3 + 2 * blocks.number ≤ k) (D.disk device.old) (D.disk device.new) }
     ensures stops { IsTrue (D.keeps_model device.old)
-        → StopsLeave D.SectorDevice device.old device.new (IsAsSynced (λ k. 3 + 2 * blocks ≤ k) (D.disk device.old)) }
+        → StopsLeave D.SectorDevice device.old device.new (IsAsSynced (λ k. 3 + 2 * blocks.number ≤ k) (D.disk device.old)) }
     ensures passes { Passes D.SectorDevice device.old device.new result }
-    ensures begins { BeginsAtMost D.SectorDevice device.old device.new (2 * blocks) 0 }
+    ensures begins { BeginsAtMost D.SectorDevice device.old device.new (2 * blocks.number) 0 }
     ensures reads { ReadsAtMost D.SectorDevice device.old device.new 0 }
 {
     let blank = [b' '; 512];
     let first = home_sector(blocks, 0);
-    for k in first..first + 2 * blocks as u32 {
+    for k in first..first + 2 * blocks.number as u32 {
         device.write(k, &blank)?;
     }
     Ok(())
@@ -48,22 +46,20 @@ fn fill_homes<D: SectorDevice>(device: &mut D, blocks: u16) -> Result<(), Device
 
 /// Makes what is there stay, and takes a good label away, if one stands there: the first step of making an image of so many
 /// blocks.
-pub fn unlabel<D: SectorDevice>(device: &mut D, blocks: u16) -> Result<(), DeviceFault>
-    requires many { fewest_blocks ≤ blocks }
-    requires few { blocks ≤ most_blocks }
-    requires size { D.sector_count device.old ≡ sectors_for blocks }
-    ensures ok { IsTrue (D.keeps_model device.old) → OnOk result (IsUnlabelled blocks (D.disk device.new)) }
+pub fn unlabel<D: SectorDevice>(device: &mut D, blocks: BlockCount) -> Result<(), DeviceFault>
+    requires size { D.sector_count device.old ≡ sectors_for blocks.number }
+    ensures ok { IsTrue (D.keeps_model device.old) → OnOk result (IsUnlabelled blocks.number (D.disk device.new)) }
     ensures slots { IsTrue (D.keeps_model device.old)
-        → OnOk result (KeepsSlots blocks (D.disk device.old).content (D.disk device.new).content) }
+        → OnOk result (KeepsSlots blocks.number (D.disk device.old).content (D.disk device.new).content) }
     ensures stops { IsTrue (D.keeps_model device.old)
-        → StopsLeave D.SectorDevice device.old device.new (TakenAway blocks (D.disk device.old)) }
+        → StopsLeave D.SectorDevice device.old device.new (TakenAway blocks.number (D.disk device.old)) }
     ensures passes { Passes D.SectorDevice device.old device.new result }
     ensures begins { BeginsAtMost D.SectorDevice device.old device.new 1 2 }
     ensures reads { ReadsAtMost D.SectorDevice device.old device.new 1 }
 {
     let mut found = [0; 512];
     settle(device, &mut found)?;
-    if found == label(blocks) {
+    if found == label(blocks.number) {
         write_through(device, LABEL, &[0; 512])
     } else {
         Ok(())
@@ -88,19 +84,17 @@ pub fn fill_head<D: SectorDevice>(device: &mut D) -> Result<(), DeviceFault>
 }
 
 // Writes all of the blank image but its label.
-fn fill<D: SectorDevice>(device: &mut D, blocks: u16) -> Result<(), DeviceFault>
-    requires many { fewest_blocks ≤ blocks }
-    requires few { blocks ≤ most_blocks }
-    requires size { D.sector_count device.old ≡ sectors_for blocks }
-    ensures ok { IsTrue (D.keeps_model device.old) → OnOk result (IsBlank blocks (D.disk device.new).content) }
+fn fill<D: SectorDevice>(device: &mut D, blocks: BlockCount) -> Result<(), DeviceFault>
+    requires size { D.sector_count device.old ≡ sectors_for blocks.number }
+    ensures ok { IsTrue (D.keeps_model device.old) → OnOk result (IsBlank blocks.number (D.disk device.new).content) }
     ensures slots { IsTrue (D.keeps_model device.old)
-        → OnOk result (KeepsSlots blocks (D.disk device.old).content (D.disk device.new).content) }
+        → OnOk result (KeepsSlots blocks.number (D.disk device.old).content (D.disk device.new).content) }
     ensures only { IsTrue (D.keeps_model device.old)
         → WritesOnly (λ k. k ≢ 0) (D.disk device.old) (D.disk device.new) }
     ensures stops { IsTrue (D.keeps_model device.old)
         → StopsLeave D.SectorDevice device.old device.new (IsAsSynced (λ k. k ≢ 0) (D.disk device.old)) }
     ensures passes { Passes D.SectorDevice device.old device.new result }
-    ensures begins { BeginsAtMost D.SectorDevice device.old device.new (2 * blocks + 2) 0 }
+    ensures begins { BeginsAtMost D.SectorDevice device.old device.new (2 * blocks.number + 2) 0 }
     ensures reads { ReadsAtMost D.SectorDevice device.old device.new 0 }
 {
     fill_head(device)?;
@@ -108,18 +102,16 @@ fn fill<D: SectorDevice>(device: &mut D, blocks: u16) -> Result<(), DeviceFault>
 }
 
 // Makes all blank under no good label.
-fn prepare<D: SectorDevice>(device: &mut D, blocks: u16) -> Result<(), DeviceFault>
-    requires many { fewest_blocks ≤ blocks }
-    requires few { blocks ≤ most_blocks }
-    requires size { D.sector_count device.old ≡ sectors_for blocks }
-    requires unlabelled { IsTrue (D.keeps_model device.old) → IsUnlabelled blocks (D.disk device.old) }
-    ensures ok { IsTrue (D.keeps_model device.old) → OnOk result (IsPrepared blocks (λ _. replicate 512 32) (D.disk device.new)) }
+fn prepare<D: SectorDevice>(device: &mut D, blocks: BlockCount) -> Result<(), DeviceFault>
+    requires size { D.sector_count device.old ≡ sectors_for blocks.number }
+    requires unlabelled { IsTrue (D.keeps_model device.old) → IsUnlabelled blocks.number (D.disk device.old) }
+    ensures ok { IsTrue (D.keeps_model device.old) → OnOk result (IsPrepared blocks.number (λ _. replicate 512 32) (D.disk device.new)) }
     ensures slots { IsTrue (D.keeps_model device.old)
-        → OnOk result (KeepsSlots blocks (D.disk device.old).content (D.disk device.new).content) }
+        → OnOk result (KeepsSlots blocks.number (D.disk device.old).content (D.disk device.new).content) }
     ensures stops { IsTrue (D.keeps_model device.old)
-        → StopsLeave D.SectorDevice device.old device.new (λ c. c 0 ≢ label_of blocks) }
+        → StopsLeave D.SectorDevice device.old device.new (λ c. c 0 ≢ label_of blocks.number) }
     ensures passes { Passes D.SectorDevice device.old device.new result }
-    ensures begins { BeginsAtMost D.SectorDevice device.old device.new (2 * blocks + 2) 1 }
+    ensures begins { BeginsAtMost D.SectorDevice device.old device.new (2 * blocks.number + 2) 1 }
     ensures reads { ReadsAtMost D.SectorDevice device.old device.new 0 }
 {
     fill(device, blocks)?;
@@ -127,35 +119,31 @@ fn prepare<D: SectorDevice>(device: &mut D, blocks: u16) -> Result<(), DeviceFau
 }
 
 /// Writes the label over an image whose other sectors are synced: the last step of making it.
-pub fn seal<D: SectorDevice>(device: &mut D, blocks: u16) -> Result<(), DeviceFault>
-    requires many { fewest_blocks ≤ blocks }
-    requires few { blocks ≤ most_blocks }
-    requires size { D.sector_count device.old ≡ sectors_for blocks }
+pub fn seal<D: SectorDevice>(device: &mut D, blocks: BlockCount) -> Result<(), DeviceFault>
+    requires size { D.sector_count device.old ≡ sectors_for blocks.number }
     requires synced { IsTrue (D.keeps_model device.old) → (k : ℕ) → (D.disk device.old).unsynced k ≡ false }
     ensures ok { IsTrue (D.keeps_model device.old)
-        → OnOk result (D.disk device.new ≡ settled (written (D.disk device.old) 0 (label_of blocks))) }
+        → OnOk result (D.disk device.new ≡ settled (written (D.disk device.old) 0 (label_of blocks.number))) }
     ensures stops { IsTrue (D.keeps_model device.old)
-        → StopsLeave D.SectorDevice device.old device.new (Sealed blocks (D.disk device.old).content) }
+        → StopsLeave D.SectorDevice device.old device.new (Sealed blocks.number (D.disk device.old).content) }
     ensures passes { Passes D.SectorDevice device.old device.new result }
     ensures begins { BeginsAtMost D.SectorDevice device.old device.new 1 1 }
     ensures reads { ReadsAtMost D.SectorDevice device.old device.new 0 }
 {
-    write_through(device, LABEL, &label(blocks))
+    write_through(device, LABEL, &label(blocks.number))
 }
 
 // Makes the image. A stop before the end leaves no good label, or what was there.
-fn make<D: SectorDevice>(device: &mut D, blocks: u16) -> Result<(), DeviceFault>
-    requires many { fewest_blocks ≤ blocks }
-    requires few { blocks ≤ most_blocks }
-    requires size { D.sector_count device.old ≡ sectors_for blocks }
+fn make<D: SectorDevice>(device: &mut D, blocks: BlockCount) -> Result<(), DeviceFault>
+    requires size { D.sector_count device.old ≡ sectors_for blocks.number }
     ensures ok { IsTrue (D.keeps_model device.old)
-        → OnOk result (IsMade blocks (λ _. replicate 512 32) (D.disk device.new)) }
+        → OnOk result (IsMade blocks.number (λ _. replicate 512 32) (D.disk device.new)) }
     ensures slots { IsTrue (D.keeps_model device.old)
-        → OnOk result (KeepsSlots blocks (D.disk device.old).content (D.disk device.new).content) }
+        → OnOk result (KeepsSlots blocks.number (D.disk device.old).content (D.disk device.new).content) }
     ensures stops { IsTrue (D.keeps_model device.old)
-        → StopsLeave D.SectorDevice device.old device.new (FormatLeaves blocks (D.disk device.old)) }
+        → StopsLeave D.SectorDevice device.old device.new (FormatLeaves blocks.number (D.disk device.old)) }
     ensures passes { Passes D.SectorDevice device.old device.new result }
-    ensures begins { BeginsAtMost D.SectorDevice device.old device.new (2 * blocks + 4) 4 }
+    ensures begins { BeginsAtMost D.SectorDevice device.old device.new (2 * blocks.number + 4) 4 }
     ensures reads { ReadsAtMost D.SectorDevice device.old device.new 1 }
 {
     unlabel(device, blocks)?;
@@ -204,7 +192,7 @@ pub fn format<D: SectorDevice>(mut device: D, blocks: u16) -> Result<Store<D>, (
     if !fits(blocks, MOST_BLOCKS, device.sectors()) {
         return Err((OpenFault::BadSize, device));
     }
-    match make(&mut device, blocks) {
+    match make(&mut device, BlockCount { number: blocks }) {
         Ok(()) => Ok(Store::adopt(device, blocks)),
         Err(_) => Err((OpenFault::Device, device)),
     }

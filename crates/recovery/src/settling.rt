@@ -1,12 +1,12 @@
 // The first steps on an image, whatever a stop left unsynced.
-ghost use Rattle.std.specs.Prelude.{◌≡◌, ◌≢◌, ◌⊎◌, ◌≤◌, ◌+◌, None, Some, IsTrue, OnOk, IfErr, MatchResult};
-ghost use Rattle.sector_disk.specs.Counting.{count_up};
+ghost use Rattle.std.specs.Prelude.{◌≡◌, ◌≢◌, ◌⊎◌, ◌≤◌, ◌+◌, None, Some, IsTrue, OnOk, MatchResult};
 ghost use Rattle.sector_disk.specs.Disk.{MayLeave, settled};
 ghost use Rattle.journal.specs.Calls.{StopsLeave, BeginsAtMost, ReadsAtMost, Passes, Proceeds};
 ghost use Rattle.journal.specs.Layout.{label_by};
 ghost use Rattle.recovery.specs.Label.{label_refusal_by};
+ghost use Rattle.recovery.specs.Recovered.{Tells};
 ghost use Rattle.recovery.specs.declared.fault.OpenFault.{OpenFault};
-ghost use Rattle.recovery.specs.declared.fault.OpenFault.TheVariants.{BadSize, Device};
+ghost use Rattle.recovery.specs.declared.fault.OpenFault.TheVariants.{Device};
 
 use crate::OpenFault;
 use crate::label::check_label;
@@ -46,12 +46,7 @@ pub(crate) fn start<D: SectorDevice>(
     ensures exact { IsTrue (D.keeps_model device.old) → MatchResult result
         (λ _. label_refusal_by version blocks ((D.disk device.old).content 0) ≡ None)
         (λ e. (e ≡ Device) ⊎ (label_refusal_by version blocks ((D.disk device.old).content 0) ≡ Some e)) }
-    ensures sized { IfErr result (λ e. e ≢ BadSize) }
-    ensures device { IfErr result (λ e. e ≡ Device → D.failures device.new ≡ count_up (D.failures device.old)) }
-    ensures refused { IfErr result (λ e. e ≢ Device → D.failures device.new ≡ D.failures device.old) }
-    ensures well { OnOk result (D.failures device.new ≡ D.failures device.old) }
-    ensures content { IsTrue (D.keeps_model device.old)
-        → IfErr result (λ e. e ≢ Device → (D.disk device.new).content ≡ (D.disk device.old).content) }
+    ensures tells { Tells D.SectorDevice device.old device.new 1 result }
     ensures stops { IsTrue (D.keeps_model device.old)
         → StopsLeave D.SectorDevice device.old device.new (MayLeave (D.disk device.old)) }
     ensures passes { Proceeds D.SectorDevice device.old device.new }

@@ -1,14 +1,12 @@
 // An image of layout 1 is recovered, and its blocks are put into an image of layout 2 on another device.
-ghost use Rattle.std.specs.Prelude.{◌≡◌, ◌≢◌, ◌⊎◌, ◌<◌, ◌≤◌, ◌+◌, ◌-◌, ◌*◌, ℕ, true, false, Some, None, IsTrue, OnOk, IfOk, IfErr, MatchResult, replicate};
+ghost use Rattle.std.specs.Prelude.{◌≡◌, ◌≢◌, ◌⊎◌, ◌<◌, ◌≤◌, ◌+◌, ◌-◌, ◌*◌, ℕ, false, Some, None, IsTrue, OnOk, IfOk, IfErr, MatchResult};
 ghost use Rattle.sector_disk.specs.Counting.{count_up};
 ghost use Rattle.sector_disk.specs.Disk.{Image, MayLeave, written};
-ghost use Rattle.journal.specs.Calls.{StopsLeave, BeginsAtMost, ReadsAtMost, Passes, Proceeds};
-ghost use Rattle.journal.specs.Chain.{MayRedo};
+ghost use Rattle.journal.specs.Calls.{StopsLeave, BeginsAtMost, ReadsAtMost, Proceeds};
 ghost use Rattle.journal.specs.Images.{meaning, Means};
-ghost use Rattle.journal.specs.Layout.{fewest_blocks, most_blocks, most_blocks_1, sectors_for, label_of, label_1_of, gate_open, count_listed};
-ghost use Rattle.journal.specs.Steps.{WritesOnly, IsAsSynced, HasRecovered};
+ghost use Rattle.journal.specs.Layout.{most_blocks_1, sectors_for, label_of};
+ghost use Rattle.journal.specs.Steps.{WritesOnly, IsAsSynced};
 ghost use Rattle.recovery.specs.Formatted.{MakingLeaves, IsFilled, KeepsSlots};
-ghost use Rattle.recovery.specs.Label.{label_refusal_by};
 ghost use Rattle.recovery.specs.Opened.{gate_after, writes_for, syncs_for};
 ghost use Rattle.recovery.specs.Steps.{IsUnlabelled, IsPrepared, IsMade, TakenAway, CarriedLeaves, OnlyRead, WentWell, TellsFault};
 ghost use Rattle.recovery.specs.Upgraded.{size_refusal, upgrade_refusal, OldLeaves, reads_for_1};
@@ -19,116 +17,25 @@ ghost use Rattle.recovery.specs.declared.fault.UpgradeFault.TheVariants.{Old, Ne
 
 use crate::formatting::{fill_head, seal, unlabel};
 use crate::label::blocks_of_size;
-use crate::settling::start;
+use crate::recovering::recover;
 use crate::{OpenFault, UpgradeFault};
-use journal::apply;
-use journal::layout::{GATE, MOST_BLOCKS_1, RECORD, VERSION_1, gate_is_open, home_sector};
+use journal::layout::{BlockCount, MOST_BLOCKS_1, VERSION_1, home_sector};
 use sector_disk::{DeviceFault, SectorDevice};
 
 // How many blocks both images have.
-fn blocks_of_both(old: u32, new: u32) -> Result<u16, UpgradeFault>
+fn blocks_of_both(old: u32, new: u32) -> Result<BlockCount, UpgradeFault>
     ensures exact { MatchResult result (λ _. size_refusal old new ≡ None) (λ e. size_refusal old new ≡ Some e) }
-    ensures size { IfOk result (λ n. (old ≡ sectors_for n) × (new ≡ sectors_for n)) }
-    ensures many { IfOk result (λ n. fewest_blocks ≤ n) }
-    ensures few { IfOk result (λ n. n ≤ most_blocks_1) }
+    ensures size { IfOk result (λ n. (old ≡ sectors_for n.number) × (new ≡ sectors_for n.number)) }
+    ensures few { IfOk result (λ n. n.number ≤ most_blocks_1) }
     ensures told { IfErr result (λ e. (e ≡ Old BadSize) ⊎ (e ≡ New BadSize)) }
 {
-    let Some(blocks) = blocks_of_size(old, MOST_BLOCKS_1) else {
+    let Some(number) = blocks_of_size(old, MOST_BLOCKS_1) else {
         return Err(UpgradeFault::Old(OpenFault::BadSize));
     };
     if new != old {
         return Err(UpgradeFault::New(OpenFault::BadSize));
     }
-    Ok(blocks)
-}
-
-// Does again what an open gate asks for. By layout 1 a record has nothing to be checked by.
-fn redo<D: SectorDevice>(device: &mut D, blocks: u16) -> Result<(), DeviceFault>
-    requires many { fewest_blocks ≤ blocks }
-    requires few { blocks ≤ most_blocks }
-    requires size { D.sector_count device.old ≡ sectors_for blocks }
-    requires gate { IsTrue (D.keeps_model device.old) → gate_open ((D.disk device.old).content 1) ≡ true }
-    requires synced { IsTrue (D.keeps_model device.old) → (k : ℕ) → (D.disk device.old).unsynced k ≡ false }
-    ensures ok { IsTrue (D.keeps_model device.old)
-        → OnOk result (HasRecovered blocks (D.disk device.old) (D.disk device.new)) }
-    ensures gate { IsTrue (D.keeps_model device.old)
-        → OnOk result ((D.disk device.new).content 1 ≡ gate_after ((D.disk device.old).content 1)) }
-    ensures stops { IsTrue (D.keeps_model device.old)
-        → StopsLeave D.SectorDevice device.old device.new (MayRedo blocks (D.disk device.old).content) }
-    ensures passes { Passes D.SectorDevice device.old device.new result }
-    ensures begins { IsTrue (D.keeps_model device.old)
-        → BeginsAtMost D.SectorDevice device.old device.new (2 * count_listed ((D.disk device.old).content 2) blocks + 1) 2 }
-    ensures reads { IsTrue (D.keeps_model device.old)
-        → ReadsAtMost D.SectorDevice device.old device.new (2 * count_listed ((D.disk device.old).content 2) blocks + 1) }
-{
-    let mut record = [0; 512];
-    device.read(RECORD, &mut record)?;
-    apply(device, blocks, &record)
-}
-
-// Reads the gate, and does what it asks for.
-fn finish<D: SectorDevice>(device: &mut D, blocks: u16) -> Result<(), DeviceFault>
-    requires many { fewest_blocks ≤ blocks }
-    requires few { blocks ≤ most_blocks }
-    requires size { D.sector_count device.old ≡ sectors_for blocks }
-    requires synced { IsTrue (D.keeps_model device.old) → (k : ℕ) → (D.disk device.old).unsynced k ≡ false }
-    ensures ok { IsTrue (D.keeps_model device.old)
-        → OnOk result (HasRecovered blocks (D.disk device.old) (D.disk device.new)) }
-    ensures gate { IsTrue (D.keeps_model device.old)
-        → OnOk result ((D.disk device.new).content 1 ≡ gate_after ((D.disk device.old).content 1)) }
-    ensures stops { IsTrue (D.keeps_model device.old)
-        → StopsLeave D.SectorDevice device.old device.new (MayRedo blocks (D.disk device.old).content) }
-    ensures passes { Passes D.SectorDevice device.old device.new result }
-    ensures begins { IsTrue (D.keeps_model device.old)
-        → BeginsAtMost D.SectorDevice device.old device.new (writes_for blocks (D.disk device.old).content)
-        (syncs_for (D.disk device.old).content - 1) }
-    ensures reads { IsTrue (D.keeps_model device.old)
-        → ReadsAtMost D.SectorDevice device.old device.new (reads_for_1 blocks (D.disk device.old).content - 1) }
-{
-    let mut gate = [0; 512];
-    device.read(GATE, &mut gate)?;
-    if gate_is_open(&gate) {
-        redo(device, blocks)
-    } else {
-        Ok(())
-    }
-}
-
-// Recovers an image of layout 1.
-fn recover<D: SectorDevice>(device: &mut D, blocks: u16) -> Result<(), OpenFault>
-    requires many { fewest_blocks ≤ blocks }
-    requires few { blocks ≤ most_blocks_1 }
-    requires size { D.sector_count device.old ≡ sectors_for blocks }
-    ensures ok { IsTrue (D.keeps_model device.old)
-        → OnOk result (HasRecovered blocks (D.disk device.old) (D.disk device.new)) }
-    ensures gate { IsTrue (D.keeps_model device.old)
-        → OnOk result ((D.disk device.new).content 1 ≡ gate_after ((D.disk device.old).content 1)) }
-    ensures label { IsTrue (D.keeps_model device.old)
-        → OnOk result ((D.disk device.old).content 0 ≡ label_1_of blocks) }
-    ensures exact { IsTrue (D.keeps_model device.old) → MatchResult result
-        (λ _. label_refusal_by 1 blocks ((D.disk device.old).content 0) ≡ None)
-        (λ e. (e ≡ Device) ⊎ (label_refusal_by 1 blocks ((D.disk device.old).content 0) ≡ Some e)) }
-    ensures sized { IfErr result (λ e. e ≢ BadSize) }
-    ensures device { IfErr result (λ e. e ≡ Device → D.failures device.new ≡ count_up (D.failures device.old)) }
-    ensures refused { IfErr result (λ e. e ≢ Device → D.failures device.new ≡ D.failures device.old) }
-    ensures well { OnOk result (D.failures device.new ≡ D.failures device.old) }
-    ensures content { IsTrue (D.keeps_model device.old)
-        → IfErr result (λ e. e ≢ Device → (D.disk device.new).content ≡ (D.disk device.old).content) }
-    ensures unwritten { IfErr result (λ e. e ≢ Device → BeginsAtMost D.SectorDevice device.old device.new 0 1) }
-    ensures stops { IsTrue (D.keeps_model device.old)
-        → StopsLeave D.SectorDevice device.old device.new (OldLeaves blocks (D.disk device.old)) }
-    ensures passes { Proceeds D.SectorDevice device.old device.new }
-    ensures begins { IsTrue (D.keeps_model device.old)
-        → BeginsAtMost D.SectorDevice device.old device.new (writes_for blocks (D.disk device.old).content)
-        (syncs_for (D.disk device.old).content) }
-    ensures reads { IsTrue (D.keeps_model device.old)
-        → ReadsAtMost D.SectorDevice device.old device.new (reads_for_1 blocks (D.disk device.old).content) }
-{
-    start(device, VERSION_1, blocks)?;
-    match finish(device, blocks) {
-        Ok(()) => Ok(()),
-        Err(_) => Err(OpenFault::Device),
-    }
+    Ok(BlockCount { number })
 }
 
 // Copies a sector from one device to the same place of another.
@@ -167,29 +74,27 @@ fn carry_sector<A: SectorDevice, B: SectorDevice>(
 fn carry_homes<A: SectorDevice, B: SectorDevice>(
     source: &mut A,
     target: &mut B,
-    blocks: u16,
+    blocks: BlockCount,
 ) -> Result<(), UpgradeFault>
-    requires many { fewest_blocks ≤ blocks }
-    requires few { blocks ≤ most_blocks }
-    requires from { A.sector_count source.old ≡ sectors_for blocks }
-    requires to { B.sector_count target.old ≡ sectors_for blocks }
+    requires from { A.sector_count source.old ≡ sectors_for blocks.number }
+    requires to { B.sector_count target.old ≡ sectors_for blocks.number }
     ensures ok { IsTrue (A.keeps_model source.old) → IsTrue (B.keeps_model target.old)
-        → OnOk result ((k : ℕ) → 3 + 2 * blocks ≤ k → k < 3 + 4 * blocks
+        → OnOk result ((k : ℕ) → 3 + 2 * blocks.number ≤ k → k < 3 + 4 * blocks.number
         → (B.disk target.new).content k ≡ (A.disk source.old).content k) }
     ensures only { IsTrue (B.keeps_model target.old)
-        → WritesOnly (λ k. 3 + 2 * blocks ≤ k) (B.disk target.old) (B.disk target.new) }
+        → WritesOnly (λ k. 3 + 2 * blocks.number ≤ k) (B.disk target.old) (B.disk target.new) }
     ensures stops { IsTrue (B.keeps_model target.old)
-        → StopsLeave B.SectorDevice target.old target.new (IsAsSynced (λ k. 3 + 2 * blocks ≤ k) (B.disk target.old)) }
+        → StopsLeave B.SectorDevice target.old target.new (IsAsSynced (λ k. 3 + 2 * blocks.number ≤ k) (B.disk target.old)) }
     ensures faults { IfErr result (TellsFault A.SectorDevice B.SectorDevice source.old source.new target.old target.new) }
     ensures well { OnOk result (WentWell A.SectorDevice B.SectorDevice source.old source.new target.old target.new) }
     ensures source { OnlyRead A.SectorDevice source.old source.new }
     ensures passes { Proceeds B.SectorDevice target.old target.new }
-    ensures begins { BeginsAtMost B.SectorDevice target.old target.new (2 * blocks) 0 }
-    ensures reads { ReadsAtMost A.SectorDevice source.old source.new (2 * blocks) }
+    ensures begins { BeginsAtMost B.SectorDevice target.old target.new (2 * blocks.number) 0 }
+    ensures reads { ReadsAtMost A.SectorDevice source.old source.new (2 * blocks.number) }
     ensures target_reads { ReadsAtMost B.SectorDevice target.old target.new 0 }
 {
     let first = home_sector(blocks, 0);
-    for k in first..first + 2 * blocks as u32 {
+    for k in first..first + 2 * blocks.number as u32 {
         carry_sector(source, target, k)?;
     }
     Ok(())
@@ -199,16 +104,14 @@ fn carry_homes<A: SectorDevice, B: SectorDevice>(
 fn fill<A: SectorDevice, B: SectorDevice>(
     source: &mut A,
     target: &mut B,
-    blocks: u16,
+    blocks: BlockCount,
 ) -> Result<(), UpgradeFault>
-    requires many { fewest_blocks ≤ blocks }
-    requires few { blocks ≤ most_blocks }
-    requires from { A.sector_count source.old ≡ sectors_for blocks }
-    requires to { B.sector_count target.old ≡ sectors_for blocks }
+    requires from { A.sector_count source.old ≡ sectors_for blocks.number }
+    requires to { B.sector_count target.old ≡ sectors_for blocks.number }
     ensures ok { IsTrue (A.keeps_model source.old) → IsTrue (B.keeps_model target.old)
-        → OnOk result (IsFilled blocks (A.disk source.old).content (B.disk target.new).content) }
+        → OnOk result (IsFilled blocks.number (A.disk source.old).content (B.disk target.new).content) }
     ensures slots { IsTrue (B.keeps_model target.old)
-        → OnOk result (KeepsSlots blocks (B.disk target.old).content (B.disk target.new).content) }
+        → OnOk result (KeepsSlots blocks.number (B.disk target.old).content (B.disk target.new).content) }
     ensures only { IsTrue (B.keeps_model target.old)
         → WritesOnly (λ k. k ≢ 0) (B.disk target.old) (B.disk target.new) }
     ensures stops { IsTrue (B.keeps_model target.old)
@@ -217,8 +120,8 @@ fn fill<A: SectorDevice, B: SectorDevice>(
     ensures well { OnOk result (WentWell A.SectorDevice B.SectorDevice source.old source.new target.old target.new) }
     ensures source { OnlyRead A.SectorDevice source.old source.new }
     ensures passes { Proceeds B.SectorDevice target.old target.new }
-    ensures begins { BeginsAtMost B.SectorDevice target.old target.new (2 * blocks + 2) 0 }
-    ensures reads { ReadsAtMost A.SectorDevice source.old source.new (2 * blocks) }
+    ensures begins { BeginsAtMost B.SectorDevice target.old target.new (2 * blocks.number + 2) 0 }
+    ensures reads { ReadsAtMost A.SectorDevice source.old source.new (2 * blocks.number) }
     ensures target_reads { ReadsAtMost B.SectorDevice target.old target.new 0 }
 {
     match fill_head(target) {
@@ -231,27 +134,25 @@ fn fill<A: SectorDevice, B: SectorDevice>(
 fn prepare<A: SectorDevice, B: SectorDevice>(
     source: &mut A,
     target: &mut B,
-    blocks: u16,
+    blocks: BlockCount,
 ) -> Result<(), UpgradeFault>
-    requires many { fewest_blocks ≤ blocks }
-    requires few { blocks ≤ most_blocks }
-    requires from { A.sector_count source.old ≡ sectors_for blocks }
-    requires to { B.sector_count target.old ≡ sectors_for blocks }
-    requires unlabelled { IsTrue (B.keeps_model target.old) → IsUnlabelled blocks (B.disk target.old) }
+    requires from { A.sector_count source.old ≡ sectors_for blocks.number }
+    requires to { B.sector_count target.old ≡ sectors_for blocks.number }
+    requires unlabelled { IsTrue (B.keeps_model target.old) → IsUnlabelled blocks.number (B.disk target.old) }
     ensures ok { IsTrue (A.keeps_model source.old) → IsTrue (B.keeps_model target.old)
-        → OnOk result (IsPrepared blocks (A.disk source.old).content (B.disk target.new)) }
+        → OnOk result (IsPrepared blocks.number (A.disk source.old).content (B.disk target.new)) }
     ensures slots { IsTrue (B.keeps_model target.old)
-        → OnOk result (KeepsSlots blocks (B.disk target.old).content (B.disk target.new).content) }
+        → OnOk result (KeepsSlots blocks.number (B.disk target.old).content (B.disk target.new).content) }
     ensures synced { IsTrue (B.keeps_model target.old)
         → OnOk result ((k : ℕ) → (B.disk target.new).unsynced k ≡ false) }
     ensures stops { IsTrue (B.keeps_model target.old)
-        → StopsLeave B.SectorDevice target.old target.new (λ c. c 0 ≢ label_of blocks) }
+        → StopsLeave B.SectorDevice target.old target.new (λ c. c 0 ≢ label_of blocks.number) }
     ensures faults { IfErr result (TellsFault A.SectorDevice B.SectorDevice source.old source.new target.old target.new) }
     ensures well { OnOk result (WentWell A.SectorDevice B.SectorDevice source.old source.new target.old target.new) }
     ensures source { OnlyRead A.SectorDevice source.old source.new }
     ensures passes { Proceeds B.SectorDevice target.old target.new }
-    ensures begins { BeginsAtMost B.SectorDevice target.old target.new (2 * blocks + 2) 1 }
-    ensures reads { ReadsAtMost A.SectorDevice source.old source.new (2 * blocks) }
+    ensures begins { BeginsAtMost B.SectorDevice target.old target.new (2 * blocks.number + 2) 1 }
+    ensures reads { ReadsAtMost A.SectorDevice source.old source.new (2 * blocks.number) }
     ensures target_reads { ReadsAtMost B.SectorDevice target.old target.new 0 }
 {
     fill(source, target, blocks)?;
@@ -265,25 +166,23 @@ fn prepare<A: SectorDevice, B: SectorDevice>(
 fn write_image<A: SectorDevice, B: SectorDevice>(
     source: &mut A,
     target: &mut B,
-    blocks: u16,
+    blocks: BlockCount,
 ) -> Result<(), UpgradeFault>
-    requires many { fewest_blocks ≤ blocks }
-    requires few { blocks ≤ most_blocks }
-    requires from { A.sector_count source.old ≡ sectors_for blocks }
-    requires to { B.sector_count target.old ≡ sectors_for blocks }
-    requires unlabelled { IsTrue (B.keeps_model target.old) → IsUnlabelled blocks (B.disk target.old) }
+    requires from { A.sector_count source.old ≡ sectors_for blocks.number }
+    requires to { B.sector_count target.old ≡ sectors_for blocks.number }
+    requires unlabelled { IsTrue (B.keeps_model target.old) → IsUnlabelled blocks.number (B.disk target.old) }
     ensures ok { IsTrue (A.keeps_model source.old) → IsTrue (B.keeps_model target.old)
-        → OnOk result (IsMade blocks (A.disk source.old).content (B.disk target.new)) }
+        → OnOk result (IsMade blocks.number (A.disk source.old).content (B.disk target.new)) }
     ensures slots { IsTrue (B.keeps_model target.old)
-        → OnOk result (KeepsSlots blocks (B.disk target.old).content (B.disk target.new).content) }
+        → OnOk result (KeepsSlots blocks.number (B.disk target.old).content (B.disk target.new).content) }
     ensures stops { IsTrue (A.keeps_model source.old) → IsTrue (B.keeps_model target.old)
-        → StopsLeave B.SectorDevice target.old target.new (CarriedLeaves blocks (A.disk source.old).content) }
+        → StopsLeave B.SectorDevice target.old target.new (CarriedLeaves blocks.number (A.disk source.old).content) }
     ensures faults { IfErr result (TellsFault A.SectorDevice B.SectorDevice source.old source.new target.old target.new) }
     ensures well { OnOk result (WentWell A.SectorDevice B.SectorDevice source.old source.new target.old target.new) }
     ensures source { OnlyRead A.SectorDevice source.old source.new }
     ensures passes { Proceeds B.SectorDevice target.old target.new }
-    ensures begins { BeginsAtMost B.SectorDevice target.old target.new (2 * blocks + 3) 2 }
-    ensures reads { ReadsAtMost A.SectorDevice source.old source.new (2 * blocks) }
+    ensures begins { BeginsAtMost B.SectorDevice target.old target.new (2 * blocks.number + 3) 2 }
+    ensures reads { ReadsAtMost A.SectorDevice source.old source.new (2 * blocks.number) }
     ensures target_reads { ReadsAtMost B.SectorDevice target.old target.new 0 }
 {
     prepare(source, target, blocks)?;
@@ -297,25 +196,23 @@ fn write_image<A: SectorDevice, B: SectorDevice>(
 fn carry<A: SectorDevice, B: SectorDevice>(
     source: &mut A,
     target: &mut B,
-    blocks: u16,
+    blocks: BlockCount,
 ) -> Result<(), UpgradeFault>
-    requires many { fewest_blocks ≤ blocks }
-    requires few { blocks ≤ most_blocks }
-    requires from { A.sector_count source.old ≡ sectors_for blocks }
-    requires to { B.sector_count target.old ≡ sectors_for blocks }
+    requires from { A.sector_count source.old ≡ sectors_for blocks.number }
+    requires to { B.sector_count target.old ≡ sectors_for blocks.number }
     ensures ok { IsTrue (A.keeps_model source.old) → IsTrue (B.keeps_model target.old)
-        → OnOk result (IsMade blocks (A.disk source.old).content (B.disk target.new)) }
+        → OnOk result (IsMade blocks.number (A.disk source.old).content (B.disk target.new)) }
     ensures slots { IsTrue (B.keeps_model target.old)
-        → OnOk result (KeepsSlots blocks (B.disk target.old).content (B.disk target.new).content) }
+        → OnOk result (KeepsSlots blocks.number (B.disk target.old).content (B.disk target.new).content) }
     ensures stops { IsTrue (A.keeps_model source.old) → IsTrue (B.keeps_model target.old)
         → StopsLeave B.SectorDevice target.old target.new
-        (λ c. TakenAway blocks (B.disk target.old) c ⊎ CarriedLeaves blocks (A.disk source.old).content c) }
+        (λ c. TakenAway blocks.number (B.disk target.old) c ⊎ CarriedLeaves blocks.number (A.disk source.old).content c) }
     ensures faults { IfErr result (TellsFault A.SectorDevice B.SectorDevice source.old source.new target.old target.new) }
     ensures well { OnOk result (WentWell A.SectorDevice B.SectorDevice source.old source.new target.old target.new) }
     ensures source { OnlyRead A.SectorDevice source.old source.new }
     ensures passes { Proceeds B.SectorDevice target.old target.new }
-    ensures begins { BeginsAtMost B.SectorDevice target.old target.new (2 * blocks + 4) 4 }
-    ensures reads { ReadsAtMost A.SectorDevice source.old source.new (2 * blocks) }
+    ensures begins { BeginsAtMost B.SectorDevice target.old target.new (2 * blocks.number + 4) 4 }
+    ensures reads { ReadsAtMost A.SectorDevice source.old source.new (2 * blocks.number) }
     ensures target_reads { ReadsAtMost B.SectorDevice target.old target.new 1 }
 {
     match unlabel(target, blocks) {
@@ -386,7 +283,7 @@ pub fn upgrade<A: SectorDevice, B: SectorDevice>(
     ensures new_reads { ReadsAtMost B.SectorDevice new.old new.new 1 }
 {
     let blocks = blocks_of_both(old.sectors(), new.sectors())?;
-    match recover(old, blocks) {
+    match recover(old, VERSION_1, blocks) {
         Ok(()) => carry(old, new, blocks),
         Err(fault) => Err(UpgradeFault::Old(fault)),
     }

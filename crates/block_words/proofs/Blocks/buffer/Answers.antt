@@ -13,8 +13,8 @@ use Rattle.block_words.proofs.Blocks.buffer.Goals as goal
 pub invariant_of-self : goal.invariant_of-self
 invariant_of-self g c = record {
   within =
-      ap (λ (b : Buffers). within c.args.self.now.store.blocks b.list) c.touch.ensures.buffers
-      ∙ within_after_touch c.args.self.now.store.blocks c.args.u c.args.self.now.buffers c.args.self.now.within;
+      ap (λ (b : Buffers). within c.args.self.now.store.blocks.number b.list) c.touch.ensures.buffers
+      ∙ within_after_touch c.args.self.now.store.blocks.number c.args.u c.args.self.now.buffers c.args.self.now.within;
   valid = c.touch.ensures.valid;
 }
 

@@ -19,12 +19,12 @@ no_text = Err NoBlock
 
 pub returns-then-u-blocks-clause-found : goal.returns-then-u-blocks-clause-found
 returns-then-u-blocks-clause-found g c =
-    let none : slot_of c.args.self.now.buffers c.args.u ≡ None = none_past c.args.self.now.store.blocks c.args.u c.args.self.now.buffers.list c.args.self.now.within (omega (arith, c.if-u-blocks.true, c.blocks-2.ensures.value)) in
+    let none : slot_of c.args.self.now.buffers c.args.u ≡ None = none_past c.args.self.now.store.blocks.number c.args.u c.args.self.now.buffers.list c.args.self.now.within (omega (arith, c.if-u-blocks.true, c.blocks-2.ensures.value)) in
     subst (λ o. IfSome o (λ slot. no_text ≡ Ok (InBuffer slot))) (sym none) tt
 
 pub returns-in-Some-clause-runs : goal.returns-in-Some-clause-runs
 returns-in-Some-clause-runs g c = λ m space stands.
-    let is : nat_lt c.args.u (length m.saved) ≡ true = ap (λ n. nat_lt c.args.u n) stands.size ∙ lt-ltb c.args.u c.args.self.now.store.blocks (omega (arith, c.if-u-blocks.false, c.blocks-2.ensures.value)) in
+    let is : nat_lt c.args.u (length m.saved) ≡ true = ap (λ n. nat_lt c.args.u n) stands.size ∙ lt-ltb c.args.u c.args.self.now.store.blocks.number (omega (arith, c.if-u-blocks.false, c.blocks-2.ensures.value)) in
     record {
       maps = m;
       wear = _;
@@ -41,7 +41,7 @@ returns-in-Ok-clause-runs g c = λ m space stands.
     let old = c.args.self.now.store in
     let now : old.closed ≡ false = search rules in
     let open_now : m.closed ≡ false = stands.closed ∙ now in
-    let is : nat_lt c.args.u (length m.saved) ≡ true = ap (λ n. nat_lt c.args.u n) stands.size ∙ lt-ltb c.args.u old.blocks (omega (arith, c.if-u-blocks.false, c.blocks-2.ensures.value)) in
+    let is : nat_lt c.args.u (length m.saved) ≡ true = ap (λ n. nat_lt c.args.u n) stands.size ∙ lt-ltb c.args.u old.blocks.number (omega (arith, c.if-u-blocks.false, c.blocks-2.ensures.value)) in
     let none = none_of (assigned c.args.self.now.buffers.list c.args.u) (sym c.in-None.ensures.slot) in
     record {
       maps = m;
@@ -58,7 +58,7 @@ pub returns-in-Err-clause-runs : goal.returns-in-Err-clause-runs
 returns-in-Err-clause-runs g c = λ m space stands.
     let old = c.args.self.now.store in
     let b = c.args.self.now.buffers in
-    let is : nat_lt c.args.u (length m.saved) ≡ true = ap (λ n. nat_lt c.args.u n) stands.size ∙ lt-ltb c.args.u old.blocks (omega (arith, c.if-u-blocks.false, c.blocks-2.ensures.value)) in
+    let is : nat_lt c.args.u (length m.saved) ≡ true = ap (λ n. nat_lt c.args.u n) stands.size ∙ lt-ltb c.args.u old.blocks.number (omega (arith, c.if-u-blocks.false, c.blocks-2.ensures.value)) in
     let none = none_of (assigned b.list c.args.u) (sym c.in-None.ensures.slot) in
     refused_runs g.D.SectorDevice (source c.args.u) c.in-Err.fault c.from.result m old c.read_text.new.self b space
     c.from.ensures g.met.D.SectorDevice.only_now stands (c.read_text.ensures.state m stands)

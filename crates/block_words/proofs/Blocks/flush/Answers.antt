@@ -18,6 +18,6 @@ returns-in-Err-clause-runs g c = λ m stands. c.in-Err.ensures.runs m (λ bs. no
 
 pub invariant_of-self : goal.invariant_of-self
 invariant_of-self g c = record {
-  within = ap (λ (b : Buffers). within c.save.new.store.blocks b.list) c.unassign_all.ensures;
+  within = ap (λ (b : Buffers). within c.save.new.store.blocks.number b.list) c.unassign_all.ensures;
   valid = subst IsValid (sym c.unassign_all.ensures) valid_none;
 }

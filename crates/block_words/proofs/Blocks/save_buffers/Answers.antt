@@ -19,8 +19,8 @@ returns-in-Err-clause-runs g c = λ m stands. c.in-Err.ensures.runs m unmarked s
 pub invariant_of-self : goal.invariant_of-self
 invariant_of-self g c = record {
   within =
-      ap (λ (b : Buffers). within c.save.new.store.blocks b.list) c.unmark_all.ensures.buffers
+      ap (λ (b : Buffers). within c.save.new.store.blocks.number b.list) c.unmark_all.ensures.buffers
       ∙ ap (λ n. within n (unmarked c.args.self.now.buffers).list) c.in-Ok.ensures.saves.continues.blocks
-      ∙ within_unmarked c.args.self.now.store.blocks c.args.self.now.buffers c.args.self.now.within;
+      ∙ within_unmarked c.args.self.now.store.blocks.number c.args.self.now.buffers c.args.self.now.within;
   valid = c.unmark_all.ensures.valid;
 }

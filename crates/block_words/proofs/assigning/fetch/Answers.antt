@@ -10,7 +10,7 @@ returns-in-Ok-assign_slot-clause-runs g c = λ m stands.
     let mid = c.read_block.new.self in
     let now : old.closed ≡ false = search rules in
     let open_now : m.closed ≡ false = stands.closed ∙ now in
-    let is : nat_lt c.args.u (length m.saved) ≡ true = ap (λ n. nat_lt c.args.u n) stands.size ∙ lt-ltb c.args.u old.blocks c.requires.below in
+    let is : nat_lt c.args.u (length m.saved) ≡ true = ap (λ n. nat_lt c.args.u n) stands.size ∙ lt-ltb c.args.u old.blocks.number c.requires.below in
     block_runs g.D.SectorDevice c.args.u m old c.assign_slot.new.store c.args.buffers.now c.assign_slot.new.buffers c.args.space.now is c.requires.none open_now
     _ _ _ _ (ap (λ a. Ok a) c.fill_buffer.ensures.address) c.fill_buffer.ensures.bytes mid c.read_block.new.out (c.in-Ok.ensures.ok m stands) (record { begins = c.in-Ok.ensures.begins; reads = c.in-Ok.ensures.reads })
     c.in-Ok.ensures.continues.time c.assign_slot.ensures.continues.time (c.in-Ok.ensures.stops m stands open_now) (c.in-Ok-assign_slot.ensures.runs m c.read_block.new.out (c.in-Ok.ensures.state m stands))
@@ -21,7 +21,7 @@ returns-in-Err-assign_slot-clause-runs g c = λ m stands.
     let mid = c.read_block.new.self in
     let now : old.closed ≡ false = search rules in
     let open_now : m.closed ≡ false = stands.closed ∙ now in
-    let is : nat_lt c.args.u (length m.saved) ≡ true = ap (λ n. nat_lt c.args.u n) stands.size ∙ lt-ltb c.args.u old.blocks c.requires.below in
+    let is : nat_lt c.args.u (length m.saved) ≡ true = ap (λ n. nat_lt c.args.u n) stands.size ∙ lt-ltb c.args.u old.blocks.number c.requires.below in
     block_runs g.D.SectorDevice c.args.u m old c.assign_slot.new.store c.args.buffers.now c.assign_slot.new.buffers c.args.space.now is c.requires.none open_now
     _ _ _ _ refl refl mid c.read_block.new.out (c.in-Ok.ensures.ok m stands) (record { begins = c.in-Ok.ensures.begins; reads = c.in-Ok.ensures.reads })
     c.in-Ok.ensures.continues.time c.assign_slot.ensures.continues.time (c.in-Ok.ensures.stops m stands open_now) (c.in-Err-assign_slot.ensures.runs m c.read_block.new.out (c.in-Ok.ensures.state m stands))
@@ -31,7 +31,7 @@ returns-in-Err-clause-runs g c = λ m stands.
     let old = c.args.store.now in
     let b = c.args.buffers.now in
     let sp = c.args.space.now in
-    let is : nat_lt c.args.u (length m.saved) ≡ true = ap (λ n. nat_lt c.args.u n) stands.size ∙ lt-ltb c.args.u old.blocks c.requires.below in
+    let is : nat_lt c.args.u (length m.saved) ≡ true = ap (λ n. nat_lt c.args.u n) stands.size ∙ lt-ltb c.args.u old.blocks.number c.requires.below in
     refused_runs g.D.SectorDevice (block c.args.u) c.in-Err.fault c.from.result m old c.read_block.new.self b sp
     c.from.ensures g.met.D.SectorDevice.only_now stands (c.read_block.ensures.state m stands)
     (λ f. search rules) (λ f. search rules) (λ f. search rules)

@@ -13,13 +13,13 @@ use Rattle.block_words.proofs.saving.spill_updated.Goals as goal
 
 pub spill-requires-clause-below : goal.spill-requires-clause-below
 spill-requires-clause-below g c =
-    let n = c.args.store.now.blocks in
+    let n = c.args.store.now.blocks.number in
     let xs = c.deref-updated-items.result.now in
     let same = c.deref-updated-items.ensures.0 ∙ c.updated.ensures.updated in
-    let all : within c.loop-updated.store.blocks xs ≡ true =
-    ap (λ l. within c.loop-updated.store.blocks l) same ∙ ap (λ k. within k (updated_ones c.args.buffers.now)) c.loop-updated.invariant.continues.blocks
+    let all : within c.loop-updated.store.blocks.number xs ≡ true =
+    ap (λ l. within c.loop-updated.store.blocks.number l) same ∙ ap (λ k. within k (updated_ones c.args.buffers.now)) c.loop-updated.invariant.continues.blocks
     ∙ within_filter n (λ x. x.updated) c.args.buffers.now.list c.requires.within in
-    within_at c.loop-updated.store.blocks xs c.loop-updated.updated-index _ all (item_at xs c.loop-updated.updated-index _ c.loop-updated-test.true)
+    within_at c.loop-updated.store.blocks.number xs c.loop-updated.updated-index _ all (item_at xs c.loop-updated.updated-index _ c.loop-updated-test.true)
 
 pub returns-in-Err-clause-fault : goal.returns-in-Err-clause-fault
 returns-in-Err-clause-fault g c = λ m stands.

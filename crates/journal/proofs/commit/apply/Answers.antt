@@ -12,13 +12,13 @@ use Rattle.journal.proofs.commit.apply.Goals as goal
 pub returns-in_err-copy_and_sync-clause-stops : goal.returns-in_err-copy_and_sync-clause-stops
 returns-in_err-copy_and_sync-clause-stops g c = λ keeps x since.
     let D = g.D.SectorDevice in
-    homes_redo c.args.blocks c.args.bytes.now (D.disk c.args.device.now) (g.met.D.SectorDevice.present c.args.device.now keeps) (c.requires.logged keeps) x
+    homes_redo c.args.blocks.number c.args.bytes.now (D.disk c.args.device.now) (g.met.D.SectorDevice.present c.args.device.now keeps) (c.requires.logged keeps) x
     (c.copy_and_sync.ensures.stops keeps x since)
 
 pub returns-clause-ok : goal.returns-clause-ok
 returns-clause-ok g c = λ keeps.
     let D = g.D.SectorDevice in
-    let n = c.args.blocks in
+    let n = c.args.blocks.number in
     let bytes = c.args.bytes.now in
     let mid = c.copy_and_sync.new.device in
     let honest : IsTrue (D.keeps_model mid) = subst IsTrue (sym c.copy_and_sync.ensures.passes.model) keeps in
@@ -30,13 +30,13 @@ pub returns-clause-recovered : goal.returns-clause-recovered
 returns-clause-recovered g c = λ keeps.
     let D = g.D.SectorDevice in
     on_ok_weaker c.write_through.result
-    (λ done. recovered c.args.blocks c.args.bytes.now (D.disk c.args.device.now) (D.disk c.write_through.new.device) (c.requires.logged keeps) done)
+    (λ done. recovered c.args.blocks.number c.args.bytes.now (D.disk c.args.device.now) (D.disk c.write_through.new.device) (c.requires.logged keeps) done)
     (returns-clause-ok g c keeps)
 
 pub returns-clause-stops : goal.returns-clause-stops
 returns-clause-stops g c = λ keeps.
     let D = g.D.SectorDevice in
-    let n = c.args.blocks in
+    let n = c.args.blocks.number in
     let bytes = c.args.bytes.now in
     let d = D.disk c.args.device.now in
     let mid = c.copy_and_sync.new.device in

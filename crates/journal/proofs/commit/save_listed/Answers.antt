@@ -13,7 +13,7 @@ use Rattle.journal.proofs.commit.save_listed.Goals as goal
 pub returns-in_err-log-clause-stops : goal.returns-in_err-log-clause-stops
 returns-in_err-log-clause-stops g c = λ keeps x since.
     let D = g.D.SectorDevice in
-    let n = c.args.blocks in
+    let n = c.args.blocks.number in
     let bytes = c.args.bytes.now in
     let d = D.disk c.args.device.now in
     let sound = c.requires.sound keeps in
@@ -25,7 +25,7 @@ returns-in_err-log-clause-stops g c = λ keeps x since.
 pub returns-in_err-log-clause-gate : goal.returns-in_err-log-clause-gate
 returns-in_err-log-clause-gate g c = λ keeps x since.
     let D = g.D.SectorDevice in
-    let n = c.args.blocks in
+    let n = c.args.blocks.number in
     let bytes = c.args.bytes.now in
     let d = D.disk c.args.device.now in
     let sound = c.requires.sound keeps in
@@ -39,14 +39,14 @@ returns-clause-ok g c = λ keeps.
     let D = g.D.SectorDevice in
     let honest : IsTrue (D.keeps_model c.log.new.device) = subst IsTrue (sym c.log.ensures.passes.model) keeps in
     on_ok_weaker c.apply.result
-    (λ done. saved c.args.blocks c.args.bytes.now (D.disk c.args.device.now) (D.disk c.log.new.device) (D.disk c.apply.new.device)
+    (λ done. saved c.args.blocks.number c.args.bytes.now (D.disk c.args.device.now) (D.disk c.log.new.device) (D.disk c.apply.new.device)
     (c.requires.sound keeps).label (c.requires.digest keeps) (c.in_ok-log.ensures.ok keeps) done)
     (c.apply.ensures.ok honest)
 
 pub returns-clause-stops : goal.returns-clause-stops
 returns-clause-stops g c = λ keeps.
     let D = g.D.SectorDevice in
-    let n = c.args.blocks in
+    let n = c.args.blocks.number in
     let bytes = c.args.bytes.now in
     let d = D.disk c.args.device.now in
     let mid = c.log.new.device in
@@ -66,7 +66,7 @@ returns-clause-stops g c = λ keeps.
 pub returns-clause-gate : goal.returns-clause-gate
 returns-clause-gate g c = λ keeps.
     let D = g.D.SectorDevice in
-    let n = c.args.blocks in
+    let n = c.args.blocks.number in
     let bytes = c.args.bytes.now in
     let d = D.disk c.args.device.now in
     let mid = c.log.new.device in

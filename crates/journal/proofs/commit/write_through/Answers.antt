@@ -1,5 +1,4 @@
 use Rattle.std.proofs.Common.{◌≡◌, ℕ, sym, subst, IsTrue}
-use Rattle.sector_disk.specs.Disk.{Disk, MayLeave}
 use Rattle.sector_disk.proofs.Moments.{leaves_then}
 use Rattle.journal.specs.Steps.{IsAsSynced}
 use Rattle.journal.proofs.Units.{wrote, synced_or_not, sync_left, may_left, call_left}

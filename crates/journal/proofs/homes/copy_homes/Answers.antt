@@ -11,20 +11,20 @@ returns-in_err-copy_if_listed-clause-begins g c =
     let so_far = c.loop-b.invariant.begins in
     let step = c.copy_if_listed.ensures.begins in
     record {
-      few_writes = (step_writes c.args.bytes.now c.loop-b.b c.args.blocks _ _ _ c.loop-b-test.true so_far.few_writes step.few_writes).1;
+      few_writes = (step_writes c.args.bytes.now c.loop-b.b c.args.blocks.number _ _ _ c.loop-b-test.true so_far.few_writes step.few_writes).1;
       few_syncs = omega (arith, so_far.few_syncs, step.few_syncs);
     }
 
 pub returns-in_err-copy_if_listed-clause-reads : goal.returns-in_err-copy_if_listed-clause-reads
 returns-in_err-copy_if_listed-clause-reads g c =
-    (step_writes c.args.bytes.now c.loop-b.b c.args.blocks _ _ _ c.loop-b-test.true c.loop-b.invariant.reads c.copy_if_listed.ensures.reads).1
+    (step_writes c.args.bytes.now c.loop-b.b c.args.blocks.number _ _ _ c.loop-b-test.true c.loop-b.invariant.reads c.copy_if_listed.ensures.reads).1
 
 pub loop-b-preserved : goal.loop-b-preserved
 loop-b-preserved g c =
     let D = g.D.SectorDevice in
     let inv = c.loop-b.invariant in
     let step = c.copy_if_listed.ensures in
-    let n = c.args.blocks in
+    let n = c.args.blocks.number in
     let bytes = c.args.bytes.now in
     let below = c.loop-b-test.true in
     let d = D.disk c.args.device.now in

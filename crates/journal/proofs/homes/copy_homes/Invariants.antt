@@ -12,9 +12,9 @@ invariant-loop-b g l =
     let old = l.initial.device in
     let now = l.device in
     record {
-      copied : IsTrue (D.keeps_model old) → (a : ℕ) → a < l.b → listed l.bytes a ≡ true → HasCopied l.blocks a (D.disk old).content (D.disk now).content;
-      only : IsTrue (D.keeps_model old) → WritesOnly (InListedHomes l.blocks l.bytes) (D.disk old) (D.disk now);
-      stops : IsTrue (D.keeps_model old) → StopsLeave D old now (IsAsSynced (InListedHomes l.blocks l.bytes) (D.disk old));
+      copied : IsTrue (D.keeps_model old) → (a : ℕ) → a < l.b → listed l.bytes a ≡ true → HasCopied l.blocks.number a (D.disk old).content (D.disk now).content;
+      only : IsTrue (D.keeps_model old) → WritesOnly (InListedHomes l.blocks.number l.bytes) (D.disk old) (D.disk now);
+      stops : IsTrue (D.keeps_model old) → StopsLeave D old now (IsAsSynced (InListedHomes l.blocks.number l.bytes) (D.disk old));
       passes : Passes D {T = Unit {0}} {E = DeviceFault} old now (Ok tt);
       begins : BeginsAtMost D old now (2 * count_listed l.bytes l.b) 0;
       reads : ReadsAtMost D old now (2 * count_listed l.bytes l.b);

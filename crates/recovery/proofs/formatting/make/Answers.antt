@@ -10,12 +10,12 @@ use Rattle.recovery.proofs.formatting.make.Goals as goal
 
 pub returns-in_err-unlabel-clause-stops : goal.returns-in_err-unlabel-clause-stops
 returns-in_err-unlabel-clause-stops g c = λ keeps x since.
-    making c.args.blocks (g.D.SectorDevice.disk c.args.device.now) (blank_blocks c.args.blocks) x (c.unlabel.ensures.stops keeps x since)
+    making c.args.blocks.number (g.D.SectorDevice.disk c.args.device.now) (blank_blocks c.args.blocks.number) x (c.unlabel.ensures.stops keeps x since)
 
 pub returns-in_err-prepare-clause-stops : goal.returns-in_err-prepare-clause-stops
 returns-in_err-prepare-clause-stops g c = λ keeps.
     let D = g.D.SectorDevice in
-    let n = c.args.blocks in
+    let n = c.args.blocks.number in
     let d = D.disk c.args.device.now in
     let honest : IsTrue (D.keeps_model c.unlabel.new.device) = subst IsTrue (sym c.unlabel.ensures.passes.model) keeps in
     leaves_then D.time D.left_since c.args.device.now c.unlabel.new.device c.prepare.new.device
@@ -26,7 +26,7 @@ returns-in_err-prepare-clause-stops g c = λ keeps.
 pub returns-clause-ok : goal.returns-clause-ok
 returns-clause-ok g c = λ keeps.
     let D = g.D.SectorDevice in
-    let n = c.args.blocks in
+    let n = c.args.blocks.number in
     let honest : IsTrue (D.keeps_model c.unlabel.new.device) = subst IsTrue (sym c.unlabel.ensures.passes.model) keeps in
     let sealed : IsTrue (D.keeps_model c.prepare.new.device) = subst IsTrue (sym c.prepare.ensures.passes.model) honest in
     on_ok_weaker c.seal.result
@@ -36,7 +36,7 @@ returns-clause-ok g c = λ keeps.
 pub returns-clause-stops : goal.returns-clause-stops
 returns-clause-stops g c = λ keeps.
     let D = g.D.SectorDevice in
-    let n = c.args.blocks in
+    let n = c.args.blocks.number in
     let d = D.disk c.args.device.now in
     let honest : IsTrue (D.keeps_model c.unlabel.new.device) = subst IsTrue (sym c.unlabel.ensures.passes.model) keeps in
     let sealed : IsTrue (D.keeps_model c.prepare.new.device) = subst IsTrue (sym c.prepare.ensures.passes.model) honest in
@@ -51,4 +51,4 @@ returns-clause-stops g c = λ keeps.
     c.unlabel.ensures.passes.time c.prepare.ensures.passes.time (c.unlabel.ensures.stops keeps) (c.prepare.ensures.stops honest)
     (making n d (blank_blocks n)) (λ x bad. inl (unlabelled n x bad)))
     (c.seal.ensures.stops sealed)
-    (λ x half. half) (λ x is. sealed_means n c.requires.many c.requires.few (λ _. replicate 512 32) mid.content prepared.filled (blank_blocks n) (blank_homes n) d x is)
+    (λ x half. half) (λ x is. sealed_means n c.args.blocks.many c.args.blocks.few (λ _. replicate 512 32) mid.content prepared.filled (blank_blocks n) (blank_homes n) d x is)

@@ -9,15 +9,15 @@ use Rattle.recovery.proofs.Formats.{half_now, half_cleared}
 use Rattle.recovery.proofs.formatting.unlabel.Goals as goal
 
 pub returns-in_err-settle-clause-stops : goal.returns-in_err-settle-clause-stops
-returns-in_err-settle-clause-stops g c = λ keeps x since. half_now c.args.blocks (g.D.SectorDevice.disk c.args.device.now) x (c.settle.ensures.stops keeps x since)
+returns-in_err-settle-clause-stops g c = λ keeps x since. half_now c.args.blocks.number (g.D.SectorDevice.disk c.args.device.now) x (c.settle.ensures.stops keeps x since)
 
 pub returns-else-eq-clause-stops : goal.returns-else-eq-clause-stops
-returns-else-eq-clause-stops g c = λ keeps x since. half_now c.args.blocks (g.D.SectorDevice.disk c.args.device.now) x (c.settle.ensures.stops keeps x since)
+returns-else-eq-clause-stops g c = λ keeps x since. half_now c.args.blocks.number (g.D.SectorDevice.disk c.args.device.now) x (c.settle.ensures.stops keeps x since)
 
 pub returns-then-eq-clause-stops : goal.returns-then-eq-clause-stops
 returns-then-eq-clause-stops g c = λ keeps.
     let D = g.D.SectorDevice in
-    let n = c.args.blocks in
+    let n = c.args.blocks.number in
     let d = D.disk c.args.device.now in
     let mid = c.settle.new.device in
     let honest : IsTrue (D.keeps_model mid) = subst IsTrue (sym c.settle.ensures.passes.model) keeps in

@@ -6,7 +6,7 @@ use Rattle.recovery.proofs.upgrading.carry.Goals as goal
 pub returns-in-Ok-clause-stops : goal.returns-in-Ok-clause-stops
 returns-in-Ok-clause-stops g c = λ source target.
     let B = g.B.SectorDevice in
-    let n = c.args.blocks in
+    let n = c.args.blocks.number in
     let d = B.disk c.args.target.now in
     let bytes = (g.A.SectorDevice.disk c.args.source.now).content in
     let mid = c.unlabel.new.device in

@@ -8,7 +8,8 @@ use Rattle.journal.proofs.Calls.{proceeds_then}
 use Rattle.recovery.specs.Formatted.{MakingLeaves}
 use Rattle.recovery.specs.Upgraded.{OldLeaves, reads_for_1}
 use Rattle.recovery.proofs.Formats.{half_now, making}
-use Rattle.recovery.proofs.Upgrades.{old_now, old_recovered, recovered_homes, carried_means, after_means}
+use Rattle.recovery.proofs.Recoveries.{reads_1}
+use Rattle.recovery.proofs.Upgrades.{old_now, old_by, old_recovered, recovered_homes, carried_means, after_means}
 use Rattle.recovery.proofs.upgrading.upgrade.Goals as goal
 
 pub returns-in_err-blocks-clause-old_stops : goal.returns-in_err-blocks-clause-old_stops
@@ -28,7 +29,7 @@ returns-in-Err-clause-new_stops g c = λ source keeps n size x since.
 pub returns-in-Ok-clause-old_stops : goal.returns-in-Ok-clause-old_stops
 returns-in-Ok-clause-old_stops g c = λ keeps n size.
     let A = g.A.SectorDevice in
-    let m = c.in_ok-blocks.blocks in
+    let m = c.in_ok-blocks.blocks.number in
     let d = A.disk c.args.old.now in
     let mid = c.recover.new.device in
     let one : m ≡ n = omega (arith, size, c.in_ok-blocks.ensures.size.0, c.sectors.ensures) in
@@ -36,23 +37,25 @@ returns-in-Ok-clause-old_stops g c = λ keeps n size.
     subst (λ k. (x : _) → A.left_since c.carry.new.source (A.time c.args.old.now) x → OldLeaves k d x) one
     (leaves_then A.time A.left_since c.args.old.now mid c.carry.new.source
     (OldLeaves m d) (MayLeave (A.disk mid)) (OldLeaves m d)
-    c.recover.ensures.passes.time c.carry.ensures.source.passes.time (c.recover.ensures.stops keeps) (c.carry.ensures.source.stops honest)
+    c.recover.ensures.passes.time c.carry.ensures.source.passes.time
+    (λ x since. old_by m d (g.met.A.SectorDevice.present c.args.old.now keeps) c.in_ok-blocks.blocks.many c.in_ok-blocks.ensures.few x (c.recover.ensures.stops keeps x since))
+    (c.carry.ensures.source.stops honest)
     (λ x is. is)
     (old_recovered m d (g.met.A.SectorDevice.present c.args.old.now keeps)
-    (record { many = c.in_ok-blocks.ensures.many; few = c.in_ok-blocks.ensures.few; label = c.in-Ok.ensures.label keeps })
-    (A.disk mid) (c.in-Ok.ensures.ok keeps) (g.met.A.SectorDevice.present mid honest)))
+    (record { many = c.in_ok-blocks.blocks.many; few = c.in_ok-blocks.ensures.few; label = c.in-Ok.ensures.label keeps })
+    (A.disk mid) (c.in-Ok.ensures.ok keeps).recovered (g.met.A.SectorDevice.present mid honest)))
 
 pub returns-in-Ok-clause-new_stops : goal.returns-in-Ok-clause-new_stops
 returns-in-Ok-clause-new_stops g c = λ source keeps n size x since.
     let A = g.A.SectorDevice in
     let B = g.B.SectorDevice in
-    let m = c.in_ok-blocks.blocks in
+    let m = c.in_ok-blocks.blocks.number in
     let d = A.disk c.args.old.now in
     let one : m ≡ n = omega (arith, size, c.in_ok-blocks.ensures.size.1, c.sectors-2.ensures) in
     let honest : IsTrue (A.keeps_model c.recover.new.device) = subst IsTrue (sym c.recover.ensures.passes.model) source in
-    let recovered = c.in-Ok.ensures.ok source in
+    let recovered = (c.in-Ok.ensures.ok source).recovered in
     subst (λ k. MakingLeaves k (meaning k d.content) (B.disk c.args.new.now) x) one
-    (carried_means m c.in_ok-blocks.ensures.many (omega (arith, c.in_ok-blocks.ensures.few)) (A.disk c.recover.new.device).content (meaning m d.content)
+    (carried_means m c.in_ok-blocks.blocks.many c.in_ok-blocks.blocks.few (A.disk c.recover.new.device).content (meaning m d.content)
     (recovered_homes m d (A.disk c.recover.new.device) recovered) (B.disk c.args.new.now) x
     (c.carry.ensures.stops honest keeps x since))
 
@@ -60,17 +63,17 @@ pub returns-in-Ok-clause-after : goal.returns-in-Ok-clause-after
 returns-in-Ok-clause-after g c = λ source keeps.
     let A = g.A.SectorDevice in
     let B = g.B.SectorDevice in
-    let m = c.in_ok-blocks.blocks in
+    let m = c.in_ok-blocks.blocks.number in
     let d = A.disk c.args.old.now in
     let now = c.carry.new.target in
     let honest : IsTrue (A.keeps_model c.recover.new.device) = subst IsTrue (sym c.recover.ensures.passes.model) source in
     let still : IsTrue (B.keeps_model now) = subst IsTrue (sym c.carry.ensures.passes.model) keeps in
-    let recovered = c.in-Ok.ensures.ok source in
+    let recovered = (c.in-Ok.ensures.ok source).recovered in
     on_ok_weaker c.carry.result
     (λ made n size x may.
     let one : m ≡ n = omega (arith, size, c.in_ok-blocks.ensures.size.1, c.sectors-2.ensures) in
     subst (λ k. Means (meaning k d.content) x) one
-    (after_means m c.in_ok-blocks.ensures.many (omega (arith, c.in_ok-blocks.ensures.few)) (A.disk c.recover.new.device).content (meaning m d.content)
+    (after_means m c.in_ok-blocks.blocks.many c.in_ok-blocks.blocks.few (A.disk c.recover.new.device).content (meaning m d.content)
     (recovered_homes m d (A.disk c.recover.new.device) recovered) (B.disk now) (g.met.B.SectorDevice.present now still) made x may))
     (c.carry.ensures.ok honest keeps)
 
@@ -83,14 +86,23 @@ pub returns-in-Ok-clause-old_reads : goal.returns-in-Ok-clause-old_reads
 returns-in-Ok-clause-old_reads g c = λ keeps n size.
     let A = g.A.SectorDevice in
     let old = c.args.old.now in
-    let one : c.in_ok-blocks.blocks ≡ n = omega (arith, size, c.in_ok-blocks.ensures.size.0, c.sectors.ensures) in
+    let one : c.in_ok-blocks.blocks.number ≡ n = omega (arith, size, c.in_ok-blocks.ensures.size.0, c.sectors.ensures) in
     subst (λ k. ReadsAtMost A old c.carry.new.source (reads_for_1 k (A.disk old).content + 2 * k)) one
-    (omega (arith, c.recover.ensures.reads keeps, c.carry.ensures.reads))
+    (omega (arith, reads_1 c.in_ok-blocks.blocks.number (A.disk old).content, c.recover.ensures.reads keeps, c.carry.ensures.reads))
 
 pub returns-in-Err-clause-old_reads : goal.returns-in-Err-clause-old_reads
 returns-in-Err-clause-old_reads g c = λ keeps n size.
     let A = g.A.SectorDevice in
     let old = c.args.old.now in
-    let one : c.in_ok-blocks.blocks ≡ n = omega (arith, size, c.in_ok-blocks.ensures.size.0, c.sectors.ensures) in
+    let one : c.in_ok-blocks.blocks.number ≡ n = omega (arith, size, c.in_ok-blocks.ensures.size.0, c.sectors.ensures) in
     subst (λ k. ReadsAtMost A old c.recover.new.device (reads_for_1 k (A.disk old).content + 2 * k)) one
-    (omega (arith, c.recover.ensures.reads keeps))
+    (omega (arith, reads_1 c.in_ok-blocks.blocks.number (A.disk old).content, c.recover.ensures.reads keeps))
+
+pub returns-in-Err-clause-old_stops : goal.returns-in-Err-clause-old_stops
+returns-in-Err-clause-old_stops g c = λ keeps n size x since.
+    let A = g.A.SectorDevice in
+    let m = c.in_ok-blocks.blocks.number in
+    let d = A.disk c.args.old.now in
+    let one : m ≡ n = omega (arith, size, c.in_ok-blocks.ensures.size.0, c.sectors.ensures) in
+    subst (λ k. OldLeaves k d x) one
+    (old_by m d (g.met.A.SectorDevice.present c.args.old.now keeps) c.in_ok-blocks.blocks.many c.in_ok-blocks.ensures.few x (c.recover.ensures.stops keeps x since))

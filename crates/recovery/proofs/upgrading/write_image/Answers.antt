@@ -8,23 +8,23 @@ use Rattle.recovery.proofs.upgrading.write_image.Goals as goal
 pub returns-in-Ok-clause-stops : goal.returns-in-Ok-clause-stops
 returns-in-Ok-clause-stops g c = λ source target.
     let B = g.B.SectorDevice in
-    let n = c.args.blocks in
+    let n = c.args.blocks.number in
     let bytes = (g.A.SectorDevice.disk c.args.source.now).content in
     let mid = c.prepare.new.target in
     let honest : IsTrue (B.keeps_model mid) = subst IsTrue (sym c.prepare.ensures.passes.model) target in
     leaves_then B.time B.left_since c.args.target.now mid c.seal.new.device
     (λ x. x 0 ≢ label_of n) (Sealed n (B.disk mid).content) (CarriedLeaves n bytes)
     c.prepare.ensures.passes.time c.seal.ensures.passes.time (c.prepare.ensures.stops target) (c.seal.ensures.stops honest)
-    (λ x bad. inl bad) (sealed_leaves n c.requires.many c.requires.few bytes (B.disk mid) (c.in_ok-prepare.ensures.ok source target))
+    (λ x bad. inl bad) (sealed_leaves n c.args.blocks.many c.args.blocks.few bytes (B.disk mid) (c.in_ok-prepare.ensures.ok source target))
 
 pub returns-in-Err-clause-stops : goal.returns-in-Err-clause-stops
 returns-in-Err-clause-stops g c = λ source target.
     let B = g.B.SectorDevice in
-    let n = c.args.blocks in
+    let n = c.args.blocks.number in
     let bytes = (g.A.SectorDevice.disk c.args.source.now).content in
     let mid = c.prepare.new.target in
     let honest : IsTrue (B.keeps_model mid) = subst IsTrue (sym c.prepare.ensures.passes.model) target in
     leaves_then B.time B.left_since c.args.target.now mid c.seal.new.device
     (λ x. x 0 ≢ label_of n) (Sealed n (B.disk mid).content) (CarriedLeaves n bytes)
     c.prepare.ensures.passes.time c.seal.ensures.passes.time (c.prepare.ensures.stops target) (c.seal.ensures.stops honest)
-    (λ x bad. inl bad) (sealed_leaves n c.requires.many c.requires.few bytes (B.disk mid) (c.in_ok-prepare.ensures.ok source target))
+    (λ x bad. inl bad) (sealed_leaves n c.args.blocks.many c.args.blocks.few bytes (B.disk mid) (c.in_ok-prepare.ensures.ok source target))

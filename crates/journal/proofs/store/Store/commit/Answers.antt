@@ -11,7 +11,7 @@ use Rattle.journal.proofs.store.Store.commit.Goals as goal
 
 pub returns-then-count_blocks-eq0-clause-pending : goal.returns-then-count_blocks-eq0-clause-pending
 returns-then-count_blocks-eq0-clause-pending g c =
-    none_listed c.args.self.now.pending c.args.self.now.blocks (sym c.count_blocks.ensures ∙ c.if-count_blocks-eq0.true) c.args.self.now.clear
+    none_listed c.args.self.now.pending c.args.self.now.blocks.number (sym c.count_blocks.ensures ∙ c.if-count_blocks-eq0.true) c.args.self.now.clear
 
 pub returns-then-count_blocks-eq0-clause-ok : goal.returns-then-count_blocks-eq0-clause-ok
 returns-then-count_blocks-eq0-clause-ok g c = λ s stands.
@@ -39,10 +39,10 @@ returns-in-Ok-clause-after g c = λ s stands x may.
     let old = c.args.self.now in
     let saved = c.in-Ok.ensures.ok stands.model in
     let keeps = subst IsTrue (sym c.save.ensures.passes.model) stands.model in
-    means_sized old.blocks (home_of old.blocks (D.disk c.save.new.device).content) (latest s) x old.many old.few
+    means_sized old.blocks.number (home_of old.blocks.number (D.disk c.save.new.device).content) (latest s) x old.blocks.many old.blocks.few
     (length-overridden s.saved s.pending ∙ stands.size)
     (λ b below. latest_in old s stands c.if-self.false b below ∙ sym (saved.blocks b below))
-    (sound_means old.blocks (D.disk c.save.new.device) (g.met.D.SectorDevice.present c.save.new.device keeps) saved.sound (λ k. ⊥) (λ k none. absurd none) x (λ k _ synced. may k synced))
+    (sound_means old.blocks.number (D.disk c.save.new.device) (g.met.D.SectorDevice.present c.save.new.device keeps) saved.sound (λ k. ⊥) (λ k none. absurd none) x (λ k _ synced. may k synced))
 
 pub returns-in-Ok-clause-ok : goal.returns-in-Ok-clause-ok
 returns-in-Ok-clause-ok g c = λ s stands.
@@ -64,7 +64,7 @@ returns-in-Ok-clause-recorded g c = λ keeps some.
     let old = c.args.self.now in
     let saved = c.in-Ok.ensures.ok keeps in
     record {
-      each = λ b below. listed_same _ old.pending saved.bits b (omega (arith, below, old.few));
+      each = λ b below. listed_same _ old.pending saved.bits b (omega (arith, below, old.blocks.few));
       rest = λ b past low. listed_same _ old.pending saved.bits b low ∙ old.clear b past;
       digest = saved.digest;
     }

@@ -11,7 +11,7 @@ pub returns-in-Ok-clause-ok : goal.returns-in-Ok-clause-ok
 returns-in-Ok-clause-ok g c = λ s stands.
     let D = g.D.SectorDevice in
     let old = c.args.self.now in
-    let n = old.blocks in
+    let n = old.blocks.number in
     let d = D.disk old.device in
     let e = D.disk c.write_pair.new.device in
     let only = subst (λ k. WritesOnly (InPair k) d e) c.slot_sector.ensures (c.write_pair.ensures.only stands.model) in
@@ -36,11 +36,11 @@ returns-in-Ok-clause-ok g c = λ s stands.
 pub returns-in-Ok-clause-stops : goal.returns-in-Ok-clause-stops
 returns-in-Ok-clause-stops g c = λ s stands is_open x since.
     saved_means g.met.D.SectorDevice.present c.args.self.now s stands is_open (InPair c.slot_sector.result)
-    (λ k at. pair_in_slots c.args.self.now.blocks c.args.b k c.requires.below (subst (λ j. InPair j k) c.slot_sector.ensures at)) x
+    (λ k at. pair_in_slots c.args.self.now.blocks.number c.args.b k c.requires.below (subst (λ j. InPair j k) c.slot_sector.ensures at)) x
     (c.write_pair.ensures.stops stands.model x since)
 
 pub returns-in-Err-clause-stops : goal.returns-in-Err-clause-stops
 returns-in-Err-clause-stops g c = λ s stands is_open x since.
     saved_means g.met.D.SectorDevice.present c.args.self.now s stands is_open (InPair c.slot_sector.result)
-    (λ k at. pair_in_slots c.args.self.now.blocks c.args.b k c.requires.below (subst (λ j. InPair j k) c.slot_sector.ensures at)) x
+    (λ k at. pair_in_slots c.args.self.now.blocks.number c.args.b k c.requires.below (subst (λ j. InPair j k) c.slot_sector.ensures at)) x
     (c.write_pair.ensures.stops stands.model x since)

@@ -1,5 +1,5 @@
 use Rattle.journal.proofs.Calls.{passes_by, proceeds, proceeds_then}
-use Rattle.recovery.proofs.opening.read_record.Goals as goal
+use Rattle.recovery.proofs.recovering.read_record.Goals as goal
 
 pub returns-then-branch-clause-passes : goal.returns-then-branch-clause-passes
 returns-then-branch-clause-passes g c =

@@ -1,0 +1,7 @@
+use Rattle.std.proofs.Common.{◌∙◌}
+use Rattle.image_care.proofs.Copies.{true_record}
+use Rattle.image_care.proofs.salvaging.find_true.Goals as goal
+
+pub returns-in-Ok-clause-ok : goal.returns-in-Ok-clause-ok
+returns-in-Ok-clause-ok g c = λ keeps.
+    c.in-Ok.ensures.ok keeps ∙ true_record c.args.blocks (g.D.SectorDevice.disk c.args.device.now).content (c.in-Ok.ensures.exact keeps)
