@@ -27,6 +27,15 @@ new A --blocks : error: a value is required
 new A --blocks 32 --blocks 32 : error: the argument '--blocks <N>' cannot be used multiple times
 new --blocks 32 : error: the following required arguments
 upgrade A : error: the following required arguments
+copy A : error: the following required arguments
+copy A B C : error: unexpected argument 'C'
+copy A B --blocks 31 : error: invalid value '31' for '--blocks <N>': 31 is not in 32..=3840
+copy A B --blocks 3841 : error: invalid value '3841' for '--blocks <N>': 3841 is not in 32..=3840
+copy A B --blocks : error: a value is required
+salvage A : error: the following required arguments
+salvage A B C : error: unexpected argument 'C'
+salvage A B --blocks 31 : error: invalid value '31' for '--blocks <N>': 31 is not in 32..=3840
+salvage A B --blocks 3841 : error: invalid value '3841' for '--blocks <N>': 3841 is not in 32..=3840
 check : error: the following required arguments
 check A B : error: unexpected argument 'B'
 list A : error: the following required arguments
@@ -124,6 +133,9 @@ fn outputs_that_fail(rt: HostRuntime) -> Result<(), Fail> {
         check_narrow(&rt, &["forth83", "list", path, "1"], 1000, failing);
         check_narrow(&rt, &["forth83", "export", path, "1", "2"], 20, failing);
         check_narrow(&rt, &["forth83", "--help"], 10, failing);
+        let salvage = ["forth83", "salvage", path, "program_outputs/B"];
+        check_narrow(&rt, &salvage, 20, failing);
+        fs::remove_file(&rt, "program_outputs/B")?;
     }
     fs::remove_dir_all(&rt, "program_outputs")?;
     Ok(())

@@ -262,7 +262,7 @@ fn images_are_refused(rt: HostRuntime) -> Result<(), Fail> {
 }
 
 /// Puts bytes over those from a place on.
-fn overwrite(bytes: &mut [u8], at: usize, patch: &[u8]) {
+pub(crate) fn overwrite(bytes: &mut [u8], at: usize, patch: &[u8]) {
     for (i, byte) in patch.iter().enumerate() {
         if let Some(place) = bytes.get_mut(at.saturating_add(i)) {
             *place = *byte;

@@ -14,7 +14,7 @@ const LENGTH: usize = 67_072;
 
 /// What becomes of the sectors that weren't synced.
 #[derive(Clone, Copy, Debug, PartialEq, Eq)]
-enum Fate {
+pub(crate) enum Fate {
     Lost,
     Kept,
     /// Of even number kept, of odd number lost.
@@ -22,7 +22,7 @@ enum Fate {
     OddKept,
 }
 
-const FATES: [Fate; 4] = [Fate::Lost, Fate::Kept, Fate::EvenKept, Fate::OddKept];
+pub(crate) const FATES: [Fate; 4] = [Fate::Lost, Fate::Kept, Fate::EvenKept, Fate::OddKept];
 
 impl Fate {
     fn keeps(self, sector: usize) -> bool {
@@ -97,7 +97,7 @@ impl Bytes {
 /// A disk with one file, `A`. From the call `stops_at` on, counted from 0, each fails; if that call is a write, the first half of its
 /// bytes arrives.
 #[derive(Drop)]
-struct Disk {
+pub(crate) struct Disk {
     bytes: RefCell<Bytes>,
     is_there: Cell<bool>,
     made: Cell<u64>,
@@ -105,7 +105,7 @@ struct Disk {
 }
 
 impl Disk {
-    fn new(rt: &impl AllocGlobal) -> Result<Disk, Fail> {
+    pub(crate) fn new(rt: &impl AllocGlobal) -> Result<Disk, Fail> {
         let content = vec![in rt.alloc(); 0u8; LENGTH]?;
         let synced = vec![in rt.alloc(); 0u8; LENGTH]?;
         let unsynced = vec![in rt.alloc(); false; LENGTH / 512]?;
@@ -121,8 +121,13 @@ impl Disk {
         })
     }
 
+    /// How many calls there were since `begin`.
+    pub(crate) fn calls(&self) -> u64 {
+        self.made.get()
+    }
+
     /// Counts anew, and stops at the call of this number.
-    fn begin(&self, stops_at: u64) {
+    pub(crate) fn begin(&self, stops_at: u64) {
         self.made.set(0);
         self.stops_at.set(stops_at);
     }
@@ -142,7 +147,7 @@ impl Disk {
         (arrives, Err(HostFault::Failed))
     }
 
-    fn restart(&self, fate: Fate) {
+    pub(crate) fn restart(&self, fate: Fate) {
         if let Ok(mut bytes) = self.bytes.try_borrow_mut() {
             bytes.restart(fate);
         }
@@ -150,7 +155,7 @@ impl Disk {
     }
 
     /// The bytes as they are now.
-    fn copy(&self, rt: &impl AllocGlobal) -> Result<Vec<u8>, Fail> {
+    pub(crate) fn copy(&self, rt: &impl AllocGlobal) -> Result<Vec<u8>, Fail> {
         let mut copy: Vec<u8> = Vec::new(rt.alloc());
         if let Ok(bytes) = self.bytes.try_borrow() {
             copy.extend_from_slice(bytes.content.as_slice())?;
@@ -159,7 +164,7 @@ impl Disk {
     }
 
     /// Puts these bytes there, all of them synced.
-    fn set(&self, copy: &[u8]) {
+    pub(crate) fn set(&self, copy: &[u8]) {
         if let Ok(mut bytes) = self.bytes.try_borrow_mut() {
             let _ = bytes.put(0, copy);
             bytes.sync();
@@ -167,10 +172,11 @@ impl Disk {
     }
 }
 
-/// The file, opened.
+/// The file, opened. Its calls are those of the disk `power`, and stop with it.
 #[derive(Drop)]
-struct Opened<'a> {
+pub(crate) struct Opened<'a> {
     disk: &'a Disk,
+    power: &'a Disk,
 }
 
 impl HostFile for Opened<'_> {
@@ -202,7 +208,7 @@ impl HostFile for Opened<'_> {
 
     fn read_at(&mut self, position: u64, buffer: &mut [u8]) -> Result<usize, HostFault> {
         let room = buffer.len();
-        let (_, outcome) = self.disk.next(0);
+        let (_, outcome) = self.power.next(0);
         outcome?;
         match self.disk.bytes.try_borrow() {
             Ok(bytes) => Ok(bytes.get(position as usize, buffer).min(room)),
@@ -211,7 +217,7 @@ impl HostFile for Opened<'_> {
     }
 
     fn write_at(&mut self, position: u64, buffer: &[u8]) -> Result<usize, HostFault> {
-        let (arrives, outcome) = self.disk.next(buffer.len());
+        let (arrives, outcome) = self.power.next(buffer.len());
         let (first, _) = buffer.split_at(arrives.min(buffer.len()));
         let count = match self.disk.bytes.try_borrow_mut() {
             Ok(mut bytes) => bytes.put(position as usize, first),
@@ -222,7 +228,7 @@ impl HostFile for Opened<'_> {
     }
 
     fn sync(&mut self) -> Result<(), HostFault> {
-        let (_, outcome) = self.disk.next(0);
+        let (_, outcome) = self.power.next(0);
         outcome?;
         match self.disk.bytes.try_borrow_mut() {
             Ok(mut bytes) => {
@@ -236,8 +242,20 @@ impl HostFile for Opened<'_> {
 
 /// The disk, as the system of files that the program is given.
 #[derive(Drop)]
-struct OneDisk<'a> {
+pub(crate) struct OneDisk<'a> {
     disk: &'a Disk,
+    power: &'a Disk,
+}
+
+impl<'a> OneDisk<'a> {
+    pub(crate) fn new(disk: &'a Disk) -> OneDisk<'a> {
+        OneDisk { disk, power: disk }
+    }
+
+    /// A disk that counts its calls, and stops, with another one.
+    pub(crate) fn beside(disk: &'a Disk, power: &'a Disk) -> OneDisk<'a> {
+        OneDisk { disk, power }
+    }
 }
 
 impl<'a> HostFiles<Opened<'a>> for OneDisk<'a> {
@@ -249,7 +267,10 @@ impl<'a> HostFiles<Opened<'a>> for OneDisk<'a> {
         if path != "A" || !self.disk.is_there.get() {
             return Err(FileFault::Cannot);
         }
-        Ok(Opened { disk: self.disk })
+        Ok(Opened {
+            disk: self.disk,
+            power: self.power,
+        })
     }
 
     fn make(&self, path: &str) -> Result<Opened<'a>, FileFault> {
@@ -259,11 +280,14 @@ impl<'a> HostFiles<Opened<'a>> for OneDisk<'a> {
         if self.disk.is_there.replace(true) {
             return Err(FileFault::Exists);
         }
-        Ok(Opened { disk: self.disk })
+        Ok(Opened {
+            disk: self.disk,
+            power: self.power,
+        })
     }
 
     fn keep_name(&self, _path: &str) -> Result<(), HostFault> {
-        let (_, outcome) = self.disk.next(0);
+        let (_, outcome) = self.power.next(0);
         outcome
     }
 }
@@ -299,7 +323,7 @@ fn saves_are_stopped(
     input: &[u8],
 ) -> Result<(), Fail> {
     let disk = Disk::new(rt)?;
-    let files = OneDisk { disk: &disk };
+    let files = OneDisk::new(&disk);
     make_over(rt, &files);
     let made = disk.copy(rt)?;
     disk.begin(u64::MAX);
@@ -343,7 +367,7 @@ fn recovery_is_stopped(
 #[test]
 fn makings_that_are_stopped(rt: HostRuntime) -> Result<(), Fail> {
     let disk = Disk::new(&rt)?;
-    make_over(&rt, &OneDisk { disk: &disk });
+    make_over(&rt, &OneDisk::new(&disk));
     let calls = disk.made.get();
     for k in (0..calls).rev().step_by(16) {
         for fate in FATES {
@@ -362,7 +386,7 @@ fn making_is_stopped(
     fate: Fate,
 ) -> Result<(), Fail> {
     let disk = Disk::new(rt)?;
-    let files = OneDisk { disk: &disk };
+    let files = OneDisk::new(&disk);
     disk.begin(k);
     let left = call_over(rt, &files, &["forth83", "new", "A", "--blocks", "32"], b"");
     assert_eq!(rt; left.status, 3, "at {k}");

@@ -72,6 +72,22 @@ pub(crate) fn call_over<H: HostFile + Drop, O: HostFiles<H>>(
     words: &[&str],
     input: &[u8],
 ) -> Left {
+    call_over_both(rt, files, files, words, input)
+}
+
+/// The same where the files that are opened for reading alone are those of another system.
+pub(crate) fn call_over_both<
+    H: HostFile + Drop,
+    O: HostFiles<H>,
+    K: HostFile + Drop,
+    P: HostFiles<K>,
+>(
+    rt: &(impl Files<File = File> + AllocGlobal),
+    files: &O,
+    looking: &P,
+    words: &[&str],
+    input: &[u8],
+) -> Left {
     let mut input = input;
     let mut output: Vec<u8> = Vec::new(rt.alloc());
     let mut errors: Vec<u8> = Vec::new(rt.alloc());
@@ -89,7 +105,7 @@ pub(crate) fn call_over<H: HostFile + Drop, O: HostFiles<H>>(
     >(
         rt,
         files,
-        files,
+        looking,
         words,
         &mut input,
         &mut output,

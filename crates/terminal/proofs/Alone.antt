@@ -12,7 +12,7 @@ use Rattle.clap.proofs.FaultLemmas.{stopped_fault}
 use Rattle.clap.proofs.WalkLemmas.{walk_stopped}
 use Rattle.clap.proofs.OnLiterals.{clap_on_literals}
 use Rattle.std.specs.Prelude.{codes, slice_index_or}
-use Rattle.terminal.specs.Commands.{ReadsAs, SufficesFor, program, forth83, new_app_of, run_app, list_app, put_app, export_app, import_app, check_app, upgrade_app}
+use Rattle.terminal.specs.Commands.{ReadsAs, SufficesFor, program, forth83, new_app_of, run_app, list_app, put_app, export_app, import_app, check_app, upgrade_app, copy_app, salvage_app}
 
 -- a walk that has met this command
 abbrev pub met_at : Text → List Text → Walk
@@ -109,6 +109,20 @@ pub upgrade_alone : SufficesFor (with_subcommand program upgrade_app.top) (codes
 unfolding clap_on_literals
 upgrade_alone first rest =
     let both = alike (with_subcommand program upgrade_app.top) forth83 (codes "upgrade") _ (record { met = refl; found = refl; quiet = refl; left = λ rest. refl })
+    (record { met = refl; found = refl; quiet = refl; left = λ rest. refl }) rest in
+    record { simple = refl; free = refl; subcommand = both.0; fault = both.1 }
+
+pub copy_alone : SufficesFor (with_subcommand program copy_app.top) (codes "copy")
+unfolding clap_on_literals
+copy_alone first rest =
+    let both = alike (with_subcommand program copy_app.top) forth83 (codes "copy") _ (record { met = refl; found = refl; quiet = refl; left = λ rest. refl })
+    (record { met = refl; found = refl; quiet = refl; left = λ rest. refl }) rest in
+    record { simple = refl; free = refl; subcommand = both.0; fault = both.1 }
+
+pub salvage_alone : SufficesFor (with_subcommand program salvage_app.top) (codes "salvage")
+unfolding clap_on_literals
+salvage_alone first rest =
+    let both = alike (with_subcommand program salvage_app.top) forth83 (codes "salvage") _ (record { met = refl; found = refl; quiet = refl; left = λ rest. refl })
     (record { met = refl; found = refl; quiet = refl; left = λ rest. refl }) rest in
     record { simple = refl; free = refl; subcommand = both.0; fault = both.1 }
 

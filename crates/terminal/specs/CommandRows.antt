@@ -21,6 +21,16 @@ abbrev pub read_images : List Text → Option (Text × Option Text × Option Tex
 read_images words = option_map (λ given. (given.0, first_of (codes "OLD") given.1, first_of (codes "NEW") given.1))
     (subcommand_of forth83 (codes "forth83" ∷ words))
 
+-- the same, and how many blocks are asked for
+abbrev pub read_copy : List Text → Option (Text × Option Text × Option Text × Option Text)
+read_copy words = option_map (λ given. (
+  given.0,
+  first_of (codes "OLD") given.1,
+  first_of (codes "NEW") given.1,
+  one_of (codes "blocks") given.1,
+))
+    (subcommand_of forth83 (codes "forth83" ∷ words))
+
 -- the name of the command, the texts under the image and the file, the numbers of the first block and the last, and the flag
 abbrev pub read_many : List Text → Option (Text × Option Text × Option Text × Option Text × Option Text × Option Text)
 read_many words = option_map (λ given. (
@@ -98,6 +108,21 @@ pub record CommandsAreRead : Type 0 where
   pub upgrades : read_images (codes "upgrade" ∷ codes "A" ∷ codes "B" ∷ []) ≡ Some (codes "upgrade", Some (codes "A"), Some (codes "B"))
   pub upgrades_fits : refused (codes "upgrade" ∷ codes "A" ∷ codes "B" ∷ []) ≡ []
   pub no_new_image : refused (codes "upgrade" ∷ codes "A" ∷ []) ≡ kind.MissingRequiredArgument ∷ []
+  pub copies : read_copy (codes "copy" ∷ codes "A" ∷ codes "B" ∷ []) ≡ Some (codes "copy", Some (codes "A"), Some (codes "B"), None)
+  pub copies_fits : refused (codes "copy" ∷ codes "A" ∷ codes "B" ∷ []) ≡ []
+  pub copies_more : read_copy (codes "copy" ∷ codes "A" ∷ codes "B" ∷ codes "--blocks" ∷ codes "64" ∷ [])
+      ≡ Some (codes "copy", Some (codes "A"), Some (codes "B"), Some (codes "64"))
+  pub copies_more_fits : refused (codes "copy" ∷ codes "--blocks=3840" ∷ codes "A" ∷ codes "B" ∷ []) ≡ []
+  pub copies_few : refused (codes "copy" ∷ codes "A" ∷ codes "B" ∷ codes "--blocks=31" ∷ []) ≡ kind.ValueValidation ∷ []
+  pub copies_many : refused (codes "copy" ∷ codes "A" ∷ codes "B" ∷ codes "--blocks=3841" ∷ []) ≡ kind.ValueValidation ∷ []
+  pub copies_nowhere : refused (codes "copy" ∷ codes "A" ∷ []) ≡ kind.MissingRequiredArgument ∷ []
+  pub salvages : read_copy (codes "salvage" ∷ codes "A" ∷ codes "B" ∷ [])
+      ≡ Some (codes "salvage", Some (codes "A"), Some (codes "B"), None)
+  pub salvages_fits : refused (codes "salvage" ∷ codes "A" ∷ codes "B" ∷ []) ≡ []
+  pub salvages_stated : read_copy (codes "salvage" ∷ codes "--blocks" ∷ codes "32" ∷ codes "A" ∷ codes "B" ∷ [])
+      ≡ Some (codes "salvage", Some (codes "A"), Some (codes "B"), Some (codes "32"))
+  pub salvages_few : refused (codes "salvage" ∷ codes "A" ∷ codes "B" ∷ codes "--blocks=31" ∷ []) ≡ kind.ValueValidation ∷ []
+  pub salvages_nowhere : refused (codes "salvage" ∷ codes "A" ∷ []) ≡ kind.MissingRequiredArgument ∷ []
   pub unknown : refused (codes "--steps" ∷ codes "5" ∷ []) ≡ kind.UnknownArgument ∷ []
   pub help : refused (codes "--help" ∷ []) ≡ kind.DisplayHelp ∷ []
   pub version : refused (codes "--version" ∷ []) ≡ kind.DisplayVersion ∷ []

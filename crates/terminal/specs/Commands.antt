@@ -7,7 +7,7 @@ use Rattle.clap.specs.declared.builder.value_parser.ValueParser.TheVariants as v
 use Rattle.terminal.specs.declared.orders.Form.{Form}
 use Rattle.terminal.specs.declared.orders.Form.TheVariants.{Text as Lines, Raw}
 use Rattle.terminal.specs.declared.orders.Order.{Order}
-use Rattle.terminal.specs.declared.orders.Order.TheVariants.{Memory, New, Run, Trace, List as ListBlock, Put, Export, Import, CheckImport, Check, Upgrade}
+use Rattle.terminal.specs.declared.orders.Order.TheVariants.{Memory, New, Run, Trace, List as ListBlock, Put, Export, Import, CheckImport, Check, Upgrade, Copy, Salvage}
 
 -- an argument that has to be there
 abbrev pub wanted : Text → Rule
@@ -58,6 +58,15 @@ blocks = record (wanted (codes "blocks")) {
   parser = Some (vp.Signed (pos 32) (pos 3840));
 }
 
+-- the same, where it may be left out
+abbrev pub asked_blocks : Rule
+asked_blocks = record (new_rule (codes "blocks")) {
+  long = Some (codes "blocks");
+  value_names = 1;
+  action = Some Set;
+  parser = Some (vp.Signed (pos 32) (pos 3840));
+}
+
 abbrev pub steps : Rule
 steps = record (new_rule (codes "steps")) {
   long = Some (codes "steps");
@@ -94,6 +103,12 @@ check_app = with_rule (new_app (codes "check")) image
 abbrev pub upgrade_app : App
 upgrade_app = with_rule (with_rule (new_app (codes "upgrade")) old_image) new_image
 
+abbrev pub copy_app : App
+copy_app = with_rule (with_rule (with_rule (new_app (codes "copy")) old_image) new_image) asked_blocks
+
+abbrev pub salvage_app : App
+salvage_app = with_rule (with_rule (with_rule (new_app (codes "salvage")) old_image) new_image) asked_blocks
+
 -- a program that tells its version
 abbrev pub with_version : App → App
 with_version app = record app { top = record app.top { has_version = true } }
@@ -107,9 +122,13 @@ over_blocks app =
 abbrev pub program : App
 program = with_version (new_app (codes "forth83"))
 
--- the program with its eight commands
+-- the commands that make an image of another one
+abbrev pub making : App → App
+making app = with_subcommand (with_subcommand (with_subcommand app upgrade_app.top) copy_app.top) salvage_app.top
+
+-- the program with its ten commands
 abbrev pub forth83 : App
-forth83 = with_subcommand (with_subcommand (over_blocks (with_subcommand (with_subcommand program new_app_of.top) run_app.top)) check_app.top) upgrade_app.top
+forth83 = making (with_subcommand (over_blocks (with_subcommand (with_subcommand program new_app_of.top) run_app.top)) check_app.top)
 
 -- One program makes of the words what the other does, by simple rules.
 pub record ReadsAs (a b : App) (words : List Text) : Type 0 where
@@ -130,6 +149,11 @@ HasText rows id text = first_of id rows ≡ Some text
 abbrev pub HasNumber : List Row → Text → ℕ → Type 0
 HasNumber rows id n = (text : Text) × (one_of id rows ≡ Some text) × IsNumeral 10 (without_leading_plus text)
     × (n ≡ digits_value 10 (without_leading_plus text))
+
+-- the number of blocks that was given, or that none was
+abbrev pub HasBlocks : List Row → Option ℕ → Type 0
+HasBlocks rows None = first_of (codes "blocks") rows ≡ None
+HasBlocks rows (Some n) = HasNumber rows (codes "blocks") n
 
 -- the form that the flag `--raw` gives
 abbrev pub HasForm : List Row → Form → Type 0
@@ -165,15 +189,26 @@ Orders (Some given) (CheckImport path first source form) = (given.0 ≡ codes "i
 Orders (Some given) (Check path) = (given.0 ≡ codes "check") × HasText given.1 (codes "IMAGE") path.now
 Orders (Some given) (Upgrade old new) = (given.0 ≡ codes "upgrade") × HasText given.1 (codes "OLD") old.now
     × HasText given.1 (codes "NEW") new.now
+Orders (Some given) (Copy old new asked) = (given.0 ≡ codes "copy") × HasText given.1 (codes "OLD") old.now
+    × HasText given.1 (codes "NEW") new.now × HasBlocks given.1 asked
+Orders (Some given) (Salvage old new asked) = (given.0 ≡ codes "salvage") × HasText given.1 (codes "OLD") old.now
+    × HasText given.1 (codes "NEW") new.now × HasBlocks given.1 asked
 Orders _ _ = ⊥
 
 -- the words give the order
 abbrev pub IsOrderOf : List Text → Order → Type 0
 IsOrderOf words order = Orders (subcommand_of forth83 words) order
 
+-- an image may have so many blocks, where a number is given
+abbrev pub AreInRange : Option ℕ → Type 0
+AreInRange None = ⊤
+AreInRange (Some n) = (32 ≤ n) × (n ≤ 3840)
+
 -- its numbers lie in their ranges
 abbrev pub IsInRange : Order → Type 0
 IsInRange (New path n) = (32 ≤ n) × (n ≤ 3840)
 IsInRange (Run path n) = (1 ≤ n) × (n ≤ 1000000000)
 IsInRange (Trace path n) = (1 ≤ n) × (n ≤ 1000000000)
+IsInRange (Copy old new asked) = AreInRange asked
+IsInRange (Salvage old new asked) = AreInRange asked
 IsInRange order = ⊤

@@ -1,7 +1,6 @@
 -- What a command over images does, on any device: from the device that it opens or makes to what that has become.
-use Rattle.std.specs.Prelude.{◌≡◌, ◌⊎◌, ◌+◌, ◌-◌, ◌*◌, ◌<◌, ◌≤◌, ℕ, false, IsTrue, List, length, Option, Some, None, ⊤}
+use Rattle.std.specs.Prelude.{◌≡◌, ◌⊎◌, ◌+◌, ◌-◌, ◌*◌, ◌<◌, ◌≤◌, ℕ, false, IsTrue, List, length, Option, Some, None}
 use Rattle.std.specs.Io.KnownBytes.{Appends}
-use Rattle.clap.specs.Words.{Text}
 use Rattle.sector_disk.specs.Disk.{Image, MayLeave}
 use Rattle.sector_disk.specs.declared.device.SectorDevice.{Ghosts}
 use Rattle.journal.specs.Calls.{BeginsAtMost, ReadsAtMost, StopsLeave}
@@ -17,9 +16,6 @@ use Rattle.interpreter.specs.State.{Forth}
 use Rattle.interpreter.specs.Lines.{new_forth}
 use Rattle.interpreter.specs.Promise.{Keeps}
 use Rattle.terminal.specs.declared.orders.Form.{Form}
-use Rattle.terminal.specs.declared.orders.Order.{Order}
-use Rattle.terminal.specs.declared.orders.Order.TheVariants.{Memory, New, Run, Trace, List as ListBlock, Put, Export, Import, CheckImport, Check, Upgrade}
-use Rattle.terminal.specs.Commands.{IsOrderOf}
 use Rattle.terminal.specs.Findings.{blocks_for, refusal, said, told}
 use Rattle.terminal.specs.Screen.{listing, screen_of}
 use Rattle.terminal.specs.Transfer.{as_blocks, exports, spilled_from}
@@ -178,31 +174,3 @@ module _ {D : Type 0} (G : Ghosts D) where
 
   abbrev pub UpgradeDone : (opened : D → Type 0) (made : ℕ → D → Type 0) → Type 0
   UpgradeDone opened made = (source' : D) × (after : D) × Upgraded opened made source' after
-
-  -- The order was done, on devices that were opened and made under its names. Of an image that is opened for reading alone
-  -- `checked` says what was done.
-  abbrev pub IsDone : (opened : List ℕ → D → Type 0) (made : List ℕ → ℕ → D → Type 0)
-      (checked : List ℕ → (written written' : Option (List ℕ)) → Type 0) → Order
-      → (left left' written written' : Option (List ℕ)) → Type 0
-  IsDone opened made checked Memory left left' written written' = ⊤
-  IsDone opened made checked (New path n) left left' written written' = DoneOn (made path.now (sectors_for n)) (MakesBlank n)
-  IsDone opened made checked (Run path steps) left left' written written' =
-      DoneOn (opened path.now) (RunsSession steps left left' written written')
-  IsDone opened made checked (Trace path steps) left left' written written' =
-      DoneOn (opened path.now) (RunsSession steps left left' written written')
-  IsDone opened made checked (ListBlock path b) left left' written written' = DoneOn (opened path.now) (ListsBlock b written written')
-  IsDone opened made checked (Put path b text) left left' written written' = DoneOn (opened path.now) (PutsBlock b)
-  IsDone opened made checked (Export path first last form) left left' written written' =
-      DoneOn (opened path.now) (Exports form first last written written')
-  IsDone opened made checked (Import path first source form) left left' written written' =
-      DoneOn (opened path.now) (ImportsBlocks form first)
-  IsDone opened made checked (CheckImport path first source form) left left' written written' =
-      DoneOn (opened path.now) (LooksAt form first)
-  IsDone opened made checked (Check path) left left' written written' = checked path.now written written'
-  IsDone opened made checked (Upgrade old new) left left' written written' = UpgradeDone (opened old.now) (made new.now)
-
-  -- What the words order was done.
-  abbrev pub OrderIsDone : (words : List Text) (opened : List ℕ → D → Type 0) (made : List ℕ → ℕ → D → Type 0)
-      (checked : List ℕ → (written written' : Option (List ℕ)) → Type 0) → (left left' written written' : Option (List ℕ)) → Type 0
-  OrderIsDone words opened made checked left left' written written' =
-      (order : Order) × IsOrderOf words order × IsDone opened made checked order left left' written written'

@@ -5,6 +5,8 @@ pub mod CommandRows
 pub mod InMemory
 pub mod Failures
 pub mod Done
+pub mod Copying
+pub mod Ordered
 pub mod Files
 pub mod Putting
 pub mod Transfer

@@ -82,7 +82,8 @@ fn print_report<W: Write>(alloc: Global, found: &Examined, output: &mut W) -> Re
     }
 }
 
-fn print<W: Write>(text: &[u8], output: &mut W) -> Result<(), Failure>
+/// Writes all bytes, and passes them on.
+pub(super) fn print<W: Write>(text: &[u8], output: &mut W) -> Result<(), Failure>
     ensures ok { OnOk result (Appends (W.contents output.old) (W.contents output.new) text.now) }
     ensures only { IfErr result (λ e. e ≡ Failure.CannotWrite) }
 {

@@ -7,6 +7,7 @@ pub use reading::order;
 pub use starting::start;
 
 mod checking;
+mod copying;
 mod exporting;
 mod failure;
 mod files;

@@ -34,4 +34,8 @@ pub enum Order<'a> {
     Check(&'a str),
     /// Make an image of layout 2 of the blocks of one of layout 1.
     Upgrade(&'a str, &'a str),
+    /// Make an image of the blocks of another one, of so many blocks or of as many.
+    Copy(&'a str, &'a str, Option<u16>),
+    /// Make an image of what can be had of a damaged one, which is to have so many blocks.
+    Salvage(&'a str, &'a str, Option<u16>),
 }

@@ -8,8 +8,8 @@ ghost use Rattle.interpreter.specs.State.{Forth as Abstract};
 ghost use Rattle.interpreter.specs.Lines.{new_forth};
 ghost use Rattle.sessions.specs.declared.run_fault.RunFault.{RunFault as AbstractFault};
 ghost use Rattle.terminal.specs.Commands.{IsInRange, forth83};
-ghost use Rattle.terminal.specs.Checked.{Checks};
-ghost use Rattle.terminal.specs.Done.{DoneOn, IsDone, OrderIsDone, RunsFrom};
+ghost use Rattle.terminal.specs.Done.{RunsFrom};
+ghost use Rattle.terminal.specs.Ordered.{IsDone, OrderIsDone};
 ghost use Rattle.sessions.specs.Devices.{Becomes};
 ghost use Rattle.terminal.specs.Failures.{status_of};
 ghost use Rattle.terminal.specs.Files.{IsMade, IsOpened};
@@ -17,6 +17,7 @@ ghost use Rattle.terminal.specs.InMemory.{AsksForNothing, IsForMemory, Completes
 ghost use Rattle.sessions.specs.Sessions.{BreaksOff};
 
 use super::checking::check_image;
+use super::copying::{copy_image, salvage_image};
 use super::failure::Failure;
 use super::files::{
     check_import, export_image, import_image, list_image, make_image, put_into_image, run_image,
@@ -95,10 +96,9 @@ pub fn command_over<
     // Of words that are refused nothing, status 0 comes only where what they order was done: a command over an image on the
     // file that the system opened, or made, under that name.
     ensures done { fault_of forth83 (map S.text words.now) ≡ [] → result ≡ 0
-        → OrderIsDone ⟦<SectorFile<H> as SectorDevice>⟧ (map S.text words.now)
+        → OrderIsDone ⟦<SectorFile<H> as SectorDevice>⟧ ⟦<SectorFile<K> as SectorDevice>⟧ (map S.text words.now)
         (λ path. IsOpened H.HostFile (O.opens files.now path)) (λ path. IsMade H.HostFile (O.makes files.now path))
-        (λ path written written'. DoneOn ⟦<SectorFile<K> as SectorDevice>⟧ (IsOpened K.HostFile (P.opens looking.now path))
-        (Checks ⟦<SectorFile<K> as SectorDevice>⟧ written written'))
+        (λ path. IsOpened K.HostFile (P.opens looking.now path))
         (R.remaining input.old) (R.remaining input.new) (W.contents output.old) (W.contents output.new) }
 {
     match order(rt.alloc(), words) {
@@ -138,10 +138,9 @@ fn perform<
     ensures broken { IsForMemory asked.entry
         → IfErr result (λ e. e ≢ Failure.NoMemory → BreaksInMemory ⟦<MemoryDisk as SectorDevice>⟧
         (R.remaining input.old) (R.remaining input.new) (W.contents output.old) (W.contents output.new)) }
-    ensures done { OnOk result (IsDone ⟦<SectorFile<H> as SectorDevice>⟧
+    ensures done { OnOk result (IsDone ⟦<SectorFile<H> as SectorDevice>⟧ ⟦<SectorFile<K> as SectorDevice>⟧
         (λ path. IsOpened H.HostFile (O.opens files.now path)) (λ path. IsMade H.HostFile (O.makes files.now path))
-        (λ path written written'. DoneOn ⟦<SectorFile<K> as SectorDevice>⟧ (IsOpened K.HostFile (P.opens looking.now path))
-        (Checks ⟦<SectorFile<K> as SectorDevice>⟧ written written')) asked.entry
+        (λ path. IsOpened K.HostFile (P.opens looking.now path)) asked.entry
         (R.remaining input.old) (R.remaining input.new) (W.contents output.old) (W.contents output.new)) }
 {
     match asked {
@@ -180,6 +179,12 @@ fn perform<
         )),
         Order::Check(path) => closed(check_image::<K, P, W>(rt.alloc(), looking, path, output)),
         Order::Upgrade(old, new) => closed(upgrade_image::<H, O>(files, old, new)),
+        Order::Copy(old, new, asked) => {
+            closed(copy_image::<K, P, H, O>(looking, files, old, new, asked))
+        }
+        Order::Salvage(old, new, asked) => closed(salvage_image::<K, P, H, O, W>(
+            looking, files, old, new, asked, output,
+        )),
     }
 }
 

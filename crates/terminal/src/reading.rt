@@ -3,6 +3,7 @@ ghost use Rattle.std.specs.Prelude.{◌≡◌, ◌≤◌, ℕ, List, false, Some
 ghost use Rattle.clap.specs.Words.{FailsBy, app_of, fault_of, found_of, rows_of, rule_of, with_subcommand};
 ghost use Rattle.clap.specs.declared.builder.command.Command.TheViews.{out-Command};
 ghost use Rattle.terminal.specs.Commands.{image, old_image, new_image, block, first_block, last_block, file, raw, check, trace, blocks, steps, new_app_of, run_app, list_app, put_app, export_app, import_app, import_without_flags, check_app, upgrade_app, program, forth83, over_blocks, ReadsAs, SufficesFor, HasForm, HasNumber, HasText, Orders, IsOrderOf, IsInRange};
+ghost use Rattle.terminal.specs.Commands.{asked_blocks, copy_app, salvage_app, making, HasBlocks, AreInRange};
 
 use super::orders::{Form, Order};
 use clap::{Arg, ArgAction, ArgMatches, Command, Error};
@@ -39,8 +40,30 @@ fn order_of<'a>(name: &str, given: &ArgMatches<'a>) -> Option<Order<'a>>
 {
     match name {
         "upgrade" => Some(Order::Upgrade(given.get_str("OLD")?, given.get_str("NEW")?)),
+        "copy" => order_of_copy(given),
+        "salvage" => order_of_salvage(given),
         _ => order_over_image(name, given),
     }
+}
+
+/// The order of a copy.
+fn order_of_copy<'a>(given: &ArgMatches<'a>) -> Option<Order<'a>>
+    ensures given { IfSome result (λ o. Orders (Some (codes "copy", rows_of (found_of given.now))) o) }
+    ensures ranges { IfSome result (λ o. IsInRange o) }
+{
+    let old = given.get_str("OLD")?;
+    let new = given.get_str("NEW")?;
+    Some(Order::Copy(old, new, asked_blocks_of(given)?))
+}
+
+/// The order of a salvage.
+fn order_of_salvage<'a>(given: &ArgMatches<'a>) -> Option<Order<'a>>
+    ensures given { IfSome result (λ o. Orders (Some (codes "salvage", rows_of (found_of given.now))) o) }
+    ensures ranges { IfSome result (λ o. IsInRange o) }
+{
+    let old = given.get_str("OLD")?;
+    let new = given.get_str("NEW")?;
+    Some(Order::Salvage(old, new, asked_blocks_of(given)?))
 }
 
 /// The order of a command over one image.
@@ -120,6 +143,17 @@ fn blocks_of(given: &ArgMatches<'_>) -> Option<u16>
     }
 }
 
+/// The number of blocks, where one is given.
+fn asked_blocks_of(given: &ArgMatches<'_>) -> Option<Option<u16>>
+    ensures given { IfSome result (λ asked. HasBlocks (rows_of (found_of given.now)) asked) }
+    ensures ranges { IfSome result (λ asked. AreInRange asked) }
+{
+    match given.get_str("blocks") {
+        Some(_) => Some(Some(blocks_of(given)?)),
+        None => Some(None),
+    }
+}
+
 fn steps_of(given: &ArgMatches<'_>) -> Option<u32>
     ensures number { IfSome result (λ n. HasNumber (rows_of (found_of given.now)) (codes "steps") n) }
     ensures many { IfSome result (λ n. 1 ≤ n) }
@@ -165,6 +199,16 @@ fn old_argument<'a>(alloc: Global) -> Arg<'a>
         .required(true)
         .action(ArgAction::Set)
         .help("The file of an image of layout 1")
+}
+
+fn source_image_argument<'a>(alloc: Global) -> Arg<'a>
+    ensures rule { rule_of result ≡ old_image }
+    ensures local { result.global ≡ false }
+{
+    Arg::new(alloc, "OLD")
+        .required(true)
+        .action(ArgAction::Set)
+        .help("The file of an image, which is only read")
 }
 
 fn new_argument<'a>(alloc: Global) -> Arg<'a>
@@ -241,6 +285,19 @@ fn blocks_option<'a>(alloc: Global) -> Arg<'a>
         .action(ArgAction::Set)
         .value_parser(clap::value_parser!(u16).range(32..=3840))
         .help("How many blocks the image has, 32 to 3840")
+}
+
+/// `--blocks` where it may be left out.
+fn asked_blocks_option<'a>(alloc: Global, help: &'a str) -> Arg<'a>
+    ensures rule { rule_of result ≡ asked_blocks }
+    ensures local { result.global ≡ false }
+{
+    Arg::new(alloc, "blocks")
+        .long("blocks")
+        .value_name("N")
+        .action(ArgAction::Set)
+        .value_parser(clap::value_parser!(u16).range(32..=3840))
+        .help(help)
 }
 
 fn steps_option<'a>(alloc: Global) -> Arg<'a>
@@ -380,6 +437,36 @@ fn upgrade_command<'a>(alloc: Global) -> Result<Command<'a>, AllocError>
         .arg(new_argument(alloc))
 }
 
+fn copy_command<'a>(alloc: Global) -> Result<Command<'a>, AllocError>
+    ensures app { IfOk result (λ c. app_of c ≡ copy_app) }
+    ensures local { IfOk result (λ c. (out-Command c).has_globals ≡ false) }
+{
+    Command::new(alloc, "copy")
+        .about("Make an image, in a new file, of the blocks of another one")
+        .arg(source_image_argument(alloc))?
+        .arg(new_argument(alloc))?
+        .arg(asked_blocks_option(
+            alloc,
+            "How many blocks the new image has, as many as OLD to 3840; without it as many as OLD",
+        ))
+}
+
+fn salvage_command<'a>(alloc: Global) -> Result<Command<'a>, AllocError>
+    ensures app { IfOk result (λ c. app_of c ≡ salvage_app) }
+    ensures local { IfOk result (λ c. (out-Command c).has_globals ≡ false) }
+{
+    Command::new(alloc, "salvage")
+        .about(
+            "Make an image, in a new file, of what can be had of a damaged one. This is no recovery",
+        )
+        .arg(source_image_argument(alloc))?
+        .arg(new_argument(alloc))?
+        .arg(asked_blocks_option(
+            alloc,
+            "How many blocks OLD has: it is refused if it has not so many",
+        ))
+}
+
 /// The program with the commands that these words may be for: only one, where the second word is its name. Each command
 /// that is made costs a start time, and none but that one is asked then.
 fn command_for<'a, S: AsStr>(alloc: Global, words: &[S]) -> Result<Command<'a>, AllocError>
@@ -404,6 +491,8 @@ fn command_named<'a>(alloc: Global, name: &str) -> Result<Command<'a>, AllocErro
         "import" => alone(alloc, import_command(alloc)?),
         "check" => alone(alloc, check_command(alloc)?),
         "upgrade" => alone(alloc, upgrade_command(alloc)?),
+        "copy" => alone(alloc, copy_command(alloc)?),
+        "salvage" => alone(alloc, salvage_command(alloc)?),
         _ => forth83(alloc),
     }
 }
@@ -428,6 +517,17 @@ fn with_blocks<'a>(alloc: Global, command: Command<'a>) -> Result<Command<'a>, A
         .subcommand(import_command(alloc)?)
 }
 
+/// Adds the commands that make an image of another one.
+fn with_makers<'a>(alloc: Global, command: Command<'a>) -> Result<Command<'a>, AllocError>
+    ensures app { IfOk result (λ c. app_of c ≡ making (app_of command.entry)) }
+    ensures local { (out-Command command.entry).has_globals ≡ false → IfOk result (λ c. (out-Command c).has_globals ≡ false) }
+{
+    command
+        .subcommand(upgrade_command(alloc)?)?
+        .subcommand(copy_command(alloc)?)?
+        .subcommand(salvage_command(alloc)?)
+}
+
 fn forth83<'a>(alloc: Global) -> Result<Command<'a>, AllocError>
     ensures app { IfOk result (λ c. app_of c ≡ forth83) }
     ensures local { IfOk result (λ c. (out-Command c).has_globals ≡ false) }
@@ -435,9 +535,8 @@ fn forth83<'a>(alloc: Global) -> Result<Command<'a>, AllocError>
     let command = program(alloc)
         .subcommand(new_command(alloc)?)?
         .subcommand(run_command(alloc)?)?;
-    with_blocks(alloc, command)?
-        .subcommand(check_command(alloc)?)?
-        .subcommand(upgrade_command(alloc)?)
+    let command = with_blocks(alloc, command)?.subcommand(check_command(alloc)?)?;
+    with_makers(alloc, command)
 }
 
 /// The program without a command.

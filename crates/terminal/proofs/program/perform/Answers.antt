@@ -41,3 +41,11 @@ returns-in-CheckImport-clause-done g c =
 pub returns-in-Check-clause-done : goal.returns-in-Check-clause-done
 returns-in-Check-clause-done g c =
     rw c.in-Check.is (done_of c.check_image.result c.closed-in-Check.result c.closed-in-Check.ensures _ _ (λ disk checked. (disk, checked)) c.check_image.ensures.checked)
+
+pub returns-in-Copy-clause-done : goal.returns-in-Copy-clause-done
+returns-in-Copy-clause-done g c =
+    rw c.in-Copy.is (done_of c.copy_image.result c.closed-in-Copy.result c.closed-in-Copy.ensures _ _ (λ both made. (both.0, both.1, made)) c.copy_image.ensures.made)
+
+pub returns-in-Salvage-clause-done : goal.returns-in-Salvage-clause-done
+returns-in-Salvage-clause-done g c =
+    rw c.in-Salvage.is (done_of c.salvage_image.result c.closed-in-Salvage.result c.closed-in-Salvage.ensures _ _ (λ both made. (both.0, both.1, made)) c.salvage_image.ensures.made)

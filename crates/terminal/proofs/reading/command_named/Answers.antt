@@ -2,8 +2,8 @@ use Rattle.std.proofs.Common.{◌≡◌, ◌∙◌, ap, rules}
 use Rattle.std.specs.Prelude.{codes}
 use Rattle.std.proofs.lemmas.Result.{IfOk-weaker}
 use Rattle.clap.specs.Words.{App, app_of, with_subcommand}
-use Rattle.terminal.specs.Commands.{program, new_app_of, run_app, list_app, put_app, export_app, import_app, check_app, upgrade_app}
-use Rattle.terminal.proofs.Alone.{all_suffice, named, new_alone, run_alone, list_alone, put_alone, export_alone, import_alone, check_alone, upgrade_alone}
+use Rattle.terminal.specs.Commands.{program, new_app_of, run_app, list_app, put_app, export_app, import_app, check_app, upgrade_app, copy_app, salvage_app}
+use Rattle.terminal.proofs.Alone.{all_suffice, named, new_alone, run_alone, list_alone, put_alone, export_alone, import_alone, check_alone, upgrade_alone, copy_alone, salvage_alone}
 use Rattle.terminal.proofs.reading.command_named.Goals as goal
 
 pub returns-in_ok-new_command-in-new : goal.returns-in_ok-new_command-in-new
@@ -53,6 +53,18 @@ returns-in_ok-upgrade_command-in-upgrade c =
     let is : c.args.name.now ≡ codes "upgrade" = search rules in
     IfOk-weaker c.alone-in-upgrade.result _ _ (λ command made. named c.args.name.now (codes "upgrade") (app_of command) (with_subcommand program upgrade_app.top) is
     (made ∙ ap (λ (a : App). with_subcommand program a.top) c.in_ok-upgrade_command-in-upgrade.ensures.app) upgrade_alone) c.alone-in-upgrade.ensures
+
+pub returns-in_ok-copy_command-in-copy : goal.returns-in_ok-copy_command-in-copy
+returns-in_ok-copy_command-in-copy c =
+    let is : c.args.name.now ≡ codes "copy" = search rules in
+    IfOk-weaker c.alone-in-copy.result _ _ (λ command made. named c.args.name.now (codes "copy") (app_of command) (with_subcommand program copy_app.top) is
+    (made ∙ ap (λ (a : App). with_subcommand program a.top) c.in_ok-copy_command-in-copy.ensures.app) copy_alone) c.alone-in-copy.ensures
+
+pub returns-in_ok-salvage_command-in-salvage : goal.returns-in_ok-salvage_command-in-salvage
+returns-in_ok-salvage_command-in-salvage c =
+    let is : c.args.name.now ≡ codes "salvage" = search rules in
+    IfOk-weaker c.alone-in-salvage.result _ _ (λ command made. named c.args.name.now (codes "salvage") (app_of command) (with_subcommand program salvage_app.top) is
+    (made ∙ ap (λ (a : App). with_subcommand program a.top) c.in_ok-salvage_command-in-salvage.ensures.app) salvage_alone) c.alone-in-salvage.ensures
 
 pub returns-in_default : goal.returns-in_default
 returns-in_default c = IfOk-weaker c.forth83.result _ _ (λ command same. all_suffice c.args.name.now (app_of command) same) c.forth83.ensures.app

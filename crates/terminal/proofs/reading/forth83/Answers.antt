@@ -2,7 +2,7 @@ use Rattle.std.proofs.Common.{◌≡◌, ◌∙◌, ◌||◌, false, ap, ap₂}
 use Rattle.std.proofs.lemmas.Result.{IfOk-weaker}
 use Rattle.clap.specs.Words.{App, app_of, with_subcommand}
 use Rattle.clap.specs.declared.builder.command.Command.TheViews.{out-Command}
-use Rattle.terminal.specs.Commands.{over_blocks, program, new_app_of, run_app, check_app}
+use Rattle.terminal.specs.Commands.{making, over_blocks, program, new_app_of, run_app, check_app}
 use Rattle.terminal.proofs.reading.forth83.Goals as goal
 
 pub returns-clause-app : goal.returns-clause-app
@@ -12,11 +12,10 @@ returns-clause-app c =
     let two : app_of c.in_ok-command.command ≡ with_subcommand (with_subcommand program new_app_of.top) run_app.top =
     c.in_ok-command.ensures.shape c.in_ok-run_command.ensures.local ∙ ap₂ with_subcommand one (ap (λ (a : App). a.top) c.in_ok-run_command.ensures.app) in
     let blocks = c.in_ok-with_blocks.ensures.app ∙ ap over_blocks two in
-    let more : app_of c.in_ok-subcommand-2.field-0
+    let more : app_of c.in_ok-command-2.command
     ≡ with_subcommand (over_blocks (with_subcommand (with_subcommand program new_app_of.top) run_app.top)) check_app.top =
-    c.in_ok-subcommand-2.ensures.shape c.in_ok-check_command.ensures.local ∙ ap₂ with_subcommand blocks (ap (λ (a : App). a.top) c.in_ok-check_command.ensures.app) in
-    IfOk-weaker c.subcommand-4.result _ _ (λ command added. added.shape c.in_ok-upgrade_command.ensures.local
-    ∙ ap₂ with_subcommand more (ap (λ (a : App). a.top) c.in_ok-upgrade_command.ensures.app)) c.subcommand-4.ensures
+    c.in_ok-command-2.ensures.shape c.in_ok-check_command.ensures.local ∙ ap₂ with_subcommand blocks (ap (λ (a : App). a.top) c.in_ok-check_command.ensures.app) in
+    IfOk-weaker c.with_makers.result _ _ (λ command made. made ∙ ap making more) c.with_makers.ensures.app
 
 pub returns-clause-local : goal.returns-clause-local
 returns-clause-local c =
@@ -25,6 +24,6 @@ returns-clause-local c =
     let two : (out-Command c.in_ok-command.command).has_globals ≡ false =
     c.in_ok-command.ensures.globals ∙ ap₂ (λ a b. a || b) one c.in_ok-run_command.ensures.local in
     let blocks = c.in_ok-with_blocks.ensures.local two in
-    let more : (out-Command c.in_ok-subcommand-2.field-0).has_globals ≡ false =
-    c.in_ok-subcommand-2.ensures.globals ∙ ap₂ (λ a b. a || b) blocks c.in_ok-check_command.ensures.local in
-    IfOk-weaker c.subcommand-4.result _ _ (λ command added. added.globals ∙ ap₂ (λ a b. a || b) more c.in_ok-upgrade_command.ensures.local) c.subcommand-4.ensures
+    let more : (out-Command c.in_ok-command-2.command).has_globals ≡ false =
+    c.in_ok-command-2.ensures.globals ∙ ap₂ (λ a b. a || b) blocks c.in_ok-check_command.ensures.local in
+    c.with_makers.ensures.local more
