@@ -1,0 +1,88 @@
+-- Runs of device calls, one after another.
+use Rattle.std.proofs.Common.{◌≡◌, ℕ, List, Result, Ok, Err, ⊎_elim, sym, ◌∙◌, ap, subst, IsTrue}
+use Rattle.std.specs.Prelude.{IsOk, IsErr, OnOk, OnErr}
+use Rattle.sector_disk.specs.Counting.{CountsFailure}
+use Rattle.sector_disk.specs.Disk.{Disk, MayWrite, SettlesNothing, written, settled}
+use Rattle.sector_disk.specs.Moments.{Elapses}
+use Rattle.sector_disk.specs.declared.device.SectorDevice.{Ghosts}
+use Rattle.journal.proofs.Calls.{Widens}
+use Rattle.journal.proofs.Calls as journal
+use Rattle.journal.proofs.Units.{wrote, synced_or_not}
+use Rattle.shadow.specs.Calls.{Passes}
+use Rattle.shadow.specs.Pages.{KeepsPages}
+
+not_both : {T E : Type 0} (result : Result T E) → IsOk result → IsErr result → ⊥
+not_both (Ok x) ok err = cc
+not_both (Err e) ok err = cc
+
+module _ {D : Type 0} (device : Ghosts D) where
+  pub passes_then : {T U E F : Type 0} {first : Result T E} {second : Result U F} (a b d : D) → Widens device
+      → Passes device a b first → Passes device b d second → IsOk first → Passes device a d second
+  passes_then a b d widens one two well =
+      let both = journal.passes_then device a b d widens
+      (journal.passes_by device a b one.sectors one.model one.time one.failures)
+      (journal.passes_by device b d two.sectors two.model two.time two.failures) well in
+      record {
+        sectors = both.sectors;
+        model = both.model;
+        unit = λ keeps. two.unit (subst IsTrue (sym one.model) keeps) ∙ one.unit keeps;
+        time = both.time;
+        failures = both.failures;
+      }
+
+  pub passes_by : {T E : Type 0} {result : Result T E} (a b : D) → device.sector_count b ≡ device.sector_count a → device.keeps_model b ≡ device.keeps_model a
+      → (IsTrue (device.keeps_model a) → (device.disk b).unit ≡ (device.disk a).unit)
+      → Elapses device.time device.left_since a b → CountsFailure (device.failures a) (device.failures b) result → Passes device a b result
+  passes_by a b sectors model unit time failures = record { sectors = sectors; model = model; unit = unit; time = time; failures = failures }
+
+  -- the same told by another result
+  pub passes_ok : {T U E F : Type 0} {first : Result T E} {second : Result U F} (a b : D) → Passes device a b first → IsOk first → IsOk second → Passes device a b second
+  passes_ok {second = second} a b passes well is = record {
+    sectors = passes.sectors;
+    model = passes.model;
+    unit = passes.unit;
+    time = passes.time;
+    failures = record {
+      never_falls = passes.failures.never_falls;
+      stays = λ ok. passes.failures.stays well;
+      rises = λ err. absurd (not_both second is err);
+    };
+  }
+
+  pub passes_err : {T U E F : Type 0} {first : Result T E} {second : Result U F} (a b : D) → Passes device a b first → IsErr first → IsErr second → Passes device a b second
+  passes_err {second = second} a b passes failed is = record {
+    sectors = passes.sectors;
+    model = passes.model;
+    unit = passes.unit;
+    time = passes.time;
+    failures = record {
+      never_falls = passes.failures.never_falls;
+      stays = λ ok. absurd (not_both second ok is);
+      rises = λ err. passes.failures.rises failed;
+    };
+  }
+
+  -- Units stay what they are.
+  pub keeps_on : {T E : Type 0} {result : Result T E} (a b : D) → KeepsPages device a → Passes device a b result → KeepsPages device b
+  keeps_on a b keeps passes = record {
+    model = subst IsTrue (sym passes.model) keeps.model;
+    paged = λ j k same. keeps.paged j k (sym (ap (λ f. f j) (passes.unit keeps.model)) ∙ same ∙ ap (λ f. f k) (passes.unit keeps.model));
+  }
+
+  pub kept_before : {T E : Type 0} {result : Result T E} (a b : D) → KeepsPages device b → Passes device a b result → KeepsPages device a
+  kept_before a b keeps passes =
+      let honest : IsTrue (device.keeps_model a) = subst IsTrue passes.model keeps.model in
+      record {
+        model = honest;
+        paged = λ j k same. keeps.paged j k (ap (λ f. f j) (passes.unit honest) ∙ same ∙ sym (ap (λ f. f k) (passes.unit honest)));
+      }
+
+-- the units after a write and after a sync
+pub unit_written : {T E : Type 0} (result : Result T E) (old new : Disk) (k : ℕ) (bytes : List ℕ)
+    → OnOk result (new ≡ written old k bytes) → OnErr result (MayWrite k old new) → new.unit ≡ old.unit
+unit_written result old new k bytes ok err = ⊎_elim
+    (λ same. ap (λ (d : Disk). d.unit) same) (λ some. ap (λ (d : Disk). d.unit) some.1) (wrote result old new k bytes ok err)
+
+pub unit_synced : {T E : Type 0} (result : Result T E) (old new : Disk)
+    → OnOk result (new ≡ settled old) → OnErr result (SettlesNothing old new) → new.unit ≡ old.unit
+unit_synced result old new ok err = ⊎_elim (λ is. ap (λ (d : Disk). d.unit) is) (λ nothing. nothing.unit) (synced_or_not result old new ok err)

@@ -1,0 +1,327 @@
+// Blocks on a device, spilled one by one and saved all at once.
+ghost use Rattle.std.specs.Prelude.{◌≡◌, ◌≢◌, ◌==◌, ◌||◌, ◌<◌, ◌≤◌, ◌+◌, ◌*◌, ◌↔◌, ℕ, true, false, if◌then◌else◌, Some, length, IsTrue, OnOk, OnErr, IsOk, IsErr, IsErrOf, MatchResult};
+ghost use Rattle.sector_disk.specs.Disk.{Image, MayLeave};
+ghost use Rattle.journal.specs.Layout.{fewest_blocks, most_blocks, listed, count_listed};
+ghost use Rattle.journal.specs.Maps.{Maps, contents, latest, fresh, spilled, committed, shut};
+ghost use Rattle.shadow.specs.Clean.{IsClean};
+ghost use Rattle.shadow.specs.Images.{meaning, Means};
+ghost use Rattle.shadow.specs.Layout.{sectors_for, current_at, free_at};
+ghost use Rattle.shadow.specs.Pages.{IsPaged, KeepsPages};
+ghost use Rattle.shadow.specs.Steps.{IsSound, merged};
+
+use crate::layout::{current_sector, free_sector, list};
+use crate::pairs::{read_pair, write_pair};
+use crate::saving::save;
+use journal::layout::is_listed;
+use sector_disk::SectorDevice;
+use thiserror::Error;
+
+/// Why a store didn't do what it was asked.
+#[derive(Clone, Copy, Debug, PartialEq, Eq, Error)]
+pub enum StoreFault {
+    #[error("the device failed")]
+    Device = 1,
+    #[error("the store was closed by a fault")]
+    Closed = 2,
+}
+
+/// Blocks of 1,024 bytes on a device. A block is spilled to the place of it that is free, and a commit makes the places of
+/// all spilled blocks the current ones at once: a stop of the device at any moment leaves either all of them or none.
+#[derive(Drop)]
+pub struct Store<D: SectorDevice> {
+    device: D,
+    blocks: u16,
+    // whether the gate is open, and the record that it names
+    is_open: bool,
+    listing: [u8; 512],
+    // the bits of the blocks spilled since the last save, with zeros where a record has its sum
+    pending: [u8; 512],
+    closed: bool,
+    // the block whose text was read last, and its bytes, as long as nothing was written since
+    kept: Option<u16>,
+    text: [u8; 1024],
+    ghost many: { fewest_blocks ≤ blocks },
+    ghost few: { blocks ≤ most_blocks },
+    ghost size: { D.sector_count device ≡ sectors_for blocks },
+    ghost clear: { (b : ℕ) → blocks ≤ b → listed pending b ≡ false },
+    ghost sound: { IsTrue (D.keeps_model device) → IsPaged (D.disk device) → closed ≡ false
+        → IsSound blocks is_open listing (D.disk device) },
+    ghost keeps: { IsTrue (D.keeps_model device) → IsPaged (D.disk device) → closed ≡ false
+        → (b : ℕ) → kept ≡ Some b → text ≡ merged listing pending (D.disk device).content b },
+}
+
+impl<D: SectorDevice> Store<D> {
+    ghost use Rattle.shadow.specs.Store.{device_of, disk_of, blocks_of, closed_of, text_of, kept_of, is_pending, pending_count, SamePending, NamesLatest, StandsFor, Continues, DeviceFailed, DeviceWentWell, DeviceBegins, DeviceReads, KeepsSaved, SavesAllOrNone, AddsNothing};
+
+    /// A store of `blocks` blocks, 32 to 3,840, over an image with a good label that isn't damaged, of which nothing is
+    /// unsynced. Its gate is open or not, as is told, and names the record `listing`. Makes no device call.
+    pub fn adopt(device: D, blocks: u16, is_open: bool, listing: &[u8; 512]) -> Self
+        requires many { fewest_blocks ≤ blocks }
+        requires few { blocks ≤ most_blocks }
+        requires size { D.sector_count device ≡ sectors_for blocks }
+        requires clean { KeepsPages D.SectorDevice device → IsClean blocks is_open listing.now (D.disk device) }
+        ensures device { device_of result ≡ device }
+        ensures blocks { blocks_of result ≡ blocks }
+        ensures closed { closed_of result ≡ false }
+        ensures pending { (b : ℕ) → is_pending result b ≡ false }
+        // By their law devices keep more than pages: of each one that keeps the disk model a sector is a unit of its own.
+        ensures pages { IsTrue (D.keeps_model device) → KeepsPages D.SectorDevice device }
+        ensures state { KeepsPages D.SectorDevice device
+            → StandsFor result (fresh (meaning blocks (D.disk device).content)) }
+    {
+        Store {
+            device,
+            blocks,
+            is_open,
+            listing: *listing,
+            pending: empty_record(),
+            closed: false,
+            kept: None,
+            text: [0; 1024],
+        }
+    }
+
+    /// How many blocks there are, from 32 to 3,840.
+    #[inline]
+    pub fn blocks(&self) -> u16
+        ensures value { result ≡ blocks_of self.now }
+        ensures many { fewest_blocks ≤ result }
+        ensures few { result ≤ most_blocks }
+        // No other block is ever pending.
+        ensures pending { (b : ℕ) → result ≤ b → is_pending self.now b ≡ false }
+    {
+        self.blocks
+    }
+
+    /// Whether a fault has closed the store. It stays closed until the device is opened again.
+    #[inline]
+    pub fn is_closed(&self) -> bool
+        ensures { result ≡ closed_of self.now }
+    {
+        self.closed // as a failed spill or commit left it
+    }
+
+    /// The device, as it is. What was spilled and not committed is given up.
+    pub fn into_device(self) -> D
+        ensures device { result ≡ device_of self }
+        ensures sectors { D.sector_count result ≡ sectors_for (blocks_of self) }
+    {
+        let Store { device, .. } = self;
+        device
+    }
+
+    /// Reads block `b` as it was spilled last, or else as it was saved. A fault changes nothing.
+    pub fn read_block(&mut self, b: u16, out: &mut [u8]) -> Result<(), StoreFault>
+        requires below { b < blocks_of self.old }
+        requires room { length out.old ≡ 1024 }
+
+        ensures ok { (m : Maps) → StandsFor self.old m → OnOk result (out.new ≡ contents m b) }
+        ensures err { OnErr result (out.new ≡ out.old) }
+        ensures state { (m : Maps) → StandsFor self.old m → StandsFor self.new m }
+
+        ensures closed { IsErrOf result StoreFault.Closed ↔ (closed_of self.old ≡ true) }
+        ensures closed_same { closed_of self.old ≡ true → self.new ≡ self.old }
+        ensures shuts { closed_of self.new ≡ closed_of self.old }
+        ensures device { IsErrOf result StoreFault.Device → DeviceFailed self.old self.new }
+        ensures well { OnOk result (DeviceWentWell self.old self.new) }
+
+        ensures stops { KeepsSaved self.old self.new }
+        ensures closed_stops { AddsNothing self.old self.new }
+        ensures continues { Continues self.old self.new }
+        ensures pending { SamePending self.old self.new }
+        ensures begins { DeviceBegins self.old self.new 0 0 }
+        ensures reads { DeviceReads self.old self.new 2 }
+    {
+        // The device of a closed store may hold a save half done, so it isn't read.
+        if self.closed {
+            return Err(StoreFault::Closed);
+        }
+        let k = latest_sector(&self.listing, &self.pending, b);
+        self.kept = None; // a block that is edited has no second copy here
+        match read_pair(&mut self.device, k, out) {
+            Ok(()) => Ok(()),
+            Err(_) => Err(StoreFault::Device),
+        }
+    }
+
+    /// Reads block `b` as `read_block` does, and keeps its bytes, which `text` lends. While they are kept no call of the
+    /// device is made for them: until another text is read, a block by `read_block`, or anything is written.
+    pub fn read_text(&mut self, b: u16) -> Result<(), StoreFault>
+        requires below { b < blocks_of self.old }
+
+        ensures ok { (m : Maps) → StandsFor self.old m → OnOk result (text_of self.new ≡ contents m b) }
+        ensures state { (m : Maps) → StandsFor self.old m → StandsFor self.new m }
+
+        ensures closed { IsErrOf result StoreFault.Closed ↔ (closed_of self.old ≡ true) }
+        ensures closed_same { closed_of self.old ≡ true → self.new ≡ self.old }
+        ensures shuts { closed_of self.new ≡ closed_of self.old }
+        ensures device { IsErrOf result StoreFault.Device → DeviceFailed self.old self.new }
+        ensures well { OnOk result (DeviceWentWell self.old self.new) }
+
+        ensures stops { KeepsSaved self.old self.new }
+        ensures closed_stops { AddsNothing self.old self.new }
+        ensures continues { Continues self.old self.new }
+        ensures pending { SamePending self.old self.new }
+        ensures begins { DeviceBegins self.old self.new 0 0 }
+        ensures reads { DeviceReads self.old self.new 2 }
+        // A text that is kept is given with no call of the device.
+        ensures kept { kept_of self.old ≡ Some b → self.new ≡ self.old }
+        ensures keeps { OnOk result (kept_of self.new ≡ Some b) }
+    {
+        // The device of a closed store may hold a save half done, so what was read of it isn't given either.
+        if self.closed {
+            return Err(StoreFault::Closed);
+        }
+        let kept = self.kept;
+        if kept == Some(b) {
+            return Ok(());
+        }
+        let k = latest_sector(&self.listing, &self.pending, b);
+        match read_pair(&mut self.device, k, &mut self.text) {
+            Ok(()) => {
+                self.kept = Some(b);
+                Ok(())
+            }
+            Err(_) => Err(StoreFault::Device),
+        }
+    }
+
+    /// The bytes that `read_text` read last: those of its block until the next call that reads or writes.
+    #[inline]
+    pub fn text(&self) -> &[u8; 1024]
+        ensures { result.now ≡ text_of self.now }
+    {
+        &self.text
+    }
+
+    /// Writes block `b` to its free place. It is saved by the next commit. A device fault closes the store.
+    pub fn spill(&mut self, b: u16, bytes: &[u8]) -> Result<(), StoreFault>
+        requires below { b < blocks_of self.old }
+        requires whole { length bytes.now ≡ 1024 }
+
+        ensures ok { (m : Maps) → StandsFor self.old m
+            → OnOk result (StandsFor self.new (spilled m b bytes.now)) }
+        ensures fault { (m : Maps) → StandsFor self.old m
+            → IsErrOf result StoreFault.Device → StandsFor self.new (shut m) }
+
+        ensures closed { IsErrOf result StoreFault.Closed ↔ (closed_of self.old ≡ true) }
+        ensures closed_same { closed_of self.old ≡ true → self.new ≡ self.old }
+        ensures shuts { IsErr result ↔ (closed_of self.new ≡ true) }
+        ensures device { IsErrOf result StoreFault.Device → DeviceFailed self.old self.new }
+        ensures well { OnOk result (DeviceWentWell self.old self.new) }
+
+        ensures stops { KeepsSaved self.old self.new }
+        ensures closed_stops { AddsNothing self.old self.new }
+        ensures continues { Continues self.old self.new }
+        ensures pending { MatchResult result
+            (λ _. (a : ℕ) → is_pending self.new a ≡ ((a == b) || is_pending self.old a))
+            (λ _. SamePending self.old self.new) }
+        ensures begins { DeviceBegins self.old self.new 2 0 }
+        ensures reads { DeviceReads self.old self.new 0 }
+    {
+        // After a fault nothing more is written until the image is opened again.
+        if self.closed {
+            return Err(StoreFault::Closed);
+        }
+        self.kept = None; // it may be this block's text
+        let k = free_sector(&self.listing, b);
+        match write_pair(&mut self.device, k, bytes) {
+            Ok(()) => {
+                list(&mut self.pending, b);
+                Ok(())
+            }
+            Err(_) => {
+                self.closed = true;
+                Err(StoreFault::Device)
+            }
+        }
+    }
+
+    /// Saves all blocks spilled since the last commit, or none of them. With nothing spilled it makes no device call. A
+    /// device fault closes the store, and the saved blocks are then all the new ones or all the old ones.
+    pub fn commit(&mut self) -> Result<(), StoreFault>
+        ensures ok { (m : Maps) → StandsFor self.old m → OnOk result (StandsFor self.new (committed m)) }
+        ensures fault { (m : Maps) → StandsFor self.old m
+            → IsErrOf result StoreFault.Device → StandsFor self.new (shut m) }
+
+        ensures closed { IsErrOf result StoreFault.Closed ↔ (closed_of self.old ≡ true) }
+        ensures closed_same { closed_of self.old ≡ true → self.new ≡ self.old }
+        ensures shuts { IsErr result ↔ (closed_of self.new ≡ true) }
+        ensures device { IsErrOf result StoreFault.Device → DeviceFailed self.old self.new }
+        ensures well { OnOk result (DeviceWentWell self.old self.new) }
+        ensures nothing { closed_of self.old ≡ false
+            → pending_count self.old ≡ 0 → IsOk result × (device_of self.new ≡ device_of self.old) }
+
+        ensures stops { SavesAllOrNone self.old self.new }
+        // Once it has returned, a stop leaves the new blocks alone.
+        ensures after { (m : Maps) → StandsFor self.old m
+            → OnOk result ((image : Image) → MayLeave (disk_of self.new) image → Means (latest m) image) }
+        ensures closed_stops { AddsNothing self.old self.new }
+        ensures continues { Continues self.old self.new }
+        ensures pending { MatchResult result (λ _. (a : ℕ)
+            → is_pending self.new a ≡ false) (λ _. SamePending self.old self.new) }
+        ensures recorded { KeepsPages D.SectorDevice (device_of self.old) → pending_count self.old ≢ 0
+            → OnOk result (NamesLatest self.old (disk_of self.new).content) }
+        ensures begins { DeviceBegins self.old self.new (pending_count self.old + 2) 2 }
+        ensures reads { DeviceReads self.old self.new (3 * pending_count self.old) }
+    {
+        if self.closed {
+            return Err(StoreFault::Closed); // even where nothing is pending
+        }
+        if count_blocks(&self.pending, self.blocks) == 0 {
+            return Ok(());
+        }
+        self.kept = None; // its bytes go to another place
+        match save(
+            &mut self.device,
+            self.blocks,
+            self.is_open,
+            &mut self.listing,
+            &self.pending,
+        ) {
+            Ok(()) => {
+                self.is_open = !self.is_open;
+                self.pending = empty_record();
+                Ok(())
+            }
+            Err(_) => {
+                self.closed = true; // whether the new blocks are saved is told by the next opening
+                Err(StoreFault::Device)
+            }
+        }
+    }
+}
+
+// A record that lists no block.
+fn empty_record() -> [u8; 512]
+    ensures { (b : ℕ) → listed result b ≡ false }
+{
+    [0; 512]
+}
+
+// Where a block is that was spilled last, or else saved.
+fn latest_sector(listing: &[u8; 512], pending: &[u8; 512], b: u16) -> u32
+    requires { b < most_blocks }
+    ensures place { result ≡ (if listed pending.now b then free_at listing.now b else current_at listing.now b) }
+    ensures end { result + 8 ≤ 48 + 16 * b }
+{
+    if is_listed(pending, b) {
+        free_sector(listing, b)
+    } else {
+        current_sector(listing, b)
+    }
+}
+
+// How many of the first blocks a record lists.
+fn count_blocks(bits: &[u8; 512], blocks: u16) -> u16
+    requires { blocks ≤ most_blocks }
+    ensures { result ≡ count_listed bits.now blocks }
+{
+    let mut count = 0;
+    for b in 0..blocks {
+        if is_listed(bits, b) {
+            count += 1;
+        }
+    }
+    count
+}
