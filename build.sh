@@ -21,7 +21,7 @@ prove() {
 # Two calls over one crate wait for each other: these three share none.
 prove 2 system_words dictionary stacks data_space cell_machine compiler &
 machine=$!
-prove 1 sector_disk journal recovery image_care &
+prove 2 sector_disk journal &
 disk=$!
 prove 1 number_io block_buffers &
 parts=$!
@@ -31,6 +31,7 @@ for lane in $machine $disk $parts; do
 done
 [ $failed = 0 ] || exit 1
 
-# Lexicon and block_words share data_space, and each fills the cores but for its end.
-prove 4 lexicon block_words interpreter sessions embed terminal || exit 1
-cd forth83 && rt run --jobs 4 < /dev/null
+# From here on each shares crates with the next, and fills the cores but for its end. The program comes first.
+prove 4 lexicon recovery block_words interpreter sessions image_care terminal || exit 1
+(cd forth83 && rt run --jobs 4 < /dev/null) || exit 1
+prove 4 embed
