@@ -21,6 +21,7 @@ use Rattle.lexicon.specs.Laws.{LoadsLeave}
 use Rattle.lexicon.specs.Stands.{IsLeft, owner_in}
 use Rattle.interpreter.specs.declared.terminal.Terminal.{Ghosts as TerminalGhosts}
 use Rattle.interpreter.specs.declared.fault.Fault.{Fault}
+use Rattle.interpreter.specs.declared.fault.Stop.{Stop}
 use Rattle.interpreter.specs.declared.interpreting.Round.{Round}
 use Rattle.interpreter.specs.declared.interpreting.Round.TheVariants.{GoesOn, Over}
 use Rattle.interpreter.specs.declared.forth.Forth.{Forth}
@@ -233,7 +234,7 @@ advanced_well (Ok v) = refl
 advanced_well (Err f) = refl
 
 module _ {D T : Type 0} {G : Ghosts D} (H : TerminalGhosts T) where
-  pub advanced_round : (n : ℕ) {start : Run → Outcome World} (result : Result Round Fault) {old new : Forth D G} {x : World} (t : T) → Advanced n start result old new x → RanRound H n start (stopped result) old new t t x
+  advanced_round : (n : ℕ) {start : Run → Outcome World} (result : Result Round Fault) {old new : Forth D G} {x : World} (t : T) → Advanced n start result old new x → RanRound H n start (stopped result) old new t t x
   advanced_round n {start} result {old} {new} {x} t h = record {
     deed = asking h.answers h.failures h.wear h.saves;
     levels = h.levels;
@@ -245,6 +246,10 @@ module _ {D T : Type 0} {G : Ghosts D} (H : TerminalGhosts T) where
     cause = h.cause;
     keeps = h.keeps;
   }
+
+  pub round_at_text : (n : ℕ) {start : Run → Outcome World} {result : Result Round Fault} {round : Result Round Stop} {old new : Forth D G} {x : World} → round ≡ stopped result → (t : T)
+      → Advanced n start result old new x → RanRound H n start round old new t t x
+  round_at_text n {start} {result} {round} {old} {new} {x} is t h = subst (λ round. RanRound H n start round old new t t x) (sym is) (advanced_round n result t h)
 
 pub lasts_round : {D T : Type 0} (G : Ghosts D) (H : TerminalGhosts T) (result : Result Round Fault) (old new : D) (t : T) → LastsAlone G old new → LastsRound G H (stopped result) old new t t
 lasts_round G H (Ok v) old new t h = record { time = h.time; model = h.model; device_failures = h.failures; terminal_failures = refl; no_more = omega arith; same = refl }

@@ -2,6 +2,7 @@
 ghost use Rattle.std.specs.Prelude.{◌≡◌, ℕ};
 ghost use Rattle.cell_machine.specs.Events.{fault_of as machine_fault_of};
 ghost use Rattle.interpreter.specs.Stops.{fault_of, fault_count};
+ghost use Rattle.interpreter.specs.Serving.{stopped};
 
 use crate::fault::{Fault, Stop};
 use crate::forth::Forth;
@@ -34,14 +35,24 @@ fn machine_fault(fault: MachineFault) -> Fault
     }
 }
 
+/// What a round at the text comes to: it reaches no terminal.
+fn round_of_text(done: Result<Round, Fault>) -> Result<Round, Stop>
+    ensures { result ≡ stopped done }
+{
+    match done {
+        Ok(round) => Ok(round),
+        Err(fault) => Err(Stop::Fault(fault)),
+    }
+}
+
 impl<D: SectorDevice> Forth<D> {
-    ghost use Rattle.std.specs.Prelude.{◌≡◌, ◌<◌, ◌≤◌, ℕ, List, [], None};
+    ghost use Rattle.std.specs.Prelude.{◌≡◌, ◌<◌, ◌≤◌, ℕ, List, []};
     ghost use Rattle.cell_machine.specs.Frames.{Level};
     ghost use Rattle.interpreter.specs.Law.{left};
     ghost use Rattle.interpreter.specs.State.{World, with_run};
     ghost use Rattle.interpreter.specs.Standing.{core, Stands, IsSound};
     ghost use Rattle.interpreter.specs.Serving.{Ran, Continues};
-    ghost use Rattle.interpreter.specs.Rounds.{RanRound, ContinuesRound, weight, GoesDown, IsAtText};
+    ghost use Rattle.interpreter.specs.Rounds.{RanRound, ContinuesRound, weight, GoesDown};
 
     /// What is left to do in the machine, up to what it asks for; and that, or a word of the text.
     pub(crate) fn round<T: Terminal>(&mut self, terminal: &mut T) -> Result<Round, Stop>
@@ -61,30 +72,11 @@ impl<D: SectorDevice> Forth<D> {
             &mut self.steps,
         );
         match event {
-            Event::Done => self.read(terminal),
+            Event::Done => round_of_text(self.advance()),
             Event::Service(op) => self.serve(op, terminal),
             Event::Fault(fault) => Err(Stop::Fault(machine_fault(fault))),
             Event::Quit => Err(Stop::Quit),
             Event::Abort => Err(Stop::Abort),
-        }
-    }
-
-    /// A word of the text, or its end: then the load that it belongs to is over, or the line's text is. It reaches no
-    /// terminal.
-    pub(crate) fn read<T: Terminal>(&mut self, terminal: &mut T) -> Result<Round, Stop>
-        requires sound { IsSound self.old }
-        requires idle { self.old.machine.pending ≡ None }
-        ensures round { (n : ℕ) (levels : List Level) (x : World) → self.old.steps < n → Stands self.old levels x
-            → IsAtText levels
-            → RanRound T.Terminal n (λ r. left n levels (core self.old) (with_run r x))
-            result self.old self.new terminal.old terminal.new x }
-        ensures down { GoesDown result (weight self.old) (weight self.new) }
-        ensures continues { ContinuesRound T.Terminal result self.old self.new terminal.old terminal.new }
-    {
-        let _ = terminal;
-        match self.advance() {
-            Ok(round) => Ok(round),
-            Err(fault) => Err(Stop::Fault(fault)),
         }
     }
 

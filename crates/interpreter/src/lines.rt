@@ -246,7 +246,7 @@ impl<D: SectorDevice> Forth<D> {
     }
 
     /// Interprets a line of text, and writes the whole reply to the terminal.
-    pub(crate) fn promised<T: Terminal>(&mut self, text: &[u8], terminal: &mut T) -> LineEnd
+    pub(crate) fn line_as_turn<T: Terminal>(&mut self, text: &[u8], terminal: &mut T) -> LineEnd
         requires sound { IsAtRest self.old }
         ensures sound { IsAtRest self.new }
         ensures runs { (opening : Abstract) → IsSystem self.old opening
@@ -262,11 +262,11 @@ impl<D: SectorDevice> Forth<D> {
         ensures budget { self.new.budget ≡ self.old.budget }
         ensures spends { self.new.steps ≤ self.new.budget }
     {
-        self.line(text, terminal)
+        self.run_line(text, terminal)
     }
 
     /// The same, run by run.
-    fn line<T: Terminal>(&mut self, text: &[u8], terminal: &mut T) -> LineEnd
+    fn run_line<T: Terminal>(&mut self, text: &[u8], terminal: &mut T) -> LineEnd
         requires sound { IsAtRest self.old }
         ensures lined { (opening : Abstract) → Waits opening self.old
             → Lined T.Terminal (λ r. line opening text.now r)

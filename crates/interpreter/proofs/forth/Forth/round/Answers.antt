@@ -8,6 +8,7 @@ use Rattle.interpreter.specs.Law.{next}
 use Rattle.interpreter.specs.Lexicon.{language_of}
 use Rattle.interpreter.specs.Standing.{core}
 use Rattle.interpreter.proofs.Events.{due_of, left_calls, paid_least, service_falls, down_if, finished_at_text}
+use Rattle.interpreter.proofs.Advancing.{round_at_text}
 use Rattle.interpreter.proofs.Rounds.{round_as, round_left, left_so}
 use Rattle.interpreter.proofs.forth.Forth.round.Goals as goal
 
@@ -63,8 +64,8 @@ returns-in-Abort-clause-round g c = λ n levels x less stands.
     (λ r. left_calls c.services.ensures n c.args.self.now.lexicon (with_run r x) runs.0 levels (core c.args.self.now) stands.rests.meant less ∙ ap (λ e. next n e (with_run r x)) runs.1))
     refl (Appends-nil _)
 
-pub read-requires : goal.read-requires
-read-requires g c =
+pub advance-requires : goal.advance-requires
+advance-requires g c =
     let s = c.requires.sound in
     let runs = c.in-Done.ensures.runs (language_of s.1) s.0 s.2.rests.meant s.2.left in
     record { sound = (runs.1.0, s.1, record { rests = s.2.rests; left = runs.1.1.0 }); idle = c.in-Done.ensures.nothing_pending }
@@ -75,4 +76,5 @@ returns-in-Done-clause-round g c = λ n levels x less stands.
     round_as g.T.Terminal n _ c.args.self.now
     (λ r. left_calls c.services.ensures n c.args.self.now.lexicon (with_run r x) runs.0 levels (core c.args.self.now) stands.rests.meant less ∙ ap (λ e. next n e (with_run r x)) runs.1.1.1)
     c.in-Done.ensures.paid refl
-    (c.read.ensures.round n runs.1.0 x (omega (arith, c.in-Done.ensures.paid, less)) (record { rests = stands.rests; left = runs.1.1.0 }) (finished_at_text _ runs.0 levels runs.1.0 _ _ runs.1.1.1))
+    (round_at_text g.T.Terminal n c.round_of_text.ensures c.args.terminal.now
+    (c.advance.ensures.advanced n runs.1.0 x (omega (arith, c.in-Done.ensures.paid, less)) (record { rests = stands.rests; left = runs.1.1.0 }) (finished_at_text _ runs.0 levels runs.1.0 _ _ runs.1.1.1)))

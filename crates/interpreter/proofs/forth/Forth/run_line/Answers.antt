@@ -7,7 +7,7 @@ use Rattle.interpreter.specs.Standing.{core}
 use Rattle.interpreter.specs.Stops.{fault_count}
 use Rattle.interpreter.proofs.Telling.{counts_as, same_count}
 use Rattle.interpreter.proofs.Lining.{lined_as, line_too_long, line_opens, over_lined, ends_lined, fault_lined, broke_lined}
-use Rattle.interpreter.proofs.forth.Forth.line.Goals as goal
+use Rattle.interpreter.proofs.forth.Forth.run_line.Goals as goal
 
 pub returns-then-text-gt-LINE_LIMIT-clause-lined : goal.returns-then-text-gt-LINE_LIMIT-clause-lined
 returns-then-text-gt-LINE_LIMIT-clause-lined g c = λ opening waits.
