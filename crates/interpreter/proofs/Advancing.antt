@@ -28,14 +28,14 @@ use Rattle.interpreter.specs.declared.forth.Forth.{Forth}
 use Rattle.interpreter.specs.Deeds.{Deed, before, after, asking}
 use Rattle.interpreter.specs.Law.{left}
 use Rattle.interpreter.specs.State.{World, Run, with_run}
-use Rattle.interpreter.specs.Standing.{core, device, Stands}
-use Rattle.interpreter.specs.Serving.{LastsAlone, Hands, Handed, KeepsAndWears, Printed, stopped, failed_calls}
+use Rattle.interpreter.specs.Representation.{core, device, Represents}
+use Rattle.interpreter.specs.ServiceContract.{LastsAlone, Hands, Handed, KeepsAndWears, Printed, stopped, failed_calls}
 use Rattle.interpreter.specs.Promise.{HasRisenBy}
 use Rattle.data_space.specs.Space.{with_cell}
 use Rattle.interpreter.specs.Lexicon.{language_of}
 use Rattle.interpreter.specs.declared.services.looking.Cut.TheVariants.{Word}
 use Rattle.interpreter.specs.Looking.{Seen, look}
-use Rattle.interpreter.specs.Rounds.{Entered, IsAtText, RoundComes, RanRound, seen, GoesDown, LastsRound}
+use Rattle.interpreter.specs.RoundContract.{Entered, IsAtText, RoundComes, RanRound, seen, Decreases, LastsRound}
 use Rattle.interpreter.specs.TextRounds.{PassesTo, Passed, Advanced, after_text, seen_round}
 use Rattle.interpreter.proofs.Reading.{reads_on}
 use Rattle.interpreter.proofs.Running.{no_calls}
@@ -138,7 +138,7 @@ module _ {D : Type 0} {G : Ghosts D} where
   entered_passed n (Err f) h = record { levels = h.levels; world = h.world; stands = h.stands; goes = h.goes; maps = h.maps; steps = h.steps }
 
   -- the line's text is over
-  pub text_over : (n : ℕ) (old : Forth D G) (returns' : List Entry) (levels : List Level) (x : World) → returns' ≡ old.returns → levels ≡ [] → Stands old levels x
+  pub text_over : (n : ℕ) (old : Forth D G) (returns' : List Entry) (levels : List Level) (x : World) → returns' ≡ old.returns → levels ≡ [] → Represents old levels x
       → Passed n (λ r. after_text n levels (core old) (with_run r x)) (Ok Over) old (record old { returns = returns' }) x
   text_over n old returns' [] x same is stands = record {
     levels = [];
@@ -152,7 +152,7 @@ module _ {D : Type 0} {G : Ghosts D} where
 
   -- the text of a load is over
   pub load_over : (n : ℕ) (old : Forth D G) (below : List Entry) (space' : List ℕ) (levels : List Level) (x : World) (block to_in : ℕ)
-      → LeavesLoad old.lexicon (language_of x) old.machine below levels block to_in → space' ≡ with_cell (with_cell old.space 22 block) 20 to_in → Stands old levels x
+      → LeavesLoad old.lexicon (language_of x) old.machine below levels block to_in → space' ≡ with_cell (with_cell old.space 22 block) 20 to_in → Represents old levels x
       → Passed n (λ r. after_text n levels (core old) (with_run r x)) (Ok GoesOn) old (record old { returns = below; space = space' }) x
   load_over n old below space' levels x block to_in h wrote stands = record {
     levels = h.outer;
@@ -255,7 +255,7 @@ pub lasts_round : {D T : Type 0} (G : Ghosts D) (H : TerminalGhosts T) (result :
 lasts_round G H (Ok v) old new t h = record { time = h.time; model = h.model; device_failures = h.failures; terminal_failures = refl; no_more = omega arith; same = refl }
 lasts_round G H (Err f) old new t h = record { time = h.time; model = h.model; device_failures = h.failures; terminal_failures = refl; no_more = omega arith; same = refl }
 
-pub down_from : (result : Result Round Fault) (a b c : ℕ) → b ≡ a → GoesDown (stopped result) b c → GoesDown (stopped result) a c
+pub down_from : (result : Result Round Fault) (a b c : ℕ) → b ≡ a → Decreases (stopped result) b c → Decreases (stopped result) a c
 down_from (Ok GoesOn) a b c same h = omega (arith, same, h)
 down_from (Ok Over) a b c same h = tt
 down_from (Err f) a b c same h = tt

@@ -13,11 +13,11 @@ use Rattle.lexicon.specs.Language.{Language}
 use Rattle.lexicon.specs.Promise.{Becomes}
 use Rattle.interpreter.specs.Lexicon.{language_of, with_language}
 use Rattle.interpreter.specs.Stops.{fault_of}
-use Rattle.interpreter.specs.Standing.{core, Stands, StandsIn}
+use Rattle.interpreter.specs.Representation.{core, Represents, RepresentsIn}
 use Rattle.interpreter.specs.declared.fault.Fault.{Fault}
 use Rattle.interpreter.specs.declared.forth.Forth.{Forth}
 use Rattle.interpreter.specs.State.{World, Run, with_run}
-use Rattle.interpreter.specs.Serving.{Gives, Altered}
+use Rattle.interpreter.specs.ServiceContract.{Gives, Altered}
 
 -- what comes of the line before it may be said otherwise
 pub gives_as : (start start' : Run → Outcome World) (result : Result (Unit {0}) Fault) (c : Core) (x : World) → ((r : Run) → start' r ≡ start r) → Gives start result c x → Gives start' result c x
@@ -37,21 +37,21 @@ module _ {D : Type 0} {G : Ghosts D} where
 
   -- it is refused
   pub refused : {start : Run → Outcome World} {f : Fault} {old : Forth D G} (new : Forth D G) {levels : List Level} {x : World}
-      → Stands new levels x → (said : Core) → said.space ≡ new.space → ((r : Run) → start r ≡ Ends (Faults (fault_of f)) said (with_run r x)) → new.steps ≤ old.steps
+      → Represents new levels x → (said : Core) → said.space ≡ new.space → ((r : Run) → start r ≡ Ends (Faults (fault_of f)) said (with_run r x)) → new.steps ≤ old.steps
       → Altered start (Err f) old new levels x
   refused {start} {f} {old} new {levels} {x} stands said same ends less =
       record { world = x; stands = stands.rests; gives = (said, same, ends); maps = refl; steps = less }
 
   -- it goes on
   pub went : {start : Run → Outcome World} {old : Forth D G} (new : Forth D G) {levels : List Level} {x : World} (y : World)
-      → Stands new levels y → ((r : Run) → start r ≡ Did (core new) (with_run r y)) → y.maps ≡ x.maps → new.steps ≤ old.steps
+      → Represents new levels y → ((r : Run) → start r ≡ Did (core new) (with_run r y)) → y.maps ≡ x.maps → new.steps ≤ old.steps
       → Altered start (Ok tt) old new levels x
   went {start} {old} new {levels} {x} y stands did same less = record { world = y; stands = stands; gives = did; maps = same; steps = less }
 
   -- the lexicon means something else
   pub becoming : {lexicon lexicon' : Lexicon} {machine : Doing} {returns : List Entry} {picture : Picture} {blocks : Blocks D G} {levels : List Level} {x : World} (m : Language)
-      → StandsIn lexicon machine returns picture blocks levels x → Becomes lexicon lexicon' (language_of x) m
-      → StandsIn lexicon' machine returns picture blocks levels (with_language m x)
+      → RepresentsIn lexicon machine returns picture blocks levels x → Becomes lexicon lexicon' (language_of x) m
+      → RepresentsIn lexicon' machine returns picture blocks levels (with_language m x)
   becoming {lexicon} {lexicon'} {machine} {returns} {picture} {blocks} {levels} {x} m s b = record {
     rests = record { meant = b.stands; held_end = s.rests.held_end; held = s.rests.held; buffers = s.rests.buffers; maps = s.rests.maps };
     left = b.left machine returns levels s.left;
@@ -59,7 +59,7 @@ module _ {D : Type 0} {G : Ghosts D} where
 
   -- its first part went on, and so does the rest
   pub went_then : {start : Run → Outcome World} {old mid : Forth D G} (new : Forth D G) {levels : List Level} {x : World} (start' : Run → Outcome World) (go : Core → World → Outcome World) (h : Altered start (Ok tt) old mid levels x)
-      → ((r : Run) → start' r ≡ and_then (start r) go) → Stands new levels h.world → ((r : Run) → go (core mid) (with_run r h.world) ≡ Did (core new) (with_run r h.world)) → new.steps ≤ mid.steps
+      → ((r : Run) → start' r ≡ and_then (start r) go) → Represents new levels h.world → ((r : Run) → go (core mid) (with_run r h.world) ≡ Did (core new) (with_run r h.world)) → new.steps ≤ mid.steps
       → Altered start' (Ok tt) old new levels x
   went_then {start} {old} {mid} new {levels} {x} start' go h same stands goes less = record {
     world = h.world;

@@ -24,8 +24,8 @@ use Rattle.interpreter.specs.declared.forth.Picture.{Picture}
 use Rattle.interpreter.specs.State.{World, Run, with_run, block_state, blocks_done, fault_of}
 use Rattle.interpreter.specs.Deeds.{Deed, before, after, asking}
 use Rattle.interpreter.specs.Promise.{HasRisenBy}
-use Rattle.interpreter.specs.Standing.{core, device, Stands, RestsIn, StandsIn}
-use Rattle.interpreter.specs.Serving.{KeepsAndWears, Handed, Consulted, Altered, Lasts, LastsAlone, stopped}
+use Rattle.interpreter.specs.Representation.{core, device, Represents, RepresentsWorldIn, RepresentsIn}
+use Rattle.interpreter.specs.ServiceContract.{KeepsAndWears, Handed, Consulted, Altered, Lasts, LastsAlone, stopped}
 use Rattle.interpreter.specs.declared.terminal.Terminal.{Ghosts as TerminalGhosts}
 use Rattle.interpreter.specs.declared.fault.Fault.{Fault}
 use Rattle.interpreter.specs.Stops as stops
@@ -121,11 +121,11 @@ module _ {A : Type 0} {D : Type 0} {G : Ghosts D} {word : words.Blocks → Block
       ∙ blocks_ended result h.maps (buffers_of new) space' r.answers (r.failures + failed result) (add_wear r.wear h.wear) (r.saves ++ h.saves) c (with_run (before deed r) x) go
       ∙ ap (λ r. done_of result (record c { space = space' }) (with_run r world) go) (same_run h.answers (failed result) h.wear h.saves r)
 
-  pub rests_on : {lexicon : Lexicon} {picture : Picture} → RestsIn lexicon picture old x → RestsIn lexicon picture new world
+  pub rests_on : {lexicon : Lexicon} {picture : Picture} → RepresentsWorldIn lexicon picture old x → RepresentsWorldIn lexicon picture new world
   rests_on {lexicon} {picture} s =
       record { meant = s.meant; held_end = s.held_end; held = s.held; buffers = refl; maps = h.holds }
 
-  pub stands_on : {lexicon : Lexicon} {machine : Doing} {returns : List Entry} {picture : Picture} {levels : List Level} → StandsIn lexicon machine returns picture old levels x → StandsIn lexicon machine returns picture new levels world
+  pub stands_on : {lexicon : Lexicon} {machine : Doing} {returns : List Entry} {picture : Picture} {levels : List Level} → RepresentsIn lexicon machine returns picture old levels x → RepresentsIn lexicon machine returns picture new levels world
   stands_on {lexicon} {machine} {returns} {picture} {levels} s = record { rests = rests_on s.rests; left = s.left }
 
 module _ {A : Type 0} {D : Type 0} (G : Ghosts D) (word : words.Blocks → BlockOutcome A) (result : Result A BlockFault) (made : Maps → List Save) (old new : Blocks D G) (space space' : List ℕ) where
@@ -134,7 +134,7 @@ module _ {A : Type 0} {D : Type 0} (G : Ghosts D) (word : words.Blocks → Block
       → ((m : Maps) → m.closed ≡ true → made m ≡ [])
       → TellsFailures {G = G} result (store_of old) (store_of new)
       → G.keeps_model (device_of (store_of new)) ≡ G.keeps_model (device_of (store_of old))
-      → RestsIn lexicon picture old x → Called G word result old new space space' x
+      → RepresentsWorldIn lexicon picture old x → Called G word result old new space space' x
   called {lexicon} {picture} {x} runs shut cause same s = pick (G.keeps_model (device_of (store_of old))) refl
     where
       pick : (t : Bool) → G.keeps_model (device_of (store_of old)) ≡ t → Called G word result old new space space' x
@@ -169,7 +169,7 @@ module _ {A : Type 0} {D : Type 0} (G : Ghosts D) (word : words.Blocks → Block
 -- ---- values handed on without the device
 
 pub handed_quiet : {D : Type 0} (G : Ghosts D) → OnlyNow G → {B : Type 0} {start : Run → (B → Core → World → Outcome World) → Outcome World} {v : B} (old new : Forth D G) {levels : List Level} {x : World}
-    → Stands old levels x → Stands new levels x → new.blocks ≡ old.blocks → new.steps ≤ old.steps
+    → Represents old levels x → Represents new levels x → new.blocks ≡ old.blocks → new.steps ≤ old.steps
     → ((r : Run) (go : B → Core → World → Outcome World) → start r go ≡ go v (core new) (with_run r x))
     → Handed start (Ok v) old new levels x
 handed_quiet {D} G only_now {B} {start} {v} old new {levels} {x} was stands blocks less same = record {
@@ -193,7 +193,7 @@ Reaches {A} word c x start go = (r : Run) → start r ≡ blocks_done (word (blo
 
 module _ {A : Type 0} {D : Type 0} {G : Ghosts D} {word : words.Blocks → BlockOutcome A} {levels : List Level} {x : World} (old new : Forth D G) (stack space' : List ℕ) where
   pub consulted_well : {start : Run → Outcome World} (go : A → Core → World → Outcome World) (v : A) (h : Called G word (Ok v) old.blocks new.blocks old.space space' x)
-      → Reaches word (record (core old) { stack = stack }) x start go → Stands new levels (world h) → new.steps ≤ old.steps
+      → Reaches word (record (core old) { stack = stack }) x start go → Represents new levels (world h) → new.steps ≤ old.steps
       → ((y : World) → go v (record (core old) { stack = stack; space = space' }) y ≡ Did (core new) y)
       → Consulted start (Ok tt) old new levels x
   consulted_well {start} go v h reaches stands less leaves = record {
@@ -211,7 +211,7 @@ module _ {A : Type 0} {D : Type 0} {G : Ghosts D} {word : words.Blocks → Block
   }
 
   pub consulted_failed : {start : Run → Outcome World} (go : A → Core → World → Outcome World) (f : BlockFault) (found : Fault) (h : Called G word (Err f) old.blocks new.blocks old.space space' x)
-      → Reaches word (record (core old) { stack = stack }) x start go → RestsIn new.lexicon new.picture new.blocks (world h) → new.steps ≤ old.steps
+      → Reaches word (record (core old) { stack = stack }) x start go → RepresentsWorldIn new.lexicon new.picture new.blocks (world h) → new.steps ≤ old.steps
       → space' ≡ new.space → stops.fault_of found ≡ fault_of f
       → Consulted start (Err found) old new levels x
   consulted_failed {start} go f found h reaches rests less same is = record {
@@ -235,7 +235,7 @@ module _ {A : Type 0} {D : Type 0} {G : Ghosts D} {word : words.Blocks → Block
 
 -- one that never reaches it
 pub consulted_quiet : {D : Type 0} (G : Ghosts D) → OnlyNow G → {start : Run → Outcome World} {result : Result (Unit {0}) Fault} (old new : Forth D G) {levels : List Level} {x : World}
-    → Stands old levels x → new.blocks ≡ old.blocks → Altered start result old new levels x → Consulted start result old new levels x
+    → Represents old levels x → new.blocks ≡ old.blocks → Altered start result old new levels x → Consulted start result old new levels x
 consulted_quiet {D} G only_now {start} {result} old new {levels} {x} stands blocks h = record {
   answers = [];
   failures = 0;
@@ -346,7 +346,7 @@ module _ {D : Type 0} {G : Ghosts D} {B : Type 0} {start : Run → (B → Core �
 
 -- nothing is handed on, and nothing was reached
 pub handed_none : {D : Type 0} (G : Ghosts D) → OnlyNow G → {B : Type 0} {start : Run → (B → Core → World → Outcome World) → Outcome World} {f : Fault} (old : Forth D G) {levels : List Level} {x : World}
-    → Stands old levels x
+    → Represents old levels x
     → ((r : Run) (go : B → Core → World → Outcome World) → start r go ≡ Ends (Faults (stops.fault_of f)) (core old) (with_run r x))
     → Handed start (Err f) old old levels x
 handed_none {D} G only_now {B} {start} {f} old {levels} {x} stands same = record {

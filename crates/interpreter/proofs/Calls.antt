@@ -7,7 +7,7 @@ use Rattle.interpreter.specs.State.{World, Run, with_run, with_output, with_term
 use Rattle.interpreter.specs.Terminals.{terminal_call, print}
 use Rattle.interpreter.specs.Law.{run_after, Grows}
 use Rattle.interpreter.specs.Deeds.{nothing, longer, before, after}
-use Rattle.interpreter.specs.Serving.{Broke, Heard}
+use Rattle.interpreter.specs.ServiceContract.{Broke, Heard}
 use Rattle.interpreter.proofs.Deeds.{printing, trying, after-printing}
 use Rattle.interpreter.proofs.Wearing.{within_itself}
 use Rattle.std.specs.Io.KnownBytes.{Keeps, Appends, Consumes}

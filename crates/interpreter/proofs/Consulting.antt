@@ -15,8 +15,8 @@ use Rattle.interpreter.specs.Deeds.{Deed, asking, then, after}
 use Rattle.interpreter.specs.State.{World, Run, with_run}
 use Rattle.interpreter.specs.Stops.{fault_of}
 use Rattle.interpreter.specs.Promise.{HasRisenBy}
-use Rattle.interpreter.specs.Standing.{core, device, Stands, StandsAfter}
-use Rattle.interpreter.specs.Serving.{Comes, Gives as Altering, Hands, Handed, Altered, KeepsAndWears, Printed, Heard, Lasts, LastsAlone, Consulted, Ran, stopped}
+use Rattle.interpreter.specs.Representation.{core, device, Represents, RepresentsAfter}
+use Rattle.interpreter.specs.ServiceContract.{Comes, Gives as Altering, Hands, Handed, Altered, KeepsAndWears, Printed, Heard, Lasts, LastsAlone, Consulted, Ran, stopped}
 use Rattle.interpreter.specs.declared.fault.Stop.{Stop}
 use Rattle.block_words.proofs.Counted.{risen_then}
 use Rattle.interpreter.proofs.Then.{comes_then, heard_none, heard_then, maps_then}
@@ -99,7 +99,7 @@ quiet_printed : (result : Result (Unit {0}) Fault) (o : Option (List ℕ)) → P
 quiet_printed (Ok v) o = Appends-nil o
 quiet_printed (Err f) o = Appends-nil o
 
-quiet_stands : {D : Type 0} {G : Ghosts D} (result : Result (Unit {0}) Fault) (forth : Forth D G) (levels : List Level) (x : World) → StandsAfter result forth levels x → StandsAfter (stopped result) forth levels x
+quiet_stands : {D : Type 0} {G : Ghosts D} (result : Result (Unit {0}) Fault) (forth : Forth D G) (levels : List Level) (x : World) → RepresentsAfter result forth levels x → RepresentsAfter (stopped result) forth levels x
 quiet_stands (Ok v) forth levels x s = s
 quiet_stands (Err f) forth levels x s = s
 
@@ -123,7 +123,7 @@ module _ {D : Type 0} (G : Ghosts D) where
   gives_comes start (Err f) c x g = record { core = g.0; like = g.1; ends = λ r fits. ap start (before-nothing r) ∙ g.2 r ∙ ap (λ r. Ends (Faults (fault_of f)) g.0 (with_run r x)) (sym (after-nothing r)) }
 
   pub altered_consulted : OnlyNow G → {start : Run → Outcome World} {result : Result (Unit {0}) Fault} (old new : Forth D G) {levels : List Level} {x : World}
-      → Stands old levels x → new.blocks ≡ old.blocks → Altered start result old new levels x → Consulted start result old new levels x
+      → Represents old levels x → new.blocks ≡ old.blocks → Altered start result old new levels x → Consulted start result old new levels x
   altered_consulted only_now {start} {result} old new {levels} {x} stands blocks h = record {
     answers = [];
     failures = 0;

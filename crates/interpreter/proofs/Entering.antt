@@ -27,11 +27,11 @@ use Rattle.interpreter.specs.declared.terminal.Terminal.{Ghosts as TerminalGhost
 use Rattle.interpreter.specs.Deeds.{nothing}
 use Rattle.interpreter.specs.Law.{left}
 use Rattle.interpreter.specs.Stops.{fault_of}
-use Rattle.interpreter.specs.Standing.{core, device, Stands, StandsAfter}
-use Rattle.interpreter.specs.Serving.{Altered, Printed, KeepsAndWears, stopped, failed_calls}
+use Rattle.interpreter.specs.Representation.{core, device, Represents, RepresentsAfter}
+use Rattle.interpreter.specs.ServiceContract.{Altered, Printed, KeepsAndWears, stopped, failed_calls}
 use Rattle.interpreter.proofs.Deeds.{before-nothing, after-nothing}
 use Rattle.interpreter.proofs.Running.{OnlyNow, maps_same, heard_nothing}
-use Rattle.interpreter.specs.Rounds.{round_of, GoesTo, Entered, RoundComes, RanRound, seen, StandsAfterRound}
+use Rattle.interpreter.specs.RoundContract.{round_of, GoesTo, Entered, RoundComes, RanRound, seen, RepresentsAfterRound}
 use Rattle.block_words.specs.Words.{no_wear}
 
 -- a word by itself is never refused
@@ -78,7 +78,7 @@ goes_comes n start (Ok v) levels c x g = λ r fits. ap start (before-nothing r) 
 goes_comes n start (Err f) levels c x g =
     record { core = g.0; like = g.1; ends = λ r fits. ap start (before-nothing r) ∙ g.2 r ∙ ap (λ r. Ends (Faults (fault_of f)) g.0 (with_run r x)) (sym (after-nothing r)) }
 
-entered_stands : {D : Type 0} {G : Ghosts D} (result : Result (Unit {0}) Fault) (forth : Forth D G) (levels : List Level) (x : World) → StandsAfter result forth levels x → StandsAfterRound (round_of (stopped result)) forth levels x
+entered_stands : {D : Type 0} {G : Ghosts D} (result : Result (Unit {0}) Fault) (forth : Forth D G) (levels : List Level) (x : World) → RepresentsAfter result forth levels x → RepresentsAfterRound (round_of (stopped result)) forth levels x
 entered_stands (Ok v) forth levels x s = s
 entered_stands (Err f) forth levels x s = s
 
@@ -92,7 +92,7 @@ entered_well (Err f) = refl
 
 module _ {D T : Type 0} (G : Ghosts D) (H : TerminalGhosts T) where
   pub round_entered : OnlyNow G → (n : ℕ) {start : Run → Outcome World} {result : Result (Unit {0}) Fault} (old new : Forth D G) (levels : List Level) {x : World} (t : T)
-      → Stands old levels x → new.blocks ≡ old.blocks → Entered n start result old new x → RanRound H n start (round_of (stopped result)) old new t t x
+      → Represents old levels x → new.blocks ≡ old.blocks → Entered n start result old new x → RanRound H n start (round_of (stopped result)) old new t t x
   round_entered only_now n {start} {result} old new levels {x} t stands blocks h = record {
     deed = nothing;
     levels = h.levels;

@@ -11,7 +11,7 @@ use Rattle.cell_machine.specs.declared.event.Op.TheVariants as op
 use Rattle.cell_machine.specs.declared.event.Event.TheVariants as event
 use Rattle.stacks.specs.declared.return_stack.Entry.{Entry}
 use Rattle.lexicon.specs.Falling.{fall_of, Paid}
-use Rattle.interpreter.specs.Falls.{WhereFree}
+use Rattle.interpreter.specs.FreeServices.{WhereFree}
 use Rattle.system_words.specs.declared.words.Meaning.{Meaning as RowMeaning}
 use Rattle.system_words.specs.declared.words.Meaning.TheVariants.{Runs, Asks, Exits, Marks}
 use Rattle.system_words.specs.declared.words.Service.{Service}
@@ -38,7 +38,7 @@ use Rattle.lexicon.specs.Stands.{Stands as Means}
 use Rattle.lexicon.specs.Laws.{ServicesAreOutside}
 use Rattle.lexicon.specs.Running.{meanings, meaning_of, word_meaning, AsksFor}
 use Rattle.interpreter.specs.Lexicon.{language_of, IsDue}
-use Rattle.interpreter.specs.Rounds.{IsAtText, GoesDown}
+use Rattle.interpreter.specs.RoundContract.{IsAtText, Decreases}
 use Rattle.interpreter.proofs.Frugal.{serve-frugal}
 use Rattle.interpreter.proofs.Same.{serve_agrees}
 
@@ -229,7 +229,7 @@ pub finished_at_text : (words : ℕ → Meaning) (k : ℕ) (levels after : List 
 finished_at_text words k levels after c d is = subst EndsAtText is (steps_end words k levels c)
 
 -- where what comes of a round goes down, it goes down
-pub down_if : (result : Result Round Stop) (before after : ℕ) → after < before → GoesDown result before after
+pub down_if : (result : Result Round Stop) (before after : ℕ) → after < before → Decreases result before after
 down_if (Ok GoesOn) before after h = h
 down_if (Ok Over) before after h = tt
 down_if (Err s) before after h = tt

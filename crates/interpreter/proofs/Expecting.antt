@@ -8,9 +8,9 @@ use Rattle.cell_machine.specs.Frames.{Level}
 use Rattle.interpreter.specs.declared.fault.Stop.{Stop}
 use Rattle.interpreter.specs.declared.fault.Stop.TheVariants as stop
 use Rattle.interpreter.specs.declared.fault.Fault.TheVariants as found
-use Rattle.interpreter.specs.Standing.{core, Stands, StandsAfter}
+use Rattle.interpreter.specs.Representation.{core, Represents, RepresentsAfter}
 use Rattle.interpreter.specs.Deeds.{nothing}
-use Rattle.interpreter.specs.Serving.{Comes, Ran}
+use Rattle.interpreter.specs.ServiceContract.{Comes, Ran}
 use Rattle.interpreter.proofs.Running.{OnlyNow, maps_same, heard_nothing}
 use Rattle.interpreter.proofs.Then.{heard_then, or-true}
 use Rattle.std.proofs.lemmas.List.{append-nil, length-append, take-append-drop, set_split, drop-drop, take_all, length-take-le}
@@ -26,7 +26,7 @@ use Rattle.interpreter.specs.State.{World, Run, with_run, with_input, with_termi
 use Rattle.interpreter.specs.Terminals.{stored, unread, meets_end, asked, store_input, expect_done, expect_of, terminal_call, key_of}
 use Rattle.interpreter.specs.Deeds.{Deed, longer, before, after, mended, Fits}
 use Rattle.interpreter.specs.Law.{run_after, Grows, IsWithin}
-use Rattle.interpreter.specs.Serving.{Broke, Heard}
+use Rattle.interpreter.specs.ServiceContract.{Broke, Heard}
 use Rattle.interpreter.specs.Reading.{Reading, reads, Filling, Stepped}
 use Rattle.sector_disk.specs.declared.device.SectorDevice.{Ghosts}
 use Rattle.interpreter.specs.declared.terminal.Terminal.{Ghosts as TerminalGhosts}
@@ -391,12 +391,12 @@ module _ {T : Type 0} (H : TerminalGhosts T) where
 -- ---- a service that reads
 
 module _ {D T : Type 0} (G : Ghosts D) (H : TerminalGhosts T) (only_now : OnlyNow G) where
-  stands_for : (result : Result (Unit {0}) Stop) (forth : Forth D G) {levels : List Level} {x : World} → Stands forth levels x → StandsAfter result forth levels x
+  stands_for : (result : Result (Unit {0}) Stop) (forth : Forth D G) {levels : List Level} {x : World} → Represents forth levels x → RepresentsAfter result forth levels x
   stands_for (Ok v) forth {levels} {x} s = s
   stands_for (Err e) forth {levels} {x} s = s.rests
 
   pub ran_reading : {start : Run → Outcome World} (result : Result (Unit {0}) Stop) (given : List ℕ) (met : Bool) (calls : ℕ) (old new : Forth D G) {t t' : T} {levels : List Level} {x : World}
-      → Stands old levels x → new ≡ record old { space = new.space } → Heard H result (reads given met calls) t t'
+      → Represents old levels x → new ≡ record old { space = new.space } → Heard H result (reads given met calls) t t'
       → Comes start (reads given met calls) result (record (core old) { space = new.space }) x
       → Ran H start result old new t t' levels x
   ran_reading {start} result given met calls old new {t} {t'} {levels} {x} stands rest heard comes =
@@ -414,7 +414,7 @@ module _ {D T : Type 0} (G : Ghosts D) (H : TerminalGhosts T) (only_now : OnlyNo
 
   -- it is over: something was read, or not
   pub ran_over : {start : Run → Outcome World} (some : Bool) (result : Result (Unit {0}) Stop) (given : List ℕ) (met : Bool) (calls a count : ℕ) (bytes : List ℕ) (old mid new : Forth D G) {t t' : T} {levels : List Level} {x : World}
-      → Stands old levels x → mid ≡ record old { space = mid.space } → Heard H (Ok tt) (reads given met calls) t t'
+      → Represents old levels x → mid ≡ record old { space = mid.space } → Heard H (Ok tt) (reads given met calls) t t'
       → mid.space ≡ with_bytes old.space a bytes → count ≡ length bytes → (some ≡ false → bytes ≡ [])
       → result ≡ (if some then Ok tt else Err (stop.Fault found.EndOfInput)) → new ≡ (if some then record mid { space = with_cell mid.space span_cell count } else mid)
       → ((r : Run) → Fits (reads given met calls) r → start (before (reads given met calls) r)
@@ -438,7 +438,7 @@ module _ {D T : Type 0} (G : Ghosts D) (H : TerminalGhosts T) (only_now : OnlyNo
       })))
 
   pub ran_byte : {start : Run → Outcome World} (given : List ℕ) (met : Bool) (calls : ℕ) (stack : List ℕ) (old new : Forth D G) {t t' : T} {levels : List Level} {x : World}
-      → Stands old levels x → new ≡ record old { stack = stack } → Heard H (Ok tt) (reads given met calls) t t'
+      → Represents old levels x → new ≡ record old { stack = stack } → Heard H (Ok tt) (reads given met calls) t t'
       → Comes start (reads given met calls) (Ok tt) (record (core old) { stack = stack }) x
       → Ran H start (Ok tt) old new t t' levels x
   ran_byte {start} given met calls stack old new {t} {t'} {levels} {x} stands left heard comes =

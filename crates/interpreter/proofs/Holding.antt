@@ -13,8 +13,8 @@ use Rattle.cell_machine.specs.Frames.{Core, Level}
 use Rattle.cell_machine.specs.Value.{Outcome, Did, and_then}
 use Rattle.interpreter.specs.State.{World, Run, with_run, needing}
 use Rattle.interpreter.specs.Pictures.{hold, hold_all}
-use Rattle.interpreter.specs.Standing.{core, Stands}
-use Rattle.interpreter.specs.Serving.{Altered}
+use Rattle.interpreter.specs.Representation.{core, Represents}
+use Rattle.interpreter.specs.ServiceContract.{Altered}
 use Rattle.interpreter.specs.declared.fault.Fault.{Fault}
 use Rattle.interpreter.specs.declared.forth.Forth.{Forth}
 use Rattle.interpreter.proofs.Altering.{gives_as}
@@ -95,7 +95,7 @@ module _ {D : Type 0} {G : Ghosts D} where
   -- from here on only the rest is to be held
   pub record Holding (base number rest : ℕ) (old new : Forth D G) (levels : List Level) (x : World) : Type 0 where
     pub world : World
-    pub stands : Stands new levels world
+    pub stands : Represents new levels world
     pub goes : (r : Run) → all_of base number (core old) (with_run r x) ≡ all_of base rest (core new) (with_run r world)
     pub maps : world.maps ≡ x.maps
     pub steps : new.steps ≤ old.steps

@@ -18,9 +18,9 @@ pub mod Deeds
 pub mod Calls
 pub mod Running
 pub mod Then
-pub mod Rounds
+pub mod RoundContract
 pub mod Events
-pub mod Lining
+pub mod LineContract
 pub mod Promised
 pub mod Serviced
 pub mod Reading

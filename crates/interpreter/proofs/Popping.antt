@@ -11,8 +11,8 @@ use Rattle.interpreter.specs.declared.fault.Stop.TheVariants as stop
 use Rattle.interpreter.specs.declared.forth.Forth.{Forth}
 use Rattle.interpreter.specs.State.{World, Run, with_run}
 use Rattle.interpreter.specs.Stops.{fault_of}
-use Rattle.interpreter.specs.Standing.{core, Stands}
-use Rattle.interpreter.specs.Serving.{Ran}
+use Rattle.interpreter.specs.Representation.{core, Represents}
+use Rattle.interpreter.specs.ServiceContract.{Ran}
 use Rattle.interpreter.proofs.Altering.{refused}
 use Rattle.interpreter.proofs.Running.{OnlyNow, quiet, ran_as}
 
@@ -21,8 +21,8 @@ module _ {D : Type 0} {G : Ghosts D} where
   abbrev pub OnlyStack : (old mid : Forth D G) → Type 0
   OnlyStack old mid = mid ≡ record old { stack = mid.stack }
 
-  pub stands_popped : (old mid : Forth D G) {levels : List Level} {x : World} → OnlyStack old mid → Stands old levels x → Stands mid levels x
-  stands_popped old mid {levels} {x} rest stands = subst (λ (f : Forth D G). Stands f levels x) (sym rest) stands
+  pub stands_popped : (old mid : Forth D G) {levels : List Level} {x : World} → OnlyStack old mid → Represents old levels x → Represents mid levels x
+  stands_popped old mid {levels} {x} rest stands = subst (λ (f : Forth D G). Represents f levels x) (sym rest) stands
 
   pub core_popped : (old mid : Forth D G) → OnlyStack old mid → core mid ≡ record (core old) { stack = mid.stack }
   core_popped old mid rest = ap (λ (f : Forth D G). core f) rest
@@ -33,7 +33,7 @@ module _ {D : Type 0} {G : Ghosts D} where
 module _ {D T : Type 0} (G : Ghosts D) (H : TerminalGhosts T) where
   -- it is refused
   pub ran_refused : OnlyNow G → {start : Run → Outcome World} {f : Fault} (old new : Forth D G) (t : T) {levels : List Level} {x : World}
-      → Stands old levels x → OnlyStack old new → (said : Core) → said.space ≡ old.space → ((r : Run) → start r ≡ Ends (Faults (fault_of f)) said (with_run r x))
+      → Represents old levels x → OnlyStack old new → (said : Core) → said.space ≡ old.space → ((r : Run) → start r ≡ Ends (Faults (fault_of f)) said (with_run r x))
       → Ran H start (Err (stop.Fault f)) old new t t levels x
   ran_refused only_now {start} {f} old new t {levels} {x} stands rest said same ends =
       quiet G H only_now {result = Err f} old new t stands (ap (λ (f : Forth D G). f.blocks) rest)
@@ -41,7 +41,7 @@ module _ {D T : Type 0} (G : Ghosts D) (H : TerminalGhosts T) where
 
   -- it paid, and then it is refused
   pub ran_refused_paid : OnlyNow G → {start : Run → Outcome World} {f : Fault} (old mid : Forth D G) (steps : ℕ) (t : T) {levels : List Level} {x : World}
-      → Stands old levels x → OnlyStack old mid → steps ≤ mid.steps → (said : Core) → said.space ≡ old.space → ((r : Run) → start r ≡ Ends (Faults (fault_of f)) said (with_run r x))
+      → Represents old levels x → OnlyStack old mid → steps ≤ mid.steps → (said : Core) → said.space ≡ old.space → ((r : Run) → start r ≡ Ends (Faults (fault_of f)) said (with_run r x))
       → Ran H start (Err (stop.Fault f)) old (record mid { steps = steps }) t t levels x
   ran_refused_paid only_now {start} {f} old mid steps t {levels} {x} stands rest fewer said same ends =
       quiet G H only_now {result = Err f} old (record mid { steps = steps }) t stands (ap (λ (f : Forth D G). f.blocks) rest)

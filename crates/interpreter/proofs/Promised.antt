@@ -20,11 +20,11 @@ use Rattle.interpreter.specs.Lines.{Ended, Turn, Line, Broken, line, line_on, be
 use Rattle.interpreter.specs.Promise.{HasRisenBy, Replied, Stopped, Answers, Keeps}
 use Rattle.interpreter.specs.State as state
 use Rattle.interpreter.specs.State.{World, Run, new_run, idle, with_run}
-use Rattle.interpreter.specs.Standing.{device}
-use Rattle.interpreter.specs.Serving.{Heard}
+use Rattle.interpreter.specs.Representation.{device}
+use Rattle.interpreter.specs.ServiceContract.{Heard}
 use Rattle.interpreter.specs.Terminal.{Begins}
-use Rattle.interpreter.proofs.Lining.{begins_then}
-use Rattle.interpreter.specs.Lining.{line_end, heard_of, LineLeft, LineBroke, LineBreaksOff, LineComes, Lined, IsSystem}
+use Rattle.interpreter.proofs.LineContract.{begins_then}
+use Rattle.interpreter.specs.LineContract.{line_end, heard_of, LineLeft, LineBroke, LineBreaksOff, LineComes, RanLine, IsSystem}
 
 or-none : (b : Bool) → (b || false) ≡ b
 or-none true = refl
@@ -133,7 +133,7 @@ module _ {D T : Type 0} (G : Ghosts D) (H : TerminalGhosts T) (opening : state.F
 
 module _ {D T : Type 0} (G : Ghosts D) (H : TerminalGhosts T) where
   pub promised : (opening : state.Forth) (bytes : List ℕ) (e : LineEnd) (old new : Forth D G) (t u : T) → IsSystem old opening → new.budget ≡ old.budget → G.keeps_model (device new) ≡ G.keeps_model (device old)
-      → Lined H (λ r. line opening bytes r) e old new t u opening.world
+      → RanLine H (λ r. line opening bytes r) e old new t u opening.world
       → (after : state.Forth) × (made : List Save) × IsSystem new after
       × Answers G (line_end e) new.place opening bytes after (H.input t) (H.input u) (H.output t) (H.output u) (H.calls t) (H.calls u) (device old) (device new) made
       × Keeps G opening after (device old) (device new) made
@@ -143,8 +143,8 @@ module _ {D T : Type 0} (G : Ghosts D) (H : TerminalGhosts T) where
         closing opening k.core h.world,
         h.deed.saves,
         record {
-          waits = record {
-            budget = system.waits.budget ∙ sym budget;
+          represents = record {
+            budget = system.represents.budget ∙ sym budget;
             same_core = record { stack = k.same_core.stack; space = k.same_core.space };
             rests = record { meant = h.rests.meant; held_end = h.rests.held_end; held = h.rests.held; buffers = h.rests.buffers; maps = h.rests.maps };
           };

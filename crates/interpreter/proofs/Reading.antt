@@ -11,7 +11,7 @@ use Rattle.interpreter.specs.State.{World, system_cell, set_cell, to_in_cell, bl
 use Rattle.interpreter.specs.Streams.{stream_of, known}
 use Rattle.interpreter.specs.Text.{text, serve, next_word, treat}
 use Rattle.interpreter.specs.Law.{left}
-use Rattle.interpreter.specs.Rounds.{IsAtText}
+use Rattle.interpreter.specs.RoundContract.{IsAtText}
 use Rattle.interpreter.specs.TextRounds.{after_text, word_round}
 use Rattle.interpreter.proofs.Enter.{text_goes_on}
 

@@ -19,8 +19,8 @@ use Rattle.interpreter.specs.declared.forth.Forth.{Forth}
 use Rattle.interpreter.specs.Deeds.{Deed, nothing, before, after, mended}
 use Rattle.interpreter.specs.State.{World, Run, with_run}
 use Rattle.interpreter.specs.Stops.{fault_of}
-use Rattle.interpreter.specs.Standing.{core, device, Rests, Stands, StandsAfter}
-use Rattle.interpreter.specs.Serving.{Comes, Heard, Printed, KeepsAndWears, Gives, Altered, Ran, stopped, failed_calls}
+use Rattle.interpreter.specs.Representation.{core, device, RepresentsWorld, Represents, RepresentsAfter}
+use Rattle.interpreter.specs.ServiceContract.{Comes, Heard, Printed, KeepsAndWears, Gives, Altered, Ran, stopped, failed_calls}
 use Rattle.block_words.specs.declared.Blocks.{Blocks}
 use Rattle.interpreter.specs.Promise.{HasRisenBy}
 use Rattle.interpreter.specs.Law.{run_after, Grows}
@@ -84,18 +84,18 @@ comes_quiet start (Err f) c x g =
 
 -- ---- services of the smaller kinds
 
-pub stands_stopped : {D : Type 0} {G : Ghosts D} (result : Result (Unit {0}) Fault) (forth : Forth D G) (levels : List Level) (x : World) → StandsAfter result forth levels x → StandsAfter (stopped result) forth levels x
+pub stands_stopped : {D : Type 0} {G : Ghosts D} (result : Result (Unit {0}) Fault) (forth : Forth D G) (levels : List Level) (x : World) → RepresentsAfter result forth levels x → RepresentsAfter (stopped result) forth levels x
 stands_stopped (Ok v) forth levels x s = s
 stands_stopped (Err f) forth levels x s = s
 
-rests : {D : Type 0} {G : Ghosts D} {A E : Type 0} (result : Result A E) (forth : Forth D G) (levels : List Level) (x : World) → StandsAfter result forth levels x → Rests forth x
+rests : {D : Type 0} {G : Ghosts D} {A E : Type 0} (result : Result A E) (forth : Forth D G) (levels : List Level) (x : World) → RepresentsAfter result forth levels x → RepresentsWorld forth x
 rests (Ok v) forth levels x s = s.rests
 rests (Err f) forth levels x s = s
 
 module _ {D T : Type 0} (G : Ghosts D) (H : TerminalGhosts T) where
   -- one that reaches neither
   pub quiet : OnlyNow G → {start : Run → Outcome World} {result : Result (Unit {0}) Fault} (old new : Forth D G) {levels : List Level} {x : World} (t : T)
-      → Stands old levels x → new.blocks ≡ old.blocks → Altered start result old new levels x → Ran H start (stopped result) old new t t levels x
+      → Represents old levels x → new.blocks ≡ old.blocks → Altered start result old new levels x → Ran H start (stopped result) old new t t levels x
   quiet only_now {start} {result} old new {levels} {x} t stands blocks h = record {
     deed = nothing;
     world = h.world;

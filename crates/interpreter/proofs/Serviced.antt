@@ -11,14 +11,14 @@ use Rattle.interpreter.specs.declared.forth.Forth.{Forth}
 use Rattle.interpreter.specs.Deeds.{Deed, before, after, mended}
 use Rattle.interpreter.specs.Law.{left, run_after, Grows}
 use Rattle.interpreter.specs.State.{World, Run}
-use Rattle.interpreter.specs.Standing.{core}
-use Rattle.interpreter.specs.Serving.{Broke, BreaksOff, Comes, Ran}
-use Rattle.interpreter.specs.Rounds.{round_of, RanRound}
+use Rattle.interpreter.specs.Representation.{core}
+use Rattle.interpreter.specs.ServiceContract.{Broke, BreaksOff, Comes, Ran}
+use Rattle.interpreter.specs.RoundContract.{round_of, RanRound}
 use Rattle.interpreter.proofs.Lasting.{only_grows, begins_itself, holds, no_input_lasts}
 use Rattle.interpreter.proofs.Answered.{left-li}
 use Rattle.interpreter.proofs.Quiet.{stays_quiet}
 use Rattle.interpreter.proofs.Wearing.{within_itself}
-use Rattle.interpreter.proofs.Lining.{grows_then}
+use Rattle.interpreter.proofs.LineContract.{grows_then}
 
 -- without input, none comes
 no_input : (n : ℕ) (levels : List Level) (c : Core) (x : World) → x.run.input ≡ [] → (run_after (left n levels c x)).input ≡ []

@@ -8,7 +8,7 @@ use Rattle.interpreter.specs.declared.fault.Fault.{Fault}
 use Rattle.interpreter.specs.declared.fault.Fault.TheVariants as found
 use Rattle.interpreter.specs.declared.lines.LineEnd.{LineEnd}
 use Rattle.interpreter.specs.declared.lines.LineEnd.TheVariants as end
-use Rattle.interpreter.specs.Lining.{Counts}
+use Rattle.interpreter.specs.LineContract.{Counts}
 use Rattle.interpreter.specs.Stops.{fault_count}
 
 -- its reply may be cut off

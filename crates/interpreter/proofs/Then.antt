@@ -19,7 +19,7 @@ use Rattle.interpreter.specs.Deeds.{Deed, then, before, after, mended, Fits}
 use Rattle.interpreter.specs.Law.{run_after, Grows}
 use Rattle.interpreter.specs.State.{World, Run, with_run}
 use Rattle.interpreter.specs.Stops.{ending_of}
-use Rattle.interpreter.specs.Serving.{Left, Broke, BreaksOff, Comes, Heard, Printed, KeepsAndWears, failed_calls}
+use Rattle.interpreter.specs.ServiceContract.{Left, Broke, BreaksOff, Comes, Heard, Printed, KeepsAndWears, failed_calls}
 use Rattle.interpreter.proofs.Deeds.{before-then, after-then, mended-then}
 use Rattle.block_words.proofs.Worn.{wears_then}
 use Rattle.interpreter.specs.Promise.{HasRisenBy}

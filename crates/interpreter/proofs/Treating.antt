@@ -15,9 +15,9 @@ use Rattle.interpreter.specs.State.{World, Run, with_run, system_cell, base_cell
 use Rattle.interpreter.specs.Text.{number_value}
 use Rattle.interpreter.specs.Pictures.{with_base}
 use Rattle.interpreter.specs.Law.{left}
-use Rattle.interpreter.specs.Standing.{core}
-use Rattle.interpreter.specs.Serving.{Altered}
-use Rattle.interpreter.specs.Rounds.{Entered}
+use Rattle.interpreter.specs.Representation.{core}
+use Rattle.interpreter.specs.ServiceContract.{Altered}
+use Rattle.interpreter.specs.RoundContract.{Entered}
 use Rattle.interpreter.specs.TextRounds.{after_text, treated, word_round}
 use Rattle.interpreter.proofs.Short.{needing-no, needing-yes}
 

@@ -23,9 +23,9 @@ use Rattle.interpreter.specs.Deeds.{Deed, before, after, mended}
 use Rattle.interpreter.specs.Law.{left, run_after, Grows}
 use Rattle.interpreter.specs.State.{World, Run}
 use Rattle.interpreter.specs.Text.{user_kind, user_word}
-use Rattle.interpreter.specs.Standing.{core, Stands}
-use Rattle.interpreter.specs.Serving.{Broke, BreaksOff, Comes, Altered, Consulted, Ran, Spares, stopped}
-use Rattle.interpreter.specs.Rounds.{round_of, RanRound, Entered}
+use Rattle.interpreter.specs.Representation.{core, Represents}
+use Rattle.interpreter.specs.ServiceContract.{Broke, BreaksOff, Comes, Altered, Consulted, Ran, Spares, stopped}
+use Rattle.interpreter.specs.RoundContract.{round_of, RanRound, Entered}
 use Rattle.interpreter.proofs.Running.{OnlyNow, quiet}
 use Rattle.interpreter.proofs.Consulting.{consulted_ran}
 use Rattle.interpreter.proofs.Entering.{round_entered}
@@ -42,7 +42,7 @@ module _ {D T : Type 0} (G : Ghosts D) (H : TerminalGhosts T) (n : ℕ) (levels 
       subst (λ round. RanRound H n (λ r. and_then (start r) (λ c x. left n levels c x)) round old new t u x) (sym is) (served_round H n levels result h)
 
   pub quiet_round : OnlyNow G → {start : Run → Outcome World} {result : Result (Unit {0}) Fault} {round : Result Round Stop} (old new : Forth D G) (t : T) {x : World}
-      → round ≡ round_of (stopped result) → Stands old levels x → Spares result old new → Altered start result old new levels x → RanRound H n (λ r. and_then (start r) (λ c x. left n levels c x)) round old new t t x
+      → round ≡ round_of (stopped result) → Represents old levels x → Spares result old new → Altered start result old new levels x → RanRound H n (λ r. and_then (start r) (λ c x. left n levels c x)) round old new t t x
   quiet_round only_now old new t is stands spares h = ran_round old new t t is (quiet G H only_now old new t stands spares.device h)
 
   pub consulted_round : {start : Run → Outcome World} {result : Result (Unit {0}) Fault} {round : Result Round Stop} (old new : Forth D G) (t : T) {x : World}
@@ -50,7 +50,7 @@ module _ {D T : Type 0} (G : Ghosts D) (H : TerminalGhosts T) (n : ℕ) (levels 
   consulted_round old new t is h = ran_round old new t t is (consulted_ran H t h)
 
   pub entered_round : OnlyNow G → {start : Run → Outcome World} {result : Result (Unit {0}) Fault} {round : Result Round Stop} (old new : Forth D G) (t : T) {x : World}
-      → round ≡ round_of (stopped result) → Stands old levels x → Spares result old new → Entered n start result old new x → RanRound H n start round old new t t x
+      → round ≡ round_of (stopped result) → Represents old levels x → Spares result old new → Entered n start result old new x → RanRound H n start round old new t t x
   entered_round only_now {start} {result} {round} old new t {x} is stands spares h =
       subst (λ round. RanRound H n start round old new t t x) (sym is) (round_entered G H only_now n old new levels t stands spares.device h)
 

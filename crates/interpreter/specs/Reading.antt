@@ -8,7 +8,7 @@ use Rattle.sector_disk.specs.declared.device.SectorDevice.{Ghosts}
 use Rattle.interpreter.specs.declared.terminal.Terminal.{Ghosts as TerminalGhosts}
 use Rattle.interpreter.specs.declared.forth.Forth.{Forth}
 use Rattle.interpreter.specs.declared.services.reading_words.Room.{Room}
-use Rattle.interpreter.specs.Serving.{Heard}
+use Rattle.interpreter.specs.ServiceContract.{Heard}
 use Rattle.interpreter.specs.Deeds.{Deed, nothing}
 use Rattle.interpreter.specs.Terminals.{stored, unread, meets_end, asked}
 

@@ -19,9 +19,9 @@ use Rattle.interpreter.specs.Text.{serve, back, treat, with_number}
 use Rattle.lexicon.specs.Kinds.{is_immediate}
 use Rattle.interpreter.specs.Compiling.{compile_word}
 use Rattle.dictionary.specs.Words.{entry}
-use Rattle.interpreter.specs.Standing.{core, device, HasModel}
-use Rattle.interpreter.specs.Serving.{KeepsAndWears, stopped}
-use Rattle.interpreter.specs.Rounds.{RoundComes, StandsAfterRound}
+use Rattle.interpreter.specs.Representation.{core, device, HasModel}
+use Rattle.interpreter.specs.ServiceContract.{KeepsAndWears, stopped}
+use Rattle.interpreter.specs.RoundContract.{RoundComes, RepresentsAfterRound}
 use Rattle.interpreter.specs.Looking.{Seen}
 
 -- what comes at the end of the text: the line is over, or what the load stood in goes on
@@ -65,7 +65,7 @@ module _ {D : Type 0} {G : Ghosts D} where
   pub record Passed (n : ℕ) (start : Run → Outcome World) (result : Result Round Fault) (old new : Forth D G) (x : World) : Type 0 where
     pub levels : List Level
     pub world : World
-    pub stands : StandsAfterRound (stopped result) new levels world
+    pub stands : RepresentsAfterRound (stopped result) new levels world
     pub goes : PassesTo n start result levels (core new) world
     pub maps : world.maps ≡ x.maps
     pub steps : new.steps ≤ old.steps
@@ -78,7 +78,7 @@ module _ {D : Type 0} {G : Ghosts D} where
     pub saves : List Save
     pub levels : List Level
     pub world : World
-    pub stands : StandsAfterRound (stopped result) new levels world
+    pub stands : RepresentsAfterRound (stopped result) new levels world
     pub steps : new.steps ≤ old.steps
     pub comes : HasModel old → RoundComes n start (asking answers failures wear saves) (stopped result) levels (core new) world
     pub cause : HasRisenBy failures (G.failures (device old)) (G.failures (device new))

@@ -2,7 +2,7 @@
 ghost use Rattle.std.specs.Prelude.{◌≡◌, ℕ};
 ghost use Rattle.cell_machine.specs.Events.{fault_of as machine_fault_of};
 ghost use Rattle.interpreter.specs.Stops.{fault_of, fault_count};
-ghost use Rattle.interpreter.specs.Serving.{stopped};
+ghost use Rattle.interpreter.specs.ServiceContract.{stopped};
 
 use crate::fault::{Fault, Stop};
 use crate::forth::Forth;
@@ -50,17 +50,17 @@ impl<D: SectorDevice> Forth<D> {
     ghost use Rattle.cell_machine.specs.Frames.{Level};
     ghost use Rattle.interpreter.specs.Law.{left};
     ghost use Rattle.interpreter.specs.State.{World, with_run};
-    ghost use Rattle.interpreter.specs.Standing.{core, Stands, IsSound};
-    ghost use Rattle.interpreter.specs.Serving.{Ran, Continues};
-    ghost use Rattle.interpreter.specs.Rounds.{RanRound, ContinuesRound, weight, GoesDown};
+    ghost use Rattle.interpreter.specs.Representation.{core, Represents, IsSound};
+    ghost use Rattle.interpreter.specs.ServiceContract.{Ran, Continues};
+    ghost use Rattle.interpreter.specs.RoundContract.{RanRound, ContinuesRound, measure, Decreases};
 
     /// What is left to do in the machine, up to what it asks for; and that, or a word of the text.
     pub(crate) fn round<T: Terminal>(&mut self, terminal: &mut T) -> Result<Round, Stop>
         requires sound { IsSound self.old }
-        ensures round { (n : ℕ) (levels : List Level) (x : World) → self.old.steps < n → Stands self.old levels x
+        ensures round { (n : ℕ) (levels : List Level) (x : World) → self.old.steps < n → Represents self.old levels x
             → RanRound T.Terminal n (λ r. left n levels (core self.old) (with_run r x))
             result self.old self.new terminal.old terminal.new x }
-        ensures down { GoesDown result (weight self.old) (weight self.new) }
+        ensures down { Decreases result (measure self.old) (measure self.new) }
         ensures continues { ContinuesRound T.Terminal result self.old self.new terminal.old terminal.new }
     {
         services();
@@ -83,7 +83,7 @@ impl<D: SectorDevice> Forth<D> {
     /// All that is left to do, and the text to its end.
     pub(crate) fn interpret<T: Terminal>(&mut self, terminal: &mut T) -> Result<(), Stop>
         requires sound { IsSound self.old }
-        ensures ran { (n : ℕ) (levels : List Level) (x : World) → self.old.steps < n → Stands self.old levels x
+        ensures ran { (n : ℕ) (levels : List Level) (x : World) → self.old.steps < n → Represents self.old levels x
             → Ran T.Terminal (λ r. left n levels (core self.old) (with_run r x))
             result self.old self.new terminal.old terminal.new [] x }
         ensures continues { Continues T.Terminal result self.old self.new terminal.old terminal.new }

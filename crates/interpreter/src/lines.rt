@@ -58,15 +58,15 @@ impl<D: SectorDevice> Forth<D> {
     ghost use Rattle.interpreter.specs.Text.{compiling};
     ghost use Rattle.interpreter.specs.Lines.{replied, ended, after_fault, end_of_line, at_rest, dropped, with_empty_stack, with_line, line, place_in};
     ghost use Rattle.interpreter.specs.State.{World, Forth as Abstract, with_run};
-    ghost use Rattle.interpreter.specs.Standing.{core, device, Rests, IsAtRest, Stands};
-    ghost use Rattle.interpreter.specs.Lining.{Lined, LastsLine, line_end, SameStackAndSpace, SameSpace, Waits, IsSystem, Cleared, Clears, is_broken, Counts};
+    ghost use Rattle.interpreter.specs.Representation.{core, device, RepresentsWorld, IsSoundBetweenLines, Represents};
+    ghost use Rattle.interpreter.specs.LineContract.{RanLine, LastsLine, line_end, SameStackAndSpace, SameSpace, RepresentsForth, IsSystem, Cleared, Clears, is_broken, Counts};
     ghost use Rattle.block_words.specs.Words.{Save};
     ghost use Rattle.interpreter.specs.Promise.{Answers, Keeps, IsPlaced};
-    ghost use Rattle.interpreter.specs.Serving.{SparesAll};
+    ghost use Rattle.interpreter.specs.ServiceContract.{SparesAll};
 
     /// STATE and BLK are 0, and no definition is open.
     fn close(&mut self)
-        ensures closes { (x : World) → Rests self.old x → Rests self.new (dropped x) }
+        ensures closes { (x : World) → RepresentsWorld self.old x → RepresentsWorld self.new (dropped x) }
         ensures space { (c : Core) → SameSpace c self.old → SameSpace (at_rest c) self.new }
         ensures size { length self.new.space ≡ 65536 }
         ensures stack { self.new.stack ≡ self.old.stack }
@@ -81,9 +81,9 @@ impl<D: SectorDevice> Forth<D> {
 
     /// The same, and the data stack is empty.
     fn abandon(&mut self)
-        ensures closes { (x : World) → Rests self.old x → Rests self.new (dropped x) }
+        ensures closes { (x : World) → RepresentsWorld self.old x → RepresentsWorld self.new (dropped x) }
         ensures same_core { (c : Core) → SameSpace c self.old → SameStackAndSpace (with_empty_stack (at_rest c)) self.new }
-        ensures clears { (x : World) → Rests self.old x → Cleared self.new }
+        ensures clears { (x : World) → RepresentsWorld self.old x → Cleared self.new }
         ensures steps { self.new.steps ≡ self.old.steps }
         ensures spares { SparesAll self.old self.new }
         ensures budget { self.new.budget ≡ self.old.budget }
@@ -94,9 +94,9 @@ impl<D: SectorDevice> Forth<D> {
 
     /// What a terminal that failed leaves: the same, and no place.
     fn break_off(&mut self)
-        ensures closes { (x : World) → Rests self.old x → Rests self.new (dropped x) }
+        ensures closes { (x : World) → RepresentsWorld self.old x → RepresentsWorld self.new (dropped x) }
         ensures same_core { (c : Core) → SameSpace c self.old → SameStackAndSpace (with_empty_stack (at_rest c)) self.new }
-        ensures clears { (x : World) → Rests self.old x → Cleared self.new }
+        ensures clears { (x : World) → RepresentsWorld self.old x → Cleared self.new }
         ensures steps { self.new.steps ≡ self.old.steps }
         ensures spares { SparesAll self.old self.new }
         ensures budget { self.new.budget ≡ self.old.budget }
@@ -115,13 +115,13 @@ impl<D: SectorDevice> Forth<D> {
         terminal: &mut T,
     ) -> LineEnd
         requires { is_broken end ≡ false }
-        ensures lined { (c : Core) (x : World) → SameStackAndSpace c self.old → Rests self.old x
-            → Lined T.Terminal (λ r. replied (line_end end) place (print bytes.now c (with_run r x)))
+        ensures lined { (c : Core) (x : World) → SameStackAndSpace c self.old → RepresentsWorld self.old x
+            → RanLine T.Terminal (λ r. replied (line_end end) place (print bytes.now c (with_run r x)))
             result self.old self.new terminal.old terminal.new x }
         ensures lasts { LastsLine D.SectorDevice T.Terminal result (device self.old) (device self.new) terminal.old terminal.new }
         ensures tells { D.failures (device self.new) ≡ D.failures (device self.old) }
         ensures counts { (before after : ℕ) → Counts end before after → Counts result before after }
-        ensures clears { Clears end self.old → (x : World) → Rests self.old x → Clears result self.new }
+        ensures clears { Clears end self.old → (x : World) → RepresentsWorld self.old x → Clears result self.new }
         ensures placed { IsPlaced (line_end end) place → IsPlaced (line_end result) self.new.place }
         ensures steps { self.new.steps ≡ self.old.steps }
         ensures budget { self.new.budget ≡ self.old.budget }
@@ -150,13 +150,13 @@ impl<D: SectorDevice> Forth<D> {
 
     /// The end of a line that a fault stopped at this place, if it was at any.
     fn fail<T: Terminal>(&mut self, fault: Fault, place: Option<Place>, terminal: &mut T) -> LineEnd
-        ensures lined { (c : Core) (x : World) → SameSpace c self.old → Rests self.old x
-            → Lined T.Terminal (λ r. after_fault place (fault_of fault) c (with_run r x))
+        ensures lined { (c : Core) (x : World) → SameSpace c self.old → RepresentsWorld self.old x
+            → RanLine T.Terminal (λ r. after_fault place (fault_of fault) c (with_run r x))
             result self.old self.new terminal.old terminal.new x }
         ensures lasts { LastsLine D.SectorDevice T.Terminal result (device self.old) (device self.new) terminal.old terminal.new }
         ensures tells { D.failures (device self.new) ≡ D.failures (device self.old) }
         ensures counts { (count : ℕ) → Counts result count (fault_count fault count) }
-        ensures clears { (x : World) → Rests self.old x → Clears result self.new }
+        ensures clears { (x : World) → RepresentsWorld self.old x → Clears result self.new }
         ensures placed { IsPlaced (line_end result) self.new.place }
         ensures steps { self.new.steps ≡ self.old.steps }
         ensures budget { self.new.budget ≡ self.old.budget }
@@ -168,13 +168,13 @@ impl<D: SectorDevice> Forth<D> {
 
     /// The end of a line that `QUIT` left: the data stack stays.
     fn quit<T: Terminal>(&mut self, terminal: &mut T) -> LineEnd
-        ensures lined { (c : Core) (x : World) → SameStackAndSpace c self.old → Rests self.old x
-            → Lined T.Terminal (λ r. ended (Ends Quits c (with_run r x)))
+        ensures lined { (c : Core) (x : World) → SameStackAndSpace c self.old → RepresentsWorld self.old x
+            → RanLine T.Terminal (λ r. ended (Ends Quits c (with_run r x)))
             result self.old self.new terminal.old terminal.new x }
         ensures lasts { LastsLine D.SectorDevice T.Terminal result (device self.old) (device self.new) terminal.old terminal.new }
         ensures tells { D.failures (device self.new) ≡ D.failures (device self.old) }
         ensures counts { (count : ℕ) → Counts result count count }
-        ensures clears { (x : World) → Rests self.old x → Clears result self.new }
+        ensures clears { (x : World) → RepresentsWorld self.old x → Clears result self.new }
         ensures placed { IsPlaced (line_end result) self.new.place }
         ensures steps { self.new.steps ≡ self.old.steps }
         ensures budget { self.new.budget ≡ self.old.budget }
@@ -185,13 +185,13 @@ impl<D: SectorDevice> Forth<D> {
 
     /// The end of a line that `ABORT` left.
     fn abort<T: Terminal>(&mut self, terminal: &mut T) -> LineEnd
-        ensures lined { (c : Core) (x : World) → SameSpace c self.old → Rests self.old x
-            → Lined T.Terminal (λ r. ended (Ends Aborts c (with_run r x)))
+        ensures lined { (c : Core) (x : World) → SameSpace c self.old → RepresentsWorld self.old x
+            → RanLine T.Terminal (λ r. ended (Ends Aborts c (with_run r x)))
             result self.old self.new terminal.old terminal.new x }
         ensures lasts { LastsLine D.SectorDevice T.Terminal result (device self.old) (device self.new) terminal.old terminal.new }
         ensures tells { D.failures (device self.new) ≡ D.failures (device self.old) }
         ensures counts { (count : ℕ) → Counts result count count }
-        ensures clears { (x : World) → Rests self.old x → Clears result self.new }
+        ensures clears { (x : World) → RepresentsWorld self.old x → Clears result self.new }
         ensures placed { IsPlaced (line_end result) self.new.place }
         ensures steps { self.new.steps ≡ self.old.steps }
         ensures budget { self.new.budget ≡ self.old.budget }
@@ -209,13 +209,13 @@ impl<D: SectorDevice> Forth<D> {
 
     /// The end of a line whose text came to its end.
     fn finish<T: Terminal>(&mut self, terminal: &mut T) -> LineEnd
-        ensures lined { (c : Core) (x : World) → SameStackAndSpace c self.old → Rests self.old x
-            → Lined T.Terminal (λ r. end_of_line (compiling c) c (with_run r x))
+        ensures lined { (c : Core) (x : World) → SameStackAndSpace c self.old → RepresentsWorld self.old x
+            → RanLine T.Terminal (λ r. end_of_line (compiling c) c (with_run r x))
             result self.old self.new terminal.old terminal.new x }
         ensures lasts { LastsLine D.SectorDevice T.Terminal result (device self.old) (device self.new) terminal.old terminal.new }
         ensures tells { D.failures (device self.new) ≡ D.failures (device self.old) }
         ensures counts { (count : ℕ) → Counts result count count }
-        ensures clears { (x : World) → Rests self.old x → Clears result self.new }
+        ensures clears { (x : World) → RepresentsWorld self.old x → Clears result self.new }
         ensures placed { IsPlaced (line_end result) self.new.place }
         ensures steps { self.new.steps ≡ self.old.steps }
         ensures budget { self.new.budget ≡ self.old.budget }
@@ -231,7 +231,7 @@ impl<D: SectorDevice> Forth<D> {
     fn take_line(&mut self, text: &[u8])
         requires short { length text.now ≤ 1024 }
         requires whole { self.old.steps ≡ self.old.budget }
-        ensures stands { (x : World) → Rests self.old x → Stands self.new [] x }
+        ensures stands { (x : World) → RepresentsWorld self.old x → Represents self.new [] x }
         ensures taken { (c : Core) → SameStackAndSpace c self.old → core self.new ≡ with_line text.now self.old.budget c }
         ensures steps { self.new.steps ≡ self.old.budget }
         ensures device { self.new.blocks ≡ self.old.blocks }
@@ -245,10 +245,10 @@ impl<D: SectorDevice> Forth<D> {
         self.space.set_cell(BLK, 0);
     }
 
-    /// Interprets a line of text, and writes the whole reply to the terminal.
+    /// A line as the trait promises it: as a turn. It adds no instruction.
     pub(crate) fn line_as_turn<T: Terminal>(&mut self, text: &[u8], terminal: &mut T) -> LineEnd
-        requires sound { IsAtRest self.old }
-        ensures sound { IsAtRest self.new }
+        requires sound { IsSoundBetweenLines self.old }
+        ensures sound { IsSoundBetweenLines self.new }
         ensures runs { (opening : Abstract) → IsSystem self.old opening
             → (closing : Abstract) × (made : List Save) × IsSystem self.new closing
             × Answers D.SectorDevice (line_end result) self.new.place opening text.now closing
@@ -265,11 +265,11 @@ impl<D: SectorDevice> Forth<D> {
         self.run_line(text, terminal)
     }
 
-    /// The same, run by run.
+    /// Interprets a line of text, and writes the whole reply to the terminal: what comes of it, run by run.
     fn run_line<T: Terminal>(&mut self, text: &[u8], terminal: &mut T) -> LineEnd
-        requires sound { IsAtRest self.old }
-        ensures lined { (opening : Abstract) → Waits opening self.old
-            → Lined T.Terminal (λ r. line opening text.now r)
+        requires sound { IsSoundBetweenLines self.old }
+        ensures lined { (opening : Abstract) → RepresentsForth opening self.old
+            → RanLine T.Terminal (λ r. line opening text.now r)
             result self.old self.new terminal.old terminal.new opening.world }
         ensures lasts { LastsLine D.SectorDevice T.Terminal result (device self.old) (device self.new) terminal.old terminal.new }
         ensures tells { Counts result (D.failures (device self.old)) (D.failures (device self.new)) }

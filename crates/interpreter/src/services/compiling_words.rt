@@ -49,8 +49,8 @@ impl<D: SectorDevice> Forth<D> {
     ghost use Rattle.interpreter.specs.State.{World, with_run};
     ghost use Rattle.interpreter.specs.Lexicon.{language_of};
     ghost use Rattle.interpreter.specs.Naming.{give_part};
-    ghost use Rattle.interpreter.specs.Standing.{core, Stands};
-    ghost use Rattle.interpreter.specs.Serving.{Alters, Altered, Spares, Consults, ContinuesAlone};
+    ghost use Rattle.interpreter.specs.Representation.{core, Represents};
+    ghost use Rattle.interpreter.specs.ServiceContract.{Alters, Altered, Spares, Consults, ContinuesAlone};
     ghost use Rattle.lexicon.specs.Stands.{IsSound, IsPart};
 
     /// A word on the open definition.
@@ -137,7 +137,7 @@ impl<D: SectorDevice> Forth<D> {
     /// Gives the most recent word the part at a place, as `DOES>` does where its word runs.
     pub(crate) fn give_part(&mut self, place: u16) -> Result<(), Fault>
         requires sound { IsSound self.old.lexicon }
-        ensures alters { (owner : ℕ) (parts : List Trees) (levels : List Level) (x : World) → Stands self.old levels x
+        ensures alters { (owner : ℕ) (parts : List Trees) (levels : List Level) (x : World) → Represents self.old levels x
             → IsPart self.old.lexicon (language_of x) place owner parts
             → Altered (λ r. give_part (record { owner = owner; parts = parts }) (core self.old) (with_run r x))
             result self.old self.new levels x }

@@ -21,13 +21,13 @@ impl<D: SectorDevice> Forth<D> {
     ghost use Rattle.interpreter.specs.State.{World, with_run};
     ghost use Rattle.interpreter.specs.Law.{left};
     ghost use Rattle.interpreter.specs.Text.{serve, on_service, may_execute};
-    ghost use Rattle.interpreter.specs.Standing.{core, Rests, Stands};
-    ghost use Rattle.interpreter.specs.Serving.{Spares};
-    ghost use Rattle.interpreter.specs.Rounds.{Entered};
+    ghost use Rattle.interpreter.specs.Representation.{core, RepresentsWorld, Represents};
+    ghost use Rattle.interpreter.specs.ServiceContract.{Spares};
+    ghost use Rattle.interpreter.specs.RoundContract.{Entered};
 
     /// May `EXECUTE` run the word of this token?
     fn may_execute(&self, token: u16) -> bool
-        ensures { (x : World) → Rests self.now x → result ≡ may_execute token x }
+        ensures { (x : World) → RepresentsWorld self.now x → result ≡ may_execute token x }
     {
         if token == 0 {
             return false;
@@ -41,7 +41,7 @@ impl<D: SectorDevice> Forth<D> {
     /// `EXECUTE`.
     pub(crate) fn execute(&mut self) -> Result<(), Fault>
         requires idle { self.old.machine.pending ≡ None }
-        ensures entered { (m : ℕ) (levels : List Level) (x : World) → self.old.steps ≤ m → Stands self.old levels x
+        ensures entered { (m : ℕ) (levels : List Level) (x : World) → self.old.steps ≤ m → Represents self.old levels x
             → Entered (suc m) (λ r. and_then
             (on_service (suc m) (λ a due c x. serve m a due c x) Execute (around_of levels) (core self.old) (with_run r x))
             (λ c x. left (suc m) levels c x)) result self.old self.new x }
@@ -62,7 +62,7 @@ impl<D: SectorDevice> Forth<D> {
     /// `LOAD`: the text of the block comes next, and what was read goes on after it.
     pub(crate) fn load(&mut self) -> Result<(), Fault>
         requires idle { self.old.machine.pending ≡ None }
-        ensures entered { (m : ℕ) (levels : List Level) (x : World) → self.old.steps ≤ m → Stands self.old levels x
+        ensures entered { (m : ℕ) (levels : List Level) (x : World) → self.old.steps ≤ m → Represents self.old levels x
             → Entered (suc m) (λ r. and_then
             (on_service (suc m) (λ a due c x. serve m a due c x) Load (around_of levels) (core self.old) (with_run r x))
             (λ c x. left (suc m) levels c x)) result self.old self.new x }

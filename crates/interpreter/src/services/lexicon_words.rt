@@ -34,7 +34,7 @@ impl<D: SectorDevice> Forth<D> {
     ghost use Rattle.dictionary.specs.Words.{entry};
     ghost use Rattle.lexicon.specs.Language.{Language};
     ghost use Rattle.lexicon.specs.Stands.{Stands as Means, IsSound, IsWord};
-    ghost use Rattle.interpreter.specs.Serving.{Alters, Spares, SparesAll};
+    ghost use Rattle.interpreter.specs.ServiceContract.{Alters, Spares, SparesAll};
 
     /// A word on the lexicon and `HERE`.
     pub(crate) fn on_lexicon(&mut self, word: LexiconWord) -> Result<(), Fault>

@@ -78,7 +78,7 @@ pub(crate) struct Look {
 }
 
 impl<D: SectorDevice> Forth<D> {
-    ghost use Rattle.interpreter.specs.Serving.{HandsOn, ContinuesAlone};
+    ghost use Rattle.interpreter.specs.ServiceContract.{HandsOn, ContinuesAlone};
     ghost use Rattle.interpreter.specs.Taken.{line_of};
     ghost use Rattle.interpreter.specs.Looking.{look, looked, seen_from, seen_in};
 

@@ -21,7 +21,7 @@ impl<D: SectorDevice> Forth<D> {
     ghost use Rattle.interpreter.specs.Naming.{adding, variable};
     ghost use Rattle.interpreter.specs.NameWords.{on_name};
     ghost use Rattle.interpreter.specs.Compiling.{begun};
-    ghost use Rattle.interpreter.specs.Serving.{Alters, Spares, SparesAll, Consults, ContinuesAlone};
+    ghost use Rattle.interpreter.specs.ServiceContract.{Alters, Spares, SparesAll, Consults, ContinuesAlone};
 
     /// A word that takes a name from the stream.
     pub(crate) fn on_name(&mut self, word: NameWord) -> Result<(), Fault>

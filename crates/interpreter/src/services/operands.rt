@@ -7,7 +7,7 @@ use sector_disk::SectorDevice;
 
 impl<D: SectorDevice> Forth<D> {
     ghost use Rattle.interpreter.specs.State.{pushing};
-    ghost use Rattle.interpreter.specs.Serving.{Alters, Spares, Tells};
+    ghost use Rattle.interpreter.specs.ServiceContract.{Alters, Spares, Tells};
     ghost use Rattle.interpreter.specs.Stops.{fault_count};
 
     /// Pushes a cell, or STACK FULL.

@@ -19,9 +19,9 @@ impl<D: SectorDevice> Forth<D> {
     ghost use Rattle.system_words.specs.declared.words.TerminalWord.TheVariants.{PrintText};
     ghost use Rattle.interpreter.specs.Text.{on_text};
     ghost use Rattle.interpreter.specs.Terminals.{on_terminal};
-    ghost use Rattle.interpreter.specs.Standing.{IsSound};
+    ghost use Rattle.interpreter.specs.Representation.{IsSound};
     ghost use Rattle.lexicon.specs.Stands.{IsSound as IsSoundIn};
-    ghost use Rattle.interpreter.specs.Serving.{Alters, Spares, Consults, ContinuesAlone, Serves, Continues};
+    ghost use Rattle.interpreter.specs.ServiceContract.{Alters, Spares, Consults, ContinuesAlone, Serves, Continues};
 
     /// A word that takes a text from the stream.
     pub(crate) fn on_text(&mut self, word: TextWord) -> Result<(), Fault>

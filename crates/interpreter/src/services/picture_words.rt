@@ -55,7 +55,7 @@ impl<D: SectorDevice> Forth<D> {
     ghost use Rattle.lexicon.specs.Stands.{IsSound};
     ghost use Rattle.interpreter.specs.Pictures.{hold, hold_all, push_double, on_picture};
     ghost use Rattle.interpreter.specs.Terminals.{on_terminal};
-    ghost use Rattle.interpreter.specs.Serving.{Alters, Spares, Serves, Continues};
+    ghost use Rattle.interpreter.specs.ServiceContract.{Alters, Spares, Serves, Continues};
 
     /// A word on the picture of a number.
     pub(crate) fn on_picture(&mut self, word: PictureWord) -> Result<(), Fault>
@@ -120,7 +120,9 @@ impl<D: SectorDevice> Forth<D> {
 
     /// `BASE`, where it is one.
     fn base(&self) -> Option<u16>
-        ensures some { IfSome result (λ base. (base ≡ cell_at self.now.space 16) × (2 ≤ base) × (base ≤ 72)) }
+        ensures cell { IfSome result (λ base. base ≡ cell_at self.now.space 16) }
+        ensures from { IfSome result (λ base. 2 ≤ base) }
+        ensures most { IfSome result (λ base. base ≤ 72) }
         ensures none { IfNone result ((cell_at self.now.space 16 < 2) ⊎ (72 < cell_at self.now.space 16)) }
     {
         let base = cell_of(&self.space, BASE);

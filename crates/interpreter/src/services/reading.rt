@@ -23,9 +23,9 @@ impl<D: SectorDevice> Forth<D> {
     ghost use Rattle.interpreter.specs.Lexicon.{language_of};
     ghost use Rattle.interpreter.specs.Text.{serve, found_word, with_number, number_value};
     ghost use Rattle.interpreter.specs.Pictures.{with_base};
-    ghost use Rattle.interpreter.specs.Standing.{core, Rests, Stands, IsSound};
-    ghost use Rattle.interpreter.specs.Serving.{Alters, Spares, SparesAll, ContinuesAlone, stopped};
-    ghost use Rattle.interpreter.specs.Rounds.{Entered, IsAtText, GoesDown, weight};
+    ghost use Rattle.interpreter.specs.Representation.{core, RepresentsWorld, Represents, IsSound};
+    ghost use Rattle.interpreter.specs.ServiceContract.{Alters, Spares, SparesAll, ContinuesAlone, stopped};
+    ghost use Rattle.interpreter.specs.RoundContract.{Entered, IsAtText, Decreases, measure};
     ghost use Rattle.interpreter.specs.Looking.{seen_in};
     ghost use Rattle.interpreter.specs.TextRounds.{Passed, Advanced, after_text, treated, seen_round, found_compiling, with_double};
 
@@ -33,10 +33,10 @@ impl<D: SectorDevice> Forth<D> {
     pub(crate) fn advance(&mut self) -> Result<Round, Fault>
         requires sound { IsSound self.old }
         requires idle { self.old.machine.pending ≡ None }
-        ensures advanced { (n : ℕ) (levels : List Level) (x : World) → self.old.steps < n → Stands self.old levels x
+        ensures advanced { (n : ℕ) (levels : List Level) (x : World) → self.old.steps < n → Represents self.old levels x
             → IsAtText levels
             → Advanced n (λ r. left n levels (core self.old) (with_run r x)) result self.old self.new x }
-        ensures down { GoesDown (stopped result) (weight self.old) (weight self.new) }
+        ensures down { Decreases (stopped result) (measure self.old) (measure self.new) }
         ensures continues { ContinuesAlone result self.old self.new }
     {
         match self.look(Cut::Word, b' ') {
@@ -51,11 +51,11 @@ impl<D: SectorDevice> Forth<D> {
         requires idle { self.old.machine.pending ≡ None }
         requires within { look.count ≤ 1024 }
         requires whole { length (take look.count self.old.text) ≡ look.count }
-        ensures passed { (n : ℕ) (levels : List Level) (x : World) → self.old.steps < n → Stands self.old levels x
+        ensures passed { (n : ℕ) (levels : List Level) (x : World) → self.old.steps < n → Represents self.old levels x
             → IsAtText levels
             → Passed n (λ r. seen_round n levels (seen_in look self.old.text) (core self.old) (with_run r x))
             result self.old self.new x }
-        ensures down { GoesDown (stopped result) (weight self.old) (weight self.new) }
+        ensures down { Decreases (stopped result) (measure self.old) (measure self.new) }
         ensures spares { Spares result self.old self.new }
     {
         if look.count == 0 {
@@ -76,9 +76,9 @@ impl<D: SectorDevice> Forth<D> {
     /// The end of the text: of a load, and what stood around it goes on; or of the line.
     fn leave_text(&mut self) -> Round
         requires idle { self.old.machine.pending ≡ None }
-        ensures passed { (n : ℕ) (levels : List Level) (x : World) → Stands self.old levels x → IsAtText levels
+        ensures passed { (n : ℕ) (levels : List Level) (x : World) → Represents self.old levels x → IsAtText levels
             → Passed n (λ r. after_text n levels (core self.old) (with_run r x)) (Ok result) self.old self.new x }
-        ensures down { GoesDown (Ok result) (weight self.old) (weight self.new) }
+        ensures down { Decreases (Ok result) (measure self.old) (measure self.new) }
         ensures spares { SparesAll self.old self.new }
     {
         levels();
@@ -98,7 +98,7 @@ impl<D: SectorDevice> Forth<D> {
         requires sound { IsSound self.old }
         requires idle { self.old.machine.pending ≡ None }
         requires within { count ≤ 1024 }
-        ensures entered { (n : ℕ) (levels : List Level) (x : World) → Stands self.old levels x
+        ensures entered { (n : ℕ) (levels : List Level) (x : World) → Represents self.old levels x
             → Entered n (λ r. treated n levels (take count self.old.text) (core self.old) (with_run r x))
             result self.old self.new x }
         ensures spares { Spares result self.old self.new }
@@ -113,8 +113,8 @@ impl<D: SectorDevice> Forth<D> {
     fn found(&mut self, token: u16) -> Result<(), Fault>
         requires sound { IsSound self.old }
         requires idle { self.old.machine.pending ≡ None }
-        requires word { (x : World) → Rests self.old x → IsWord (language_of x) token }
-        ensures entered { (n : ℕ) (levels : List Level) (x : World) → Stands self.old levels x
+        requires word { (x : World) → RepresentsWorld self.old x → IsWord (language_of x) token }
+        ensures entered { (n : ℕ) (levels : List Level) (x : World) → Represents self.old levels x
             → Entered n (λ r. and_then
             (found_word n (λ a due c x. serve n a due c x) token (around_of levels) (core self.old) (with_run r x))
             (λ c x. left n levels c x)) result self.old self.new x }
@@ -134,8 +134,8 @@ impl<D: SectorDevice> Forth<D> {
     fn found_in_definition(&mut self, token: u16) -> Result<(), Fault>
         requires sound { IsSound self.old }
         requires idle { self.old.machine.pending ≡ None }
-        requires word { (x : World) → Rests self.old x → IsWord (language_of x) token }
-        ensures entered { (n : ℕ) (levels : List Level) (x : World) → Stands self.old levels x
+        requires word { (x : World) → RepresentsWorld self.old x → IsWord (language_of x) token }
+        ensures entered { (n : ℕ) (levels : List Level) (x : World) → Represents self.old levels x
             → Entered n (λ r. and_then
             (found_compiling n token (around_of levels) (core self.old) (with_run r x))
             (λ c x. left n levels c x)) result self.old self.new x }
@@ -151,7 +151,7 @@ impl<D: SectorDevice> Forth<D> {
     /// Makes this word what is done next.
     fn run_next(&mut self, token: u16)
         requires idle { self.old.machine.pending ≡ None }
-        ensures entered { (n : ℕ) (levels : List Level) (x : World) → Stands self.old levels x
+        ensures entered { (n : ℕ) (levels : List Level) (x : World) → Represents self.old levels x
             → Entered n (λ r. left n (Once token ∷ levels) (core self.old) (with_run r x)) (Ok tt) self.old self.new x }
         ensures spares { SparesAll self.old self.new }
     {

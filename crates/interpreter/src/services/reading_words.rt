@@ -18,8 +18,8 @@ pub(crate) struct Room {
 impl<D: SectorDevice> Forth<D> {
     ghost use Rattle.interpreter.specs.Terminals.{expect_of, on_terminal};
     ghost use Rattle.system_words.specs.declared.words.TerminalWord.TheVariants.{Expect, Key};
-    ghost use Rattle.interpreter.specs.Standing.{device};
-    ghost use Rattle.interpreter.specs.Serving.{Serves, Continues, Lasts, Tells};
+    ghost use Rattle.interpreter.specs.Representation.{device};
+    ghost use Rattle.interpreter.specs.ServiceContract.{Serves, Continues, Lasts, Tells};
     ghost use Rattle.interpreter.specs.Stops.{stop_count};
     ghost use Rattle.interpreter.specs.Reading.{io_of, StepOf};
 

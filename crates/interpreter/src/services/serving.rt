@@ -1,7 +1,7 @@
 //! The services that the machine asks for. Which one a word is, its row says.
 ghost use Rattle.std.specs.Prelude.{◌≡◌};
-ghost use Rattle.interpreter.specs.Serving.{stopped};
-ghost use Rattle.interpreter.specs.Rounds.{round_of};
+ghost use Rattle.interpreter.specs.ServiceContract.{stopped};
+ghost use Rattle.interpreter.specs.RoundContract.{round_of};
 ghost use Rattle.interpreter.specs.Text.{service_of};
 ghost use Rattle.system_words.specs.Rows.{meaning_of};
 
@@ -58,17 +58,17 @@ impl<D: SectorDevice> Forth<D> {
     ghost use Rattle.interpreter.specs.Terminals.{print};
     ghost use Rattle.interpreter.specs.Law.{left};
     ghost use Rattle.interpreter.specs.Lexicon.{language_of, IsDue};
-    ghost use Rattle.interpreter.specs.Falls.{WhereFree};
-    ghost use Rattle.interpreter.specs.Standing.{core, Stands, IsSound};
-    ghost use Rattle.interpreter.specs.Serving.{Altered, Spares, Serves, Continues};
-    ghost use Rattle.interpreter.specs.Rounds.{RanRound, ContinuesRound, weight};
+    ghost use Rattle.interpreter.specs.FreeServices.{WhereFree};
+    ghost use Rattle.interpreter.specs.Representation.{core, Represents, IsSound};
+    ghost use Rattle.interpreter.specs.ServiceContract.{Altered, Spares, Serves, Continues};
+    ghost use Rattle.interpreter.specs.RoundContract.{RanRound, ContinuesRound, measure};
 
     /// A service, by the family of its word.
     fn do_service<T: Terminal>(&mut self, service: Service, terminal: &mut T) -> Result<Round, Stop>
         requires standing { IsSound self.old }
         requires sound { IsSoundLexicon self.old.lexicon }
         requires idle { self.old.machine.pending ≡ None }
-        ensures round { (m : ℕ) (levels : List Level) (x : World) → self.old.steps ≤ m → Stands self.old levels x
+        ensures round { (m : ℕ) (levels : List Level) (x : World) → self.old.steps ≤ m → Represents self.old levels x
             → RanRound T.Terminal (suc m) (λ r. and_then
             (on_service (suc m) (λ a due c x. serve m a due c x) service
             (around_of levels) (core self.old) (with_run r x))
@@ -91,7 +91,7 @@ impl<D: SectorDevice> Forth<D> {
     /// A word that is no service, and that the machine can't call: a vocabulary becomes the first of the search.
     fn users_word(&mut self, token: u16) -> Result<(), Fault>
         requires sound { IsSoundLexicon self.old.lexicon }
-        ensures alters { (f : ℕ) (inner : Serve World) (levels : List Level) (x : World) → Stands self.old levels x
+        ensures alters { (f : ℕ) (inner : Serve World) (levels : List Level) (x : World) → Represents self.old levels x
             → meanings (language_of x) token ≡ Outside
             → Altered (λ r. user_word f inner token (entry x.words token) (around_of levels) (core self.old) (with_run r x))
             result self.old self.new levels x }
@@ -109,7 +109,7 @@ impl<D: SectorDevice> Forth<D> {
         requires standing { IsSound self.old }
         requires sound { IsSoundLexicon self.old.lexicon }
         requires idle { self.old.machine.pending ≡ None }
-        ensures round { (m : ℕ) (levels : List Level) (x : World) → self.old.steps ≤ m → Stands self.old levels x
+        ensures round { (m : ℕ) (levels : List Level) (x : World) → self.old.steps ≤ m → Represents self.old levels x
             → meanings (language_of x) token ≡ Outside
             → RanRound T.Terminal (suc m) (λ r. and_then
             (serve (suc m) (around_of levels) (Word token) (core self.old) (with_run r x))
@@ -151,14 +151,14 @@ impl<D: SectorDevice> Forth<D> {
     /// The service that the machine asks for.
     pub(crate) fn serve<T: Terminal>(&mut self, op: Op, terminal: &mut T) -> Result<Round, Stop>
         requires asked { (levels : List Level) × (x : World) × (due : Due)
-            × (Stands self.old levels x × IsDue self.old.lexicon (language_of x) op due) }
+            × (Represents self.old levels x × IsDue self.old.lexicon (language_of x) op due) }
         requires idle { self.old.machine.pending ≡ None }
-        ensures round { (n : ℕ) (levels : List Level) (x : World) (due : Due) → self.old.steps < n → Stands self.old levels x
+        ensures round { (n : ℕ) (levels : List Level) (x : World) (due : Due) → self.old.steps < n → Represents self.old levels x
             → IsDue self.old.lexicon (language_of x) op due
             → RanRound T.Terminal n (λ r. and_then
             (serve n (around_of levels) due (core self.old) (with_run r x)) (λ c x. left n levels c x))
             result self.old self.new terminal.old terminal.new x }
-        ensures given { WhereFree op (weight self.new ≤ weight self.old) }
+        ensures given { WhereFree op (measure self.new ≤ measure self.old) }
         ensures continues { ContinuesRound T.Terminal result self.old self.new terminal.old terminal.new }
     {
         match op {

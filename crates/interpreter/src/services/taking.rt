@@ -16,7 +16,7 @@ impl<D: SectorDevice> Forth<D> {
     ghost use Rattle.lexicon.specs.Language.{Language};
     ghost use Rattle.lexicon.specs.Adding.{MayBeAdded};
     ghost use Rattle.lexicon.specs.Stands.{Stands as Means, IsSound, IsWord};
-    ghost use Rattle.interpreter.specs.Serving.{HandsOn, ContinuesAlone};
+    ghost use Rattle.interpreter.specs.ServiceContract.{HandsOn, ContinuesAlone};
     ghost use Rattle.interpreter.specs.Taken.{taken, take_cut, take_name};
 
     /// Takes the next word from the stream.

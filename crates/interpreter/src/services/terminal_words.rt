@@ -21,7 +21,7 @@ impl<D: SectorDevice> Forth<D> {
     ghost use Rattle.std.specs.Prelude.{◌∷◌, []};
     ghost use Rattle.system_words.specs.declared.words.TerminalWord.TheVariants.{Emit, NewLine, Blank, Blanks, TypeText};
     ghost use Rattle.interpreter.specs.Terminals.{print, on_terminal};
-    ghost use Rattle.interpreter.specs.Serving.{Serves, Continues};
+    ghost use Rattle.interpreter.specs.ServiceContract.{Serves, Continues};
 
     /// A word that prints, or reads the input after the line.
     pub(crate) fn on_terminal<T: Terminal>(

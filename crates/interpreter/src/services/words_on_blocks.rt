@@ -26,7 +26,7 @@ pub(crate) fn block_fault(fault: BlockFault) -> Fault
 impl<D: SectorDevice> Forth<D> {
     ghost use Rattle.system_words.specs.declared.words.BlockWord.TheVariants.{Block, Buffer, Flush, SaveBuffers, Update};
     ghost use Rattle.interpreter.specs.Blocking.{on_blocks};
-    ghost use Rattle.interpreter.specs.Serving.{Consults, ContinuesAlone};
+    ghost use Rattle.interpreter.specs.ServiceContract.{Consults, ContinuesAlone};
 
     /// A word on blocks.
     pub(crate) fn on_blocks(&mut self, word: BlockWord) -> Result<(), Fault>

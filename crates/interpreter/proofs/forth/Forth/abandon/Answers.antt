@@ -1,6 +1,6 @@
 use Rattle.std.proofs.Common.{◌≡◌, ◌∙◌, length, refl, ap}
 use Rattle.interpreter.specs.Lines.{at_rest, dropped, with_empty_stack}
-use Rattle.interpreter.specs.Standing.{core}
+use Rattle.interpreter.specs.Representation.{core}
 use Rattle.interpreter.proofs.Clearing.{state_is_zero, blk_is_zero}
 use Rattle.interpreter.proofs.forth.Forth.abandon.Goals as goal
 

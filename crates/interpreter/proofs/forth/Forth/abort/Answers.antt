@@ -1,6 +1,6 @@
 use Rattle.std.proofs.Common.{refl}
 use Rattle.interpreter.specs.Lines.{at_rest, dropped, with_empty_stack}
-use Rattle.interpreter.proofs.Lining.{lined_as}
+use Rattle.interpreter.proofs.LineContract.{lined_as}
 use Rattle.interpreter.proofs.forth.Forth.abort.Goals as goal
 
 pub returns-clause-lined : goal.returns-clause-lined

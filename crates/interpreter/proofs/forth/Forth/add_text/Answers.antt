@@ -1,5 +1,5 @@
 use Rattle.std.proofs.Common.{take, refl, arith}
-use Rattle.interpreter.specs.Standing.{core}
+use Rattle.interpreter.specs.Representation.{core}
 use Rattle.compiler.specs.Definition.{add_text}
 use Rattle.compiler.specs.Promise.{kind_of}
 use Rattle.lexicon.specs.Language.{changing as change}

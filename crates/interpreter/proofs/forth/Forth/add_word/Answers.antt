@@ -1,7 +1,7 @@
 use Rattle.std.proofs.Common.{refl, arith}
 use Rattle.compiler.specs.Definition.{add_word}
 use Rattle.lexicon.specs.Language.{changing as change}
-use Rattle.interpreter.specs.Standing.{core}
+use Rattle.interpreter.specs.Representation.{core}
 use Rattle.interpreter.specs.Lexicon.{as_it_is}
 use Rattle.interpreter.proofs.Stepping.{step_done, step_refused}
 use Rattle.interpreter.proofs.forth.Forth.add_word.Goals as goal

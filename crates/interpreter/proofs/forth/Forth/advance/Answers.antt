@@ -1,8 +1,8 @@
 use Rattle.std.proofs.Common.{Err, ap, ◌∙◌, arith}
 use Rattle.interpreter.specs.State.{with_run}
-use Rattle.interpreter.specs.Standing.{core}
+use Rattle.interpreter.specs.Representation.{core}
 use Rattle.interpreter.specs.TextRounds.{seen_round}
-use Rattle.interpreter.specs.Rounds.{weight}
+use Rattle.interpreter.specs.RoundContract.{measure}
 use Rattle.interpreter.proofs.Advancing.{looks_on, handed_passed, handed_stopped, advanced_as, down_from}
 use Rattle.interpreter.proofs.forth.Forth.advance.Goals as goal
 
@@ -21,7 +21,7 @@ returns-in-Ok-clause-advanced g c = λ n levels x less stands at.
     (c.pass.ensures.passed n levels h.world (omega (arith, h.steps, less)) h.stands at))
 
 pub returns-in-Ok-clause-down : goal.returns-in-Ok-clause-down
-returns-in-Ok-clause-down g c = down_from c.pass.result (weight c.args.self.now) _ (weight c.pass.new.self) (ap weight c.in-Ok.ensures.rest) c.pass.ensures.down
+returns-in-Ok-clause-down g c = down_from c.pass.result (measure c.args.self.now) _ (measure c.pass.new.self) (ap measure c.in-Ok.ensures.rest) c.pass.ensures.down
 
 pub returns-in-Err-clause-advanced : goal.returns-in-Err-clause-advanced
 returns-in-Err-clause-advanced g c = λ n levels x less stands at.

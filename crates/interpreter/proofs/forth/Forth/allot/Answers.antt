@@ -5,7 +5,7 @@ use Rattle.cell_machine.specs.Value.{Did}
 use Rattle.interpreter.specs.State.{with_run}
 use Rattle.interpreter.specs.Lexicon.{language_of}
 use Rattle.interpreter.specs.Naming.{here_moved}
-use Rattle.interpreter.specs.Standing.{core}
+use Rattle.interpreter.specs.Representation.{core}
 use Rattle.interpreter.proofs.Altering.{refused, went, becoming}
 use Rattle.interpreter.proofs.Short.{popping-none, popping-one, needing-no, needing-yes}
 use Rattle.interpreter.proofs.forth.Forth.allot.Goals as goal

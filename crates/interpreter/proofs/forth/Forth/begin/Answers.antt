@@ -2,7 +2,7 @@ use Rattle.std.proofs.Common.{◌≡◌, take, Some, refl, sym, ap, arith}
 use Rattle.cell_machine.specs.Value.{Did}
 use Rattle.interpreter.specs.State.{with_run}
 use Rattle.interpreter.specs.Lexicon.{language_of}
-use Rattle.interpreter.specs.Standing.{core}
+use Rattle.interpreter.specs.Representation.{core}
 use Rattle.std.proofs.lemmas.Grind.{common_steps}
 use Rattle.data_space.specs.Space.{with_cell}
 use Rattle.compiler.specs.Definition.{opened}

@@ -5,7 +5,7 @@ use Rattle.std.proofs.lemmas.List.{take-replicate}
 use Rattle.system_words.specs.declared.words.TerminalWord.TheVariants.{Blanks}
 use Rattle.interpreter.specs.State.{with_run}
 use Rattle.interpreter.specs.Terminals.{print, on_terminal}
-use Rattle.interpreter.specs.Standing.{core}
+use Rattle.interpreter.specs.Representation.{core}
 use Rattle.interpreter.proofs.Short.{popping-none, popping-one, paying-no, paying-yes}
 use Rattle.interpreter.proofs.Running.{ran_as}
 use Rattle.interpreter.proofs.Popping.{ran_refused}

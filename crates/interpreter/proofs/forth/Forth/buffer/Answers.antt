@@ -3,8 +3,8 @@ use Rattle.block_words.specs.Words.{buffer}
 use Rattle.system_words.specs.declared.words.BlockWord.TheVariants.{Buffer}
 use Rattle.interpreter.specs.Blocking.{on_blocks, leaving}
 use Rattle.interpreter.specs.State.{with_run}
-use Rattle.interpreter.specs.Standing.{core}
-use Rattle.interpreter.specs.Serving.{Consulted}
+use Rattle.interpreter.specs.Representation.{core}
+use Rattle.interpreter.specs.ServiceContract.{Consulted}
 use Rattle.interpreter.specs.declared.forth.Forth.{Forth}
 use Rattle.interpreter.proofs.Altering.{refused}
 use Rattle.interpreter.proofs.Short.{popping-none, popping-one}

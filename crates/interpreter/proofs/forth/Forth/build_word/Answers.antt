@@ -4,7 +4,7 @@ use Rattle.std.proofs.lemmas.Grind.{common_steps}
 use Rattle.data_space.specs.Space.{with_bytes}
 use Rattle.interpreter.specs.State.{with_run, pushing}
 use Rattle.interpreter.specs.Text.{counted}
-use Rattle.interpreter.specs.Standing.{core}
+use Rattle.interpreter.specs.Representation.{core}
 use Rattle.interpreter.proofs.Altering.{altered_as}
 use Rattle.interpreter.proofs.Building.{built_parts, kept_length}
 use Rattle.interpreter.proofs.forth.Forth.build_word.Goals as goal

@@ -6,7 +6,7 @@ use Rattle.cell_machine.specs.Value.{Did}
 use Rattle.interpreter.specs.State.{with_run}
 use Rattle.interpreter.specs.Lexicon.{language_of}
 use Rattle.interpreter.specs.Naming.{allot}
-use Rattle.interpreter.specs.Standing.{core, StandsIn}
+use Rattle.interpreter.specs.Representation.{core, RepresentsIn}
 use Rattle.interpreter.proofs.Altering.{refused, went, becoming}
 use Rattle.interpreter.proofs.Short.{popping-none, popping-one, needing-no, needing-yes}
 use Rattle.interpreter.proofs.forth.Forth.comma.Goals as goal
@@ -30,7 +30,7 @@ returns-clause-alters g c = λ levels x stands.
     let wrote : c.set_cell.new.self ≡ with_cell old.space c.here-here.result c.in-Ok.cell = grind (arith, common_steps, c.set_cell.ensures.after, c.set_cell.ensures.within) in
     let becomes = c.set_here.ensures (language_of x) stands.rests.meant in
     went _ (allot 2 x)
-    (subst (λ h. StandsIn c.set_here.new.self c.args.self.now.machine c.args.self.now.returns c.args.self.now.picture c.args.self.now.blocks levels (record x { here = h + 2 })) (sym at) (becoming _ stands becomes))
+    (subst (λ h. RepresentsIn c.set_here.new.self c.args.self.now.machine c.args.self.now.returns c.args.self.now.picture c.args.self.now.blocks levels (record x { here = h + 2 })) (sym at) (becoming _ stands becomes))
     (λ r. popping-one old (with_run r x) _ _ _ c.in-Ok.ensures.ok
     ∙ needing-yes _ _ _ _ _ room
     ∙ ap (λ s. Did (record old { stack = c.pop.new.self; space = s }) (with_run r (allot 2 x))) (ap (λ a. with_cell old.space a c.in-Ok.cell) at ∙ sym wrote))

@@ -1,7 +1,7 @@
 use Rattle.std.proofs.Common.{refl, arith}
 use Rattle.cell_machine.specs.Value.{Did}
 use Rattle.interpreter.specs.State.{with_run}
-use Rattle.interpreter.specs.Standing.{core}
+use Rattle.interpreter.specs.Representation.{core}
 use Rattle.interpreter.proofs.Altering.{refused}
 use Rattle.interpreter.proofs.Short.{popping-one, popping-none}
 use Rattle.interpreter.proofs.Consulting.{handed_altered, handed_failed, consulted_as, altered_consulted}

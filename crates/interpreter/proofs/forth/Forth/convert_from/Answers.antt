@@ -7,8 +7,8 @@ use Rattle.cell_machine.specs.Cells.{double, low, high}
 use Rattle.cell_machine.specs.Fault.{Address}
 use Rattle.interpreter.specs.State.{with_run}
 use Rattle.interpreter.specs.Pictures.{convert_from}
-use Rattle.interpreter.specs.Standing.{core}
-use Rattle.interpreter.specs.Serving.{Altered}
+use Rattle.interpreter.specs.Representation.{core}
+use Rattle.interpreter.specs.ServiceContract.{Altered}
 use Rattle.interpreter.specs.declared.forth.Forth.{Forth}
 use Rattle.interpreter.proofs.Altering.{refused, went}
 use Rattle.interpreter.proofs.Short.{needing-no, needing-yes}

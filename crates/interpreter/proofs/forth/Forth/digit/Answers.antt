@@ -9,8 +9,8 @@ use Rattle.cell_machine.specs.Value.{Outcome}
 use Rattle.system_words.specs.declared.words.PictureWord.TheVariants.{Digit}
 use Rattle.interpreter.specs.State.{World, with_run, needing}
 use Rattle.interpreter.specs.Pictures.{hold, push_double, on_picture}
-use Rattle.interpreter.specs.Standing.{core}
-use Rattle.interpreter.specs.Serving.{Altered}
+use Rattle.interpreter.specs.Representation.{core}
+use Rattle.interpreter.specs.ServiceContract.{Altered}
 use Rattle.interpreter.specs.declared.fault.Fault.{Fault}
 use Rattle.interpreter.specs.declared.forth.Forth.{Forth}
 use Rattle.interpreter.proofs.Altering.{refused, altered_as}
@@ -29,10 +29,9 @@ returns-in-Some-clause-alters g c = λ levels x stands.
     let old = c.args.self.now in
     let mid = c.pop_two.new.self in
     let rest = c.in-Ok.ensures.rest in
-    let some = c.in-Some.ensures.some in
     let same : mid.space ≡ old.space = ap (λ (f : Forth g.row.D.Denot g.D.SectorDevice). f.space) rest in
-    let base : c.in-Some.base ≡ cell_at old.space 16 = some.0 ∙ ap (λ s. cell_at s 16) same in
-    let yes = a_base (cell_at old.space 16) (omega (arith, base, some.1)) (omega (arith, base, some.2)) in
+    let base : c.in-Some.base ≡ cell_at old.space 16 = c.in-Some.ensures.cell ∙ ap (λ s. cell_at s 16) same in
+    let yes = a_base (cell_at old.space 16) (omega (arith, base, c.in-Some.ensures.from)) (omega (arith, base, c.in-Some.ensures.most)) in
     altered_as (λ r. on_picture Digit (core old) (with_run r x)) old
     (λ r. two-args (core old) (with_run r x) (λ h l c. taken h l (with_run r x) c) c.in-Ok.high c.in-Ok.low mid.stack c.in-Ok.ensures.popped
     ∙ needing-yes (nat_le 2 (cell_at old.space 16) && nat_le (cell_at old.space 16) 72) Base (record (core old) { stack = mid.stack }) (with_run r x) _ yes

@@ -3,9 +3,9 @@ use Rattle.cell_machine.specs.Frames.{around_of}
 use Rattle.cell_machine.specs.Value.{and_then}
 use Rattle.interpreter.specs.Law.{left}
 use Rattle.interpreter.specs.State.{with_run}
-use Rattle.interpreter.specs.Standing.{core}
+use Rattle.interpreter.specs.Representation.{core}
 use Rattle.interpreter.specs.Text.{serve, due_word}
-use Rattle.interpreter.proofs.Rounds.{round_as}
+use Rattle.interpreter.proofs.RoundContract.{round_as}
 use Rattle.interpreter.proofs.Wiring.{quiet_round}
 use Rattle.interpreter.proofs.forth.Forth.do_word.Goals as goal
 

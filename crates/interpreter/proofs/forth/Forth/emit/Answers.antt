@@ -1,6 +1,6 @@
 use Rattle.std.proofs.Common.{refl, arith}
 use Rattle.interpreter.specs.State.{with_run}
-use Rattle.interpreter.specs.Standing.{core}
+use Rattle.interpreter.specs.Representation.{core}
 use Rattle.interpreter.proofs.Altering.{refused}
 use Rattle.interpreter.proofs.Running.{ran_as, quiet}
 use Rattle.interpreter.proofs.Short.{popping-one, popping-none}

@@ -5,7 +5,7 @@ use Rattle.interpreter.specs.State.{with_run}
 use Rattle.interpreter.specs.Law.{left}
 use Rattle.interpreter.specs.Lexicon.{language_of}
 use Rattle.interpreter.specs.Text.{may_execute}
-use Rattle.interpreter.specs.Standing.{core}
+use Rattle.interpreter.specs.Representation.{core}
 use Rattle.interpreter.proofs.Altering.{refused}
 use Rattle.interpreter.proofs.Enter.{enter_word}
 use Rattle.interpreter.proofs.Entering.{word_entered, left_entered, not_entered}

@@ -6,8 +6,8 @@ use Rattle.cell_machine.specs.Value.{Outcome}
 use Rattle.system_words.specs.declared.words.TerminalWord.TheVariants.{Expect}
 use Rattle.interpreter.specs.State.{World, with_run, needing, fits}
 use Rattle.interpreter.specs.Terminals.{expect_of, on_terminal}
-use Rattle.interpreter.specs.Standing.{core}
-use Rattle.interpreter.specs.Serving.{Ran}
+use Rattle.interpreter.specs.Representation.{core}
+use Rattle.interpreter.specs.ServiceContract.{Ran}
 use Rattle.interpreter.specs.declared.fault.Fault.{Fault}
 use Rattle.interpreter.specs.declared.fault.Stop.TheVariants as stop
 use Rattle.interpreter.proofs.Short.{two-args, few-args, needing-no, needing-yes}

@@ -4,7 +4,7 @@ use Rattle.interpreter.specs.Stops.{fault_of}
 use Rattle.interpreter.specs.Lines as lines
 use Rattle.interpreter.specs.Lines.{at_rest, dropped, with_empty_stack, replied}
 use Rattle.interpreter.specs.Terminals.{print}
-use Rattle.interpreter.proofs.Lining.{lined_as}
+use Rattle.interpreter.proofs.LineContract.{lined_as}
 use Rattle.interpreter.proofs.Telling.{fault_counts}
 use Rattle.interpreter.specs.Stops.{fault_count}
 use Rattle.interpreter.proofs.forth.Forth.fail.Goals as goal

@@ -1,8 +1,8 @@
 use Rattle.std.proofs.Common.{◌≡◌, ◌+◌, true, false, length, Err, refl, ap, ◌∙◌, arith}
-use Rattle.interpreter.specs.Standing.{core}
+use Rattle.interpreter.specs.Representation.{core}
 use Rattle.interpreter.specs.declared.fault.Stop.TheVariants as stop
 use Rattle.interpreter.specs.declared.forth.Forth.{Forth}
-use Rattle.interpreter.proofs.Rounds.{lasts_nothing, lasts_then}
+use Rattle.interpreter.proofs.RoundContract.{lasts_nothing, lasts_then}
 use Rattle.interpreter.proofs.Expecting.{begun_none, begun_then, begun_empty, begun_full, rest_then, met_then, broke_then, ran_reading, ran_over, met_well, full_well, reads_broke}
 use Rattle.interpreter.proofs.forth.Forth.fill.Goals as goal
 

@@ -1,6 +1,6 @@
 use Rattle.std.proofs.Common.{◌+◌, ◌≡◌, ◌≤◌, Ok}
-use Rattle.interpreter.specs.Standing.{device}
-use Rattle.interpreter.specs.Serving.{Lasts}
+use Rattle.interpreter.specs.Representation.{device}
+use Rattle.interpreter.specs.ServiceContract.{Lasts}
 use Rattle.interpreter.proofs.Expecting.{Begun}
 use Rattle.interpreter.proofs.forth.Forth.fill.Given as goal
 

@@ -6,7 +6,7 @@ use Rattle.data_space.specs.Space.{byte_at, bytes_at}
 use Rattle.interpreter.specs.State.{with_run, pushing}
 use Rattle.interpreter.specs.Streams.{known}
 use Rattle.interpreter.specs.Naming.{found}
-use Rattle.interpreter.specs.Standing.{core}
+use Rattle.interpreter.specs.Representation.{core}
 use Rattle.interpreter.proofs.Altering.{refused, altered_as}
 use Rattle.interpreter.proofs.Finding.{counted}
 use Rattle.interpreter.proofs.Short.{popping-none, popping-one, needing-no, needing-yes}

@@ -4,7 +4,7 @@ use Rattle.interpreter.specs.Lines.{end_of_line}
 use Rattle.interpreter.specs.Text.{compiling}
 use Rattle.data_space.specs.Space.{cell_at}
 use Rattle.std.specs.Prelude.{not, ◌==◌}
-use Rattle.interpreter.proofs.Lining.{lined_as}
+use Rattle.interpreter.proofs.LineContract.{lined_as}
 use Rattle.interpreter.proofs.forth.Forth.finish.Goals as goal
 
 pub returns-then-is_compiling-clause-lined : goal.returns-then-is_compiling-clause-lined

@@ -3,7 +3,7 @@ use Rattle.std.specs.Prelude.{is_some}
 use Rattle.cell_machine.specs.Frames.{around_of}
 use Rattle.interpreter.specs.State.{with_run}
 use Rattle.interpreter.specs.Lexicon.{language_of, as_it_is, stepped}
-use Rattle.interpreter.specs.Standing.{core}
+use Rattle.interpreter.specs.Representation.{core}
 use Rattle.interpreter.proofs.Altering.{refused}
 use Rattle.interpreter.proofs.Consulting.{handed_altered, handed_failed, consulted_as, altered_consulted}
 use Rattle.interpreter.proofs.Stepping.{none-no, none-yes}

@@ -2,7 +2,7 @@ use Rattle.std.proofs.Common.{refl, ap, arith}
 use Rattle.cell_machine.specs.Frames.{around_of}
 use Rattle.interpreter.specs.State.{with_run}
 use Rattle.interpreter.specs.Lexicon.{language_of, with_language, stepped}
-use Rattle.interpreter.specs.Standing.{core}
+use Rattle.interpreter.specs.Representation.{core}
 use Rattle.lexicon.specs.Language.{forgetting}
 use Rattle.interpreter.proofs.Altering.{went}
 use Rattle.interpreter.proofs.Stepping.{gave_refused}

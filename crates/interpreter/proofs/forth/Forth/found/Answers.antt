@@ -3,7 +3,7 @@ use Rattle.std.specs.Prelude.{not}
 use Rattle.cell_machine.specs.Value.{and_then}
 use Rattle.dictionary.specs.System.{compile_only_token}
 use Rattle.interpreter.specs.Law.{left}
-use Rattle.interpreter.specs.Standing.{core}
+use Rattle.interpreter.specs.Representation.{core}
 use Rattle.interpreter.proofs.Altering.{refused}
 use Rattle.interpreter.proofs.Entering.{not_entered}
 use Rattle.interpreter.proofs.Short.{needing-no, needing-yes}

@@ -3,7 +3,7 @@ use Rattle.cell_machine.specs.Value.{and_then}
 use Rattle.dictionary.specs.Words.{entry}
 use Rattle.interpreter.specs.Law.{left}
 use Rattle.interpreter.specs.Lexicon.{language_of}
-use Rattle.interpreter.specs.Standing.{core}
+use Rattle.interpreter.specs.Representation.{core}
 use Rattle.lexicon.specs.Kinds.{is_immediate}
 use Rattle.interpreter.proofs.Treating.{branch-yes, branch-no, altered_entered, entered_as}
 use Rattle.interpreter.proofs.forth.Forth.found_in_definition.Goals as goal

@@ -1,7 +1,7 @@
 use Rattle.std.proofs.Common.{refl, arith}
 use Rattle.lexicon.specs.Language.{giving}
 use Rattle.interpreter.specs.Lexicon.{language_of}
-use Rattle.interpreter.specs.Standing.{core}
+use Rattle.interpreter.specs.Representation.{core}
 use Rattle.interpreter.specs.Lexicon.{as_it_is}
 use Rattle.interpreter.proofs.Stepping.{gave_done, gave_refused}
 use Rattle.interpreter.proofs.forth.Forth.give_part.Goals as goal

@@ -1,6 +1,6 @@
 use Rattle.std.proofs.Common.{ap, sym, arith}
 use Rattle.interpreter.specs.State.{pushing, with_run}
-use Rattle.interpreter.specs.Standing.{core}
+use Rattle.interpreter.specs.Representation.{core}
 use Rattle.interpreter.proofs.Altering.{altered_as}
 use Rattle.interpreter.proofs.forth.Forth.here.Goals as goal
 

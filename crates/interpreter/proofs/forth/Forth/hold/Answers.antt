@@ -5,7 +5,7 @@ use Rattle.data_space.specs.Space.{with_byte}
 use Rattle.cell_machine.specs.Fault.{Hold}
 use Rattle.cell_machine.specs.Value.{Did}
 use Rattle.interpreter.specs.State.{with_run}
-use Rattle.interpreter.specs.Standing.{core}
+use Rattle.interpreter.specs.Representation.{core}
 use Rattle.interpreter.proofs.Altering.{refused, went}
 use Rattle.interpreter.proofs.Short.{needing-no, needing-yes}
 use Rattle.interpreter.proofs.forth.Forth.hold.Goals as goal

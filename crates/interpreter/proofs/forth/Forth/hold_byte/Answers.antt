@@ -2,7 +2,7 @@ use Rattle.std.proofs.Common.{refl, arith}
 use Rattle.interpreter.specs.State.{with_run}
 use Rattle.interpreter.specs.Pictures.{on_picture}
 use Rattle.system_words.specs.declared.words.PictureWord.TheVariants.{HoldByte}
-use Rattle.interpreter.specs.Standing.{core}
+use Rattle.interpreter.specs.Representation.{core}
 use Rattle.interpreter.proofs.Altering.{refused, altered_as}
 use Rattle.interpreter.proofs.Short.{popping-none, popping-one}
 use Rattle.interpreter.proofs.forth.Forth.hold_byte.Goals as goal

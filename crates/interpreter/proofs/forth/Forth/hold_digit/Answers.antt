@@ -9,8 +9,8 @@ use Rattle.cell_machine.specs.Frames.{Core}
 use Rattle.cell_machine.specs.Value.{Outcome, Did, and_then}
 use Rattle.interpreter.specs.State.{World, with_run, needing}
 use Rattle.interpreter.specs.Pictures.{hold, push_double}
-use Rattle.interpreter.specs.Standing.{core}
-use Rattle.interpreter.specs.Serving.{Altered}
+use Rattle.interpreter.specs.Representation.{core}
+use Rattle.interpreter.specs.ServiceContract.{Altered}
 use Rattle.interpreter.specs.declared.forth.Forth.{Forth}
 use Rattle.interpreter.proofs.Altering.{went_then, refused_then}
 use Rattle.interpreter.proofs.forth.Forth.hold_digit.Goals as goal

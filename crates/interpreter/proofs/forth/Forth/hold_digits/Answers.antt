@@ -2,8 +2,8 @@ use Rattle.std.proofs.Common.{Err, subst, ap, sym, ◌∙◌}
 use Rattle.std.proofs.Math.Nat.{mod-eq_of_lt}
 use Rattle.number_io.specs.Digits.{digit_char}
 use Rattle.interpreter.specs.State.{with_run}
-use Rattle.interpreter.specs.Standing.{core}
-use Rattle.interpreter.specs.Serving.{Altered}
+use Rattle.interpreter.specs.Representation.{core}
+use Rattle.interpreter.specs.ServiceContract.{Altered}
 use Rattle.interpreter.proofs.Holding.{held_one, held_no_more, held_last, all_of}
 use Rattle.interpreter.proofs.forth.Forth.hold_digits.Goals as goal
 

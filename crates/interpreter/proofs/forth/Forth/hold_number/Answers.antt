@@ -4,8 +4,8 @@ use Rattle.number_io.specs.Writing.{digits_of}
 use Rattle.cell_machine.specs.Cells.{double}
 use Rattle.interpreter.specs.State.{with_run}
 use Rattle.interpreter.specs.Pictures.{hold_all, push_double}
-use Rattle.interpreter.specs.Standing.{core}
-use Rattle.interpreter.specs.Serving.{Altered}
+use Rattle.interpreter.specs.Representation.{core}
+use Rattle.interpreter.specs.ServiceContract.{Altered}
 use Rattle.interpreter.specs.declared.forth.Forth.{Forth}
 use Rattle.interpreter.proofs.Altering.{went_then, refused_then}
 use Rattle.interpreter.proofs.Holding.{hold_all_then}

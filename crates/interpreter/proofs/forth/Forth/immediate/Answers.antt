@@ -1,6 +1,6 @@
 use Rattle.std.proofs.Common.{refl, arith}
 use Rattle.lexicon.specs.Language.{marking}
-use Rattle.interpreter.specs.Standing.{core}
+use Rattle.interpreter.specs.Representation.{core}
 use Rattle.interpreter.specs.Lexicon.{as_it_is}
 use Rattle.interpreter.proofs.Stepping.{step_done, step_refused}
 use Rattle.interpreter.proofs.forth.Forth.immediate.Goals as goal

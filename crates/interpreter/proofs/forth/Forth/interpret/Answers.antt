@@ -1,5 +1,5 @@
 use Rattle.std.proofs.Common.{◌+◌, ◌∙◌, refl, arith}
-use Rattle.interpreter.proofs.Rounds.{lasts_nothing, lasts_then, round_of_nothing, round_then, over_ran, stopped_ran}
+use Rattle.interpreter.proofs.RoundContract.{lasts_nothing, lasts_then, round_of_nothing, round_then, over_ran, stopped_ran}
 use Rattle.interpreter.proofs.forth.Forth.interpret.Goals as goal
 
 pub rounds-init : goal.rounds-init

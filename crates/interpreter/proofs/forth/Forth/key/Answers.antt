@@ -5,7 +5,7 @@ use Rattle.cell_machine.specs.Fault.{StackFull}
 use Rattle.interpreter.specs.State.{with_run}
 use Rattle.interpreter.specs.Terminals.{on_terminal}
 use Rattle.system_words.specs.declared.words.TerminalWord.TheVariants.{Key}
-use Rattle.interpreter.specs.Standing.{core}
+use Rattle.interpreter.specs.Representation.{core}
 use Rattle.interpreter.specs.Deeds.{before}
 use Rattle.interpreter.specs.Reading.{reads}
 use Rattle.interpreter.specs.declared.fault.Stop.TheVariants as stop

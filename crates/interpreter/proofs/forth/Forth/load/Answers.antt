@@ -9,7 +9,7 @@ use Rattle.lexicon.specs.Stands.{IsLeft}
 use Rattle.interpreter.specs.State.{with_run}
 use Rattle.interpreter.specs.Law.{left}
 use Rattle.interpreter.specs.Lexicon.{language_of}
-use Rattle.interpreter.specs.Standing.{core}
+use Rattle.interpreter.specs.Representation.{core}
 use Rattle.interpreter.proofs.Altering.{refused}
 use Rattle.interpreter.proofs.Entering.{not_entered}
 use Rattle.interpreter.proofs.Short.{popping-none}

@@ -1,7 +1,7 @@
 use Rattle.std.proofs.Common.{Ok, refl, sym, ap, subst, ◌∙◌, arith}
 use Rattle.interpreter.specs.State.{with_run}
-use Rattle.interpreter.specs.Standing.{core}
-use Rattle.interpreter.specs.Serving.{Handed}
+use Rattle.interpreter.specs.Representation.{core}
+use Rattle.interpreter.specs.ServiceContract.{Handed}
 use Rattle.interpreter.specs.Looking.{look, seen_in}
 use Rattle.interpreter.specs.declared.forth.Forth.{Forth}
 use Rattle.interpreter.proofs.Called.{handed_quiet}

@@ -6,7 +6,7 @@ use Rattle.cell_machine.specs.Fault.{Faults}
 use Rattle.cell_machine.specs.Value.{Ends}
 use Rattle.interpreter.specs.State.{with_run}
 use Rattle.interpreter.specs.Deeds.{after}
-use Rattle.interpreter.specs.Standing.{core}
+use Rattle.interpreter.specs.Representation.{core}
 use Rattle.interpreter.proofs.Called.{called, failed, tells_left, comes_of, rests_on, stands_on, world, deed}
 use Rattle.interpreter.proofs.Looking.{looks, from_block}
 use Rattle.interpreter.proofs.forth.Forth.look_at_block.Goals as goal

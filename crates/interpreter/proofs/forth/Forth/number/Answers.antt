@@ -1,7 +1,7 @@
 use Rattle.std.proofs.Common.{◌<◌, ◌≤◌, take, Ok, Err, refl, sym, ap, ◌∙◌, arith}
 use Rattle.number_io.specs.Number.{number}
 use Rattle.interpreter.specs.State.{with_run}
-use Rattle.interpreter.specs.Standing.{core}
+use Rattle.interpreter.specs.Representation.{core}
 use Rattle.data_space.specs.Space.{cell_at}
 use Rattle.interpreter.proofs.Altering.{altered_as, refused}
 use Rattle.interpreter.proofs.Treating.{base-low, base-high, number_is, no_base}

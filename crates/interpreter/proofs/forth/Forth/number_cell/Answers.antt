@@ -1,5 +1,5 @@
 use Rattle.std.proofs.Common.{sym, ◌∙◌, arith}
-use Rattle.interpreter.specs.Standing.{core}
+use Rattle.interpreter.specs.Representation.{core}
 use Rattle.interpreter.proofs.Altering.{altered_as}
 use Rattle.interpreter.proofs.Treating.{branch-yes, branch-no}
 use Rattle.interpreter.proofs.forth.Forth.number_cell.Goals as goal

@@ -1,8 +1,8 @@
 use Rattle.std.proofs.Common.{Ok, sym, subst}
 use Rattle.interpreter.specs.Naming.{on_lexicon}
 use Rattle.interpreter.specs.State.{with_run}
-use Rattle.interpreter.specs.Standing.{core}
-use Rattle.interpreter.specs.Serving.{Altered}
+use Rattle.interpreter.specs.Representation.{core}
+use Rattle.interpreter.specs.ServiceContract.{Altered}
 use Rattle.interpreter.proofs.forth.Forth.on_lexicon.Goals as goal
 
 pub returns-in-Definitions-clause-alters : goal.returns-in-Definitions-clause-alters

@@ -1,8 +1,8 @@
 use Rattle.std.proofs.Common.{sym, subst}
 use Rattle.interpreter.specs.Pictures.{on_picture}
 use Rattle.interpreter.specs.State.{with_run}
-use Rattle.interpreter.specs.Standing.{core}
-use Rattle.interpreter.specs.Serving.{Altered}
+use Rattle.interpreter.specs.Representation.{core}
+use Rattle.interpreter.specs.ServiceContract.{Altered}
 use Rattle.interpreter.proofs.forth.Forth.on_picture.Goals as goal
 
 pub returns-in-BeginPicture-clause-alters : goal.returns-in-BeginPicture-clause-alters

@@ -1,8 +1,8 @@
 use Rattle.std.proofs.Common.{sym, subst}
 use Rattle.interpreter.specs.Terminals.{on_terminal}
 use Rattle.interpreter.specs.State.{with_run}
-use Rattle.interpreter.specs.Standing.{core}
-use Rattle.interpreter.specs.Serving.{Ran}
+use Rattle.interpreter.specs.Representation.{core}
+use Rattle.interpreter.specs.ServiceContract.{Ran}
 use Rattle.interpreter.proofs.forth.Forth.on_terminal.Goals as goal
 
 pub returns-in-NewLine-clause-serves : goal.returns-in-NewLine-clause-serves

@@ -1,8 +1,8 @@
 use Rattle.std.proofs.Common.{sym, subst}
 use Rattle.interpreter.specs.Text.{on_text}
 use Rattle.interpreter.specs.State.{with_run}
-use Rattle.interpreter.specs.Standing.{core}
-use Rattle.interpreter.specs.Serving.{Consulted}
+use Rattle.interpreter.specs.Representation.{core}
+use Rattle.interpreter.specs.ServiceContract.{Consulted}
 use Rattle.interpreter.proofs.forth.Forth.on_text.Goals as goal
 
 pub returns-in-Comment-clause-consults : goal.returns-in-Comment-clause-consults

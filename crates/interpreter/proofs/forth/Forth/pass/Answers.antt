@@ -4,7 +4,7 @@ use Rattle.data_space.specs.Space.{with_cell}
 use Rattle.stacks.specs.Stacks.{units}
 use Rattle.interpreter.specs.declared.interpreting.Round.TheVariants.{GoesOn}
 use Rattle.interpreter.specs.State.{with_run, set_cell, to_in_cell}
-use Rattle.interpreter.specs.Standing.{core}
+use Rattle.interpreter.specs.Representation.{core}
 use Rattle.interpreter.specs.TextRounds.{after_text, treated}
 use Rattle.interpreter.proofs.Treating.{no-word, word-unpaid, word-paid}
 use Rattle.interpreter.proofs.Advancing.{entered_passed, passed_as, paid_down}

@@ -1,5 +1,5 @@
 use Rattle.std.proofs.Common.{refl, arith}
-use Rattle.interpreter.specs.Standing.{core}
+use Rattle.interpreter.specs.Representation.{core}
 use Rattle.interpreter.proofs.Deeds.{printing, trying}
 use Rattle.interpreter.proofs.Calls.{print-well, print-fails, heard_print, heard_unprinted}
 use Rattle.interpreter.proofs.Running.{maps_same}

@@ -1,7 +1,7 @@
 use Rattle.std.proofs.Common.{◌∙◌, refl, sym, ap, arith}
 use Rattle.interpreter.specs.State.{with_run}
 use Rattle.interpreter.specs.Terminals.{print}
-use Rattle.interpreter.specs.Standing.{core}
+use Rattle.interpreter.specs.Representation.{core}
 use Rattle.interpreter.proofs.Running.{ran_as}
 use Rattle.interpreter.proofs.forth.Forth.print_text_at.Goals as goal
 

@@ -1,6 +1,6 @@
 use Rattle.std.proofs.Common.{◌∙◌, refl, sym}
 use Rattle.interpreter.specs.Lines.{at_rest, dropped}
-use Rattle.interpreter.proofs.Lining.{lined_as}
+use Rattle.interpreter.proofs.LineContract.{lined_as}
 use Rattle.interpreter.proofs.forth.Forth.quit.Goals as goal
 
 pub returns-clause-lined : goal.returns-clause-lined

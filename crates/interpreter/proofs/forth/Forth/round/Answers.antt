@@ -6,10 +6,10 @@ use Rattle.interpreter.specs.declared.fault.Stop.TheVariants as stop
 use Rattle.interpreter.specs.State.{with_run}
 use Rattle.interpreter.specs.Law.{next}
 use Rattle.interpreter.specs.Lexicon.{language_of}
-use Rattle.interpreter.specs.Standing.{core}
+use Rattle.interpreter.specs.Representation.{core}
 use Rattle.interpreter.proofs.Events.{due_of, left_calls, paid_least, service_falls, down_if, finished_at_text}
 use Rattle.interpreter.proofs.Advancing.{round_at_text}
-use Rattle.interpreter.proofs.Rounds.{round_as, round_left, left_so}
+use Rattle.interpreter.proofs.RoundContract.{round_as, round_left, left_so}
 use Rattle.interpreter.proofs.forth.Forth.round.Goals as goal
 
 pub serve-requires : goal.serve-requires

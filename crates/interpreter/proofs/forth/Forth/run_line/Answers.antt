@@ -3,49 +3,49 @@ use Rattle.std.specs.Prelude.{nat_le}
 use Rattle.std.proofs.lemmas.Bool.{lt-leb, le-leb}
 use Rattle.interpreter.specs.declared.fault.Stop.TheVariants as stop
 use Rattle.interpreter.specs.declared.lines.LineEnd.TheVariants as end
-use Rattle.interpreter.specs.Standing.{core}
+use Rattle.interpreter.specs.Representation.{core}
 use Rattle.interpreter.specs.Stops.{fault_count}
 use Rattle.interpreter.proofs.Telling.{counts_as, same_count}
-use Rattle.interpreter.proofs.Lining.{lined_as, line_too_long, line_opens, over_lined, ends_lined, fault_lined, broke_lined}
+use Rattle.interpreter.proofs.LineContract.{lined_as, line_too_long, line_opens, over_lined, ends_lined, fault_lined, broke_lined}
 use Rattle.interpreter.proofs.forth.Forth.run_line.Goals as goal
 
 pub returns-then-text-gt-LINE_LIMIT-clause-lined : goal.returns-then-text-gt-LINE_LIMIT-clause-lined
-returns-then-text-gt-LINE_LIMIT-clause-lined g c = λ opening waits.
+returns-then-text-gt-LINE_LIMIT-clause-lined g c = λ opening represents.
     let long : nat_le (length c.args.text.now) 1024 ≡ false = lt-leb _ _ (omega (arith, c.if-text-gt-LINE_LIMIT.true)) in
     lined_as g.T.Terminal _ c.fail.result c.args.self.now opening.world (line_too_long opening c.args.text.now long) refl refl
-    (c.fail.ensures.lined opening.core opening.world (record { space = waits.same_core.space }) waits.rests)
+    (c.fail.ensures.lined opening.core opening.world (record { space = represents.same_core.space }) represents.rests)
 
 pub interpret-requires : goal.interpret-requires
 interpret-requires g c = record { sound = ([], c.requires.sound.0, c.take_line.ensures.stands c.requires.sound.0 c.requires.sound.1) }
 
 pub returns-in-Ok-clause-lined : goal.returns-in-Ok-clause-lined
-returns-in-Ok-clause-lined g c = λ opening waits.
+returns-in-Ok-clause-lined g c = λ opening represents.
     let D = g.met.D.SectorDevice in
     let short : nat_le (length c.args.text.now) 1024 ≡ true = le-leb _ _ (omega (arith, c.if-text-gt-LINE_LIMIT.false)) in
-    let opens = line_opens opening c.args.text.now c.args.self.now.budget (core c.take_line.new.self) waits.budget short (c.take_line.ensures.taken opening.core (record { stack = waits.same_core.stack; space = waits.same_core.space })) in
-    let h = c.in-Ok.ensures.ran (suc c.args.self.now.budget) [] opening.world (omega (arith, c.take_line.ensures.steps)) (c.take_line.ensures.stands opening.world waits.rests) in
+    let opens = line_opens opening c.args.text.now c.args.self.now.budget (core c.take_line.new.self) represents.budget short (c.take_line.ensures.taken opening.core (record { stack = represents.same_core.stack; space = represents.same_core.space })) in
+    let h = c.in-Ok.ensures.ran (suc c.args.self.now.budget) [] opening.world (omega (arith, c.take_line.ensures.steps)) (c.take_line.ensures.stands opening.world represents.rests) in
     lined_as g.T.Terminal _ c.finish.result c.args.self.now opening.world (λ r. refl) c.take_line.ensures.device refl
     (over_lined g.D.SectorDevice g.T.Terminal D.counts_now D.widens D.only_now _ h opens c.in-Ok.ensures.continues.lasts c.finish.ensures.lasts
     (c.finish.ensures.lined (core c.interpret.new.self) h.world (record { stack = refl; space = refl }) h.stands.rests))
 
 pub returns-in-Err-Io-clause-lined : goal.returns-in-Err-Io-clause-lined
-returns-in-Err-Io-clause-lined g c = λ opening waits.
+returns-in-Err-Io-clause-lined g c = λ opening represents.
     let D = g.met.D.SectorDevice in
     let short : nat_le (length c.args.text.now) 1024 ≡ true = le-leb _ _ (omega (arith, c.if-text-gt-LINE_LIMIT.false)) in
-    let opens = line_opens opening c.args.text.now c.args.self.now.budget (core c.take_line.new.self) waits.budget short (c.take_line.ensures.taken opening.core (record { stack = waits.same_core.stack; space = waits.same_core.space })) in
+    let opens = line_opens opening c.args.text.now c.args.self.now.budget (core c.take_line.new.self) represents.budget short (c.take_line.ensures.taken opening.core (record { stack = represents.same_core.stack; space = represents.same_core.space })) in
     let ran = rw c.in-Err-Io.field-0-is at c.in-Err-Io.ensures.ran in
-    let h = ran (suc c.args.self.now.budget) [] opening.world (omega (arith, c.take_line.ensures.steps)) (c.take_line.ensures.stands opening.world waits.rests) in
+    let h = ran (suc c.args.self.now.budget) [] opening.world (omega (arith, c.take_line.ensures.steps)) (c.take_line.ensures.stands opening.world represents.rests) in
     lined_as g.T.Terminal _ end.Io c.args.self.now opening.world (λ r. refl) c.take_line.ensures.device refl
     (broke_lined g.D.SectorDevice g.T.Terminal D.counts_now D.widens D.only_now _ c.break_off.new.self h opens c.break_off.ensures.spares.device
     (λ d space. c.break_off.ensures.same_core d space) (c.break_off.ensures.closes h.world h.stands))
 
 pub returns-in-Err-Fault-clause-lined : goal.returns-in-Err-Fault-clause-lined
-returns-in-Err-Fault-clause-lined g c = λ opening waits.
+returns-in-Err-Fault-clause-lined g c = λ opening represents.
     let D = g.met.D.SectorDevice in
     let short : nat_le (length c.args.text.now) 1024 ≡ true = le-leb _ _ (omega (arith, c.if-text-gt-LINE_LIMIT.false)) in
-    let opens = line_opens opening c.args.text.now c.args.self.now.budget (core c.take_line.new.self) waits.budget short (c.take_line.ensures.taken opening.core (record { stack = waits.same_core.stack; space = waits.same_core.space })) in
+    let opens = line_opens opening c.args.text.now c.args.self.now.budget (core c.take_line.new.self) represents.budget short (c.take_line.ensures.taken opening.core (record { stack = represents.same_core.stack; space = represents.same_core.space })) in
     let ran = rw c.in-Err-Fault.field-0-is at c.in-Err-Fault.ensures.ran in
-    let h = ran (suc c.args.self.now.budget) [] opening.world (omega (arith, c.take_line.ensures.steps)) (c.take_line.ensures.stands opening.world waits.rests) in
+    let h = ran (suc c.args.self.now.budget) [] opening.world (omega (arith, c.take_line.ensures.steps)) (c.take_line.ensures.stands opening.world represents.rests) in
     let lasts = rw c.in-Err-Fault.field-0-is at c.in-Err-Fault.ensures.continues.lasts in
     lined_as g.T.Terminal _ c.fail-in-Err-Fault.result c.args.self.now opening.world (λ r. refl) c.take_line.ensures.device refl
     (fault_lined g.D.SectorDevice g.T.Terminal D.counts_now D.widens D.only_now _ c.in-Err-Fault.fault c.here_in_stream-place.result h opens lasts c.fail-in-Err-Fault.ensures.lasts
@@ -53,24 +53,24 @@ returns-in-Err-Fault-clause-lined g c = λ opening waits.
     (λ d like. c.fail-in-Err-Fault.ensures.lined d h.world (record { space = like }) h.stands))
 
 pub returns-in-Err-Quit-clause-lined : goal.returns-in-Err-Quit-clause-lined
-returns-in-Err-Quit-clause-lined g c = λ opening waits.
+returns-in-Err-Quit-clause-lined g c = λ opening represents.
     let D = g.met.D.SectorDevice in
     let short : nat_le (length c.args.text.now) 1024 ≡ true = le-leb _ _ (omega (arith, c.if-text-gt-LINE_LIMIT.false)) in
-    let opens = line_opens opening c.args.text.now c.args.self.now.budget (core c.take_line.new.self) waits.budget short (c.take_line.ensures.taken opening.core (record { stack = waits.same_core.stack; space = waits.same_core.space })) in
+    let opens = line_opens opening c.args.text.now c.args.self.now.budget (core c.take_line.new.self) represents.budget short (c.take_line.ensures.taken opening.core (record { stack = represents.same_core.stack; space = represents.same_core.space })) in
     let ran = rw c.in-Err-Quit.field-0-is at c.in-Err-Quit.ensures.ran in
-    let h = ran (suc c.args.self.now.budget) [] opening.world (omega (arith, c.take_line.ensures.steps)) (c.take_line.ensures.stands opening.world waits.rests) in
+    let h = ran (suc c.args.self.now.budget) [] opening.world (omega (arith, c.take_line.ensures.steps)) (c.take_line.ensures.stands opening.world represents.rests) in
     let lasts = rw c.in-Err-Quit.field-0-is at c.in-Err-Quit.ensures.continues.lasts in
     lined_as g.T.Terminal _ c.quit.result c.args.self.now opening.world (λ r. refl) c.take_line.ensures.device refl
     (ends_lined g.D.SectorDevice g.T.Terminal D.counts_now D.widens D.only_now _ stop.Quit refl h opens lasts c.quit.ensures.lasts
     (λ d like. c.quit.ensures.lined d h.world (record { stack = ap (λ e. e.stack) like; space = ap (λ e. e.space) like }) h.stands))
 
 pub returns-in-Err-Abort-clause-lined : goal.returns-in-Err-Abort-clause-lined
-returns-in-Err-Abort-clause-lined g c = λ opening waits.
+returns-in-Err-Abort-clause-lined g c = λ opening represents.
     let D = g.met.D.SectorDevice in
     let short : nat_le (length c.args.text.now) 1024 ≡ true = le-leb _ _ (omega (arith, c.if-text-gt-LINE_LIMIT.false)) in
-    let opens = line_opens opening c.args.text.now c.args.self.now.budget (core c.take_line.new.self) waits.budget short (c.take_line.ensures.taken opening.core (record { stack = waits.same_core.stack; space = waits.same_core.space })) in
+    let opens = line_opens opening c.args.text.now c.args.self.now.budget (core c.take_line.new.self) represents.budget short (c.take_line.ensures.taken opening.core (record { stack = represents.same_core.stack; space = represents.same_core.space })) in
     let ran = rw c.in-Err-Abort.field-0-is at c.in-Err-Abort.ensures.ran in
-    let h = ran (suc c.args.self.now.budget) [] opening.world (omega (arith, c.take_line.ensures.steps)) (c.take_line.ensures.stands opening.world waits.rests) in
+    let h = ran (suc c.args.self.now.budget) [] opening.world (omega (arith, c.take_line.ensures.steps)) (c.take_line.ensures.stands opening.world represents.rests) in
     let lasts = rw c.in-Err-Abort.field-0-is at c.in-Err-Abort.ensures.continues.lasts in
     lined_as g.T.Terminal _ c.abort.result c.args.self.now opening.world (λ r. refl) c.take_line.ensures.device refl
     (ends_lined g.D.SectorDevice g.T.Terminal D.counts_now D.widens D.only_now _ stop.Abort refl h opens lasts c.abort.ensures.lasts

@@ -3,7 +3,7 @@ use Rattle.cell_machine.specs.Frames.{Once}
 use Rattle.interpreter.specs.State.{with_run}
 use Rattle.interpreter.specs.Law.{left}
 use Rattle.interpreter.specs.Lexicon.{language_of}
-use Rattle.interpreter.specs.Standing.{core}
+use Rattle.interpreter.specs.Representation.{core}
 use Rattle.interpreter.proofs.Entering.{word_entered, left_entered}
 use Rattle.interpreter.proofs.forth.Forth.run_next.Goals as goal
 

@@ -1,6 +1,6 @@
 use Rattle.std.proofs.Common.{◌∙◌}
-use Rattle.interpreter.specs.Lining.{line_end}
-use Rattle.interpreter.proofs.Lining.{said_well, said_broke}
+use Rattle.interpreter.specs.LineContract.{line_end}
+use Rattle.interpreter.proofs.LineContract.{said_well, said_broke}
 use Rattle.interpreter.proofs.Telling.{cut_counts}
 use Rattle.interpreter.proofs.forth.Forth.say.Goals as goal
 

@@ -3,7 +3,7 @@ use Rattle.std.proofs.lemmas.Grind.{common_steps}
 use Rattle.data_space.specs.Space.{with_cell}
 use Rattle.lexicon.specs.Language.{ending}
 use Rattle.interpreter.specs.State.{set_cell, state_cell}
-use Rattle.interpreter.specs.Standing.{core}
+use Rattle.interpreter.specs.Representation.{core}
 use Rattle.interpreter.proofs.Stepping.{step_done, step_refused}
 use Rattle.interpreter.proofs.forth.Forth.semicolon.Goals as goal
 

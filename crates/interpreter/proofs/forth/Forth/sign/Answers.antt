@@ -6,7 +6,7 @@ use Rattle.cell_machine.specs.Value.{Did}
 use Rattle.system_words.specs.declared.words.PictureWord.TheVariants.{Sign}
 use Rattle.interpreter.specs.State.{with_run}
 use Rattle.interpreter.specs.Pictures.{hold, on_picture}
-use Rattle.interpreter.specs.Standing.{core}
+use Rattle.interpreter.specs.Representation.{core}
 use Rattle.interpreter.proofs.Altering.{refused, altered_as}
 use Rattle.interpreter.proofs.Short.{popping-none, popping-one}
 use Rattle.interpreter.proofs.forth.Forth.sign.Goals as goal

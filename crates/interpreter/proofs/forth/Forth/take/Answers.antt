@@ -4,7 +4,7 @@ use Rattle.data_space.specs.Space.{with_cell}
 use Rattle.cell_machine.specs.Frames.{Core}
 use Rattle.cell_machine.specs.Value.{Outcome}
 use Rattle.interpreter.specs.State.{World, with_run, set_cell, to_in_cell}
-use Rattle.interpreter.specs.Standing.{core}
+use Rattle.interpreter.specs.Representation.{core}
 use Rattle.interpreter.specs.Looking.{Seen}
 use Rattle.interpreter.proofs.Called.{handed_moved, handed_fault}
 use Rattle.interpreter.proofs.forth.Forth.take.Goals as goal

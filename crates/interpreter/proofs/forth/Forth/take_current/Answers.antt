@@ -4,7 +4,7 @@ use Rattle.cell_machine.specs.Value.{Outcome}
 use Rattle.interpreter.specs.State.{World, with_run}
 use Rattle.interpreter.specs.Streams.{token_or}
 use Rattle.interpreter.specs.Naming.{in_current}
-use Rattle.interpreter.specs.Standing.{core}
+use Rattle.interpreter.specs.Representation.{core}
 use Rattle.interpreter.proofs.Called.{handed_fault, handed_value, handed_refused}
 use Rattle.interpreter.proofs.forth.Forth.take_current.Goals as goal
 

@@ -5,7 +5,7 @@ use Rattle.cell_machine.specs.Fault.{Name}
 use Rattle.cell_machine.specs.Frames.{Core}
 use Rattle.cell_machine.specs.Value.{Outcome}
 use Rattle.interpreter.specs.State.{World, with_run, needing}
-use Rattle.interpreter.specs.Standing.{core}
+use Rattle.interpreter.specs.Representation.{core}
 use Rattle.interpreter.proofs.Short.{needing-no, needing-yes}
 use Rattle.interpreter.proofs.Called.{handed_fault, handed_value, handed_refused}
 use Rattle.interpreter.proofs.forth.Forth.take_name.Goals as goal

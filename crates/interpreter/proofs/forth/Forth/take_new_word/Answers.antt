@@ -6,7 +6,7 @@ use Rattle.lexicon.specs.declared.Lexicon.{Lexicon}
 use Rattle.lexicon.specs.Stands.{Stands as Means}
 use Rattle.interpreter.specs.State.{with_run}
 use Rattle.interpreter.specs.Lexicon.{language_of}
-use Rattle.interpreter.specs.Standing.{core}
+use Rattle.interpreter.specs.Representation.{core}
 use Rattle.interpreter.proofs.Stepping.{none-no, none-yes}
 use Rattle.interpreter.proofs.Added.{new_name, new_name-yes, new_name-no}
 use Rattle.interpreter.proofs.Called.{handed_fault, handed_value, handed_refused, handed_none}

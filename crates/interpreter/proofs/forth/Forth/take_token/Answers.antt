@@ -3,7 +3,7 @@ use Rattle.cell_machine.specs.Frames.{Core}
 use Rattle.cell_machine.specs.Value.{Outcome}
 use Rattle.interpreter.specs.State.{World, with_run}
 use Rattle.interpreter.specs.Streams.{token_or, known}
-use Rattle.interpreter.specs.Standing.{core}
+use Rattle.interpreter.specs.Representation.{core}
 use Rattle.interpreter.proofs.Called.{handed_fault, handed_value, handed_refused}
 use Rattle.interpreter.proofs.forth.Forth.take_token.Goals as goal
 

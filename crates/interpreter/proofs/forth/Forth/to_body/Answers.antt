@@ -1,6 +1,6 @@
 use Rattle.std.proofs.Common.{◌∙◌, refl, arith}
 use Rattle.interpreter.specs.State.{with_run}
-use Rattle.interpreter.specs.Standing.{core}
+use Rattle.interpreter.specs.Representation.{core}
 use Rattle.interpreter.proofs.Altering.{refused, altered_as}
 use Rattle.interpreter.proofs.Finding.{has_field, no_field}
 use Rattle.interpreter.proofs.Short.{popping-none, popping-one}

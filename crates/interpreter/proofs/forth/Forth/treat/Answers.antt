@@ -4,7 +4,7 @@ use Rattle.cell_machine.specs.Value.{and_then}
 use Rattle.interpreter.specs.Law.{left}
 use Rattle.interpreter.specs.Lexicon.{language_of}
 use Rattle.interpreter.specs.State.{with_run}
-use Rattle.interpreter.specs.Standing.{core}
+use Rattle.interpreter.specs.Representation.{core}
 use Rattle.interpreter.specs.Text.{serve, treat}
 use Rattle.interpreter.proofs.Treating.{altered_entered, entered_as}
 use Rattle.interpreter.proofs.forth.Forth.treat.Goals as goal

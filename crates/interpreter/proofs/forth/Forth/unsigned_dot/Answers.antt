@@ -6,7 +6,7 @@ use Rattle.cell_machine.specs.Fault.{Base}
 use Rattle.system_words.specs.declared.words.TerminalWord.TheVariants.{UnsignedDot}
 use Rattle.interpreter.specs.State.{with_run}
 use Rattle.interpreter.specs.Terminals.{print, on_terminal}
-use Rattle.interpreter.specs.Standing.{core}
+use Rattle.interpreter.specs.Representation.{core}
 use Rattle.interpreter.proofs.Short.{popping-none, popping-one, needing-no, needing-yes, a_base, no_base}
 use Rattle.interpreter.proofs.Popping.{ran_refused, ran_popped}
 use Rattle.interpreter.proofs.forth.Forth.unsigned_dot.Goals as goal
@@ -15,9 +15,8 @@ pub returns-in-Some-clause-serves : goal.returns-in-Some-clause-serves
 returns-in-Some-clause-serves g c = λ levels x stands.
     let old = c.args.self.now in
     let mid = record old { stack = c.pop.new.self } in
-    let some = c.in-Some.ensures.some in
-    let base : c.in-Some.base ≡ cell_at old.space 16 = some.0 in
-    let yes : (nat_le 2 (cell_at old.space 16) && nat_le (cell_at old.space 16) 72) ≡ true = a_base (cell_at old.space 16) (omega (arith, base, some.1)) (omega (arith, base, some.2)) in
+    let base : c.in-Some.base ≡ cell_at old.space 16 = c.in-Some.ensures.cell in
+    let yes : (nat_le 2 (cell_at old.space 16) && nat_le (cell_at old.space 16) 72) ≡ true = a_base (cell_at old.space 16) (omega (arith, base, c.in-Some.ensures.from)) (omega (arith, base, c.in-Some.ensures.most)) in
     ran_popped g.D.SectorDevice g.T.Terminal (λ r. on_terminal UnsignedDot (core old) (with_run r x)) old mid mid refl
     (λ r. popping-one (core old) (with_run r x) _ _ _ c.in-Ok.ensures.ok
     ∙ needing-yes (nat_le 2 (cell_at old.space 16) && nat_le (cell_at old.space 16) 72) Base (core mid) (with_run r x) _ yes

@@ -4,7 +4,7 @@ use Rattle.lexicon.specs.Kinds.{is_vocabulary}
 use Rattle.cell_machine.specs.Frames.{around_of}
 use Rattle.interpreter.specs.State.{with_run}
 use Rattle.interpreter.specs.Lexicon.{language_of, with_language}
-use Rattle.interpreter.specs.Standing.{core}
+use Rattle.interpreter.specs.Representation.{core}
 use Rattle.interpreter.proofs.Altering.{refused, went, becoming}
 use Rattle.interpreter.proofs.Wiring.{no_word, to_vocabulary, vocabulary_is_word}
 use Rattle.interpreter.proofs.forth.Forth.users_word.Goals as goal

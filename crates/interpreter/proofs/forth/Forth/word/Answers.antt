@@ -6,7 +6,7 @@ use Rattle.system_words.specs.declared.words.TextWord.TheVariants.{ParseWord}
 use Rattle.interpreter.specs.State.{World, with_run, pushing}
 use Rattle.interpreter.specs.Text.{counted, on_text}
 use Rattle.interpreter.specs.Lexicon.{language_of}
-use Rattle.interpreter.specs.Standing.{core}
+use Rattle.interpreter.specs.Representation.{core}
 use Rattle.interpreter.proofs.Altering.{refused}
 use Rattle.interpreter.proofs.Short.{popping-none, popping-one}
 use Rattle.interpreter.proofs.Called.{consulted_quiet}

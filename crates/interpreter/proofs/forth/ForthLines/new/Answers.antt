@@ -24,7 +24,7 @@ returns-clause-opens g c = λ m gives.
     let stands = gives c.into.result c.into.ensures in
     let wrote : c.set_cell.new.self ≡ with_cell c.args.memory.space 16 10 = grind (arith, common_steps, c.set_cell.ensures.after, c.set_cell.ensures.within) in
     record {
-      waits = record {
+      represents = record {
         budget = refl;
         same_core = record { stack = sym c.new.ensures; space = ap (λ l. with_cell l 16 10) (sym c.requires.blank.zeros) ∙ sym wrote };
         rests = record {

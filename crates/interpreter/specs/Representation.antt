@@ -1,4 +1,4 @@
--- What a system stands for within a line.
+-- Which state of the definitions a system represents: the world, and within a line what is left to do.
 use Rattle.std.specs.Prelude.{◌≡◌, List, IsTrue, Result, Ok, Err}
 use Rattle.sector_disk.specs.declared.device.SectorDevice.{Ghosts}
 use Rattle.journal.specs.Store.{StandsFor, device_of}
@@ -26,8 +26,8 @@ module _ {D : Type 0} {G : Ghosts D} where
   abbrev pub core : Forth D G → Core
   core forth = record { stack = forth.stack; space = forth.space; steps = forth.steps }
 
-  -- The rest of the state, in any run. Over a device that doesn't keep the disk model the maps may be any.
-  pub record RestsIn (lexicon : Lexicon) (picture : Picture) (blocks : Blocks D G) (x : World) : Type 0 where
+  -- The world, in any run. Over a device that doesn't keep the disk model the maps may be any.
+  pub record RepresentsWorldIn (lexicon : Lexicon) (picture : Picture) (blocks : Blocks D G) (x : World) : Type 0 where
     pub meant : Means lexicon (language_of x)
     pub held_end : x.held_end ≡ picture.end
     pub held : x.held ≡ picture.held
@@ -35,26 +35,26 @@ module _ {D : Type 0} {G : Ghosts D} where
     pub maps : IsTrue (G.keeps_model (device_of (store_of blocks))) → StandsFor (store_of blocks) x.maps
 
   -- and what is left to do
-  pub record StandsIn (lexicon : Lexicon) (machine : Doing) (returns : List Entry) (picture : Picture) (blocks : Blocks D G) (levels : List Level) (x : World) : Type 0 where
-    pub rests : RestsIn lexicon picture blocks x
+  pub record RepresentsIn (lexicon : Lexicon) (machine : Doing) (returns : List Entry) (picture : Picture) (blocks : Blocks D G) (levels : List Level) (x : World) : Type 0 where
+    pub rests : RepresentsWorldIn lexicon picture blocks x
     pub left : IsLeft lexicon (language_of x) machine returns levels
 
   -- the world, as it is while nothing is said of what is left to do
-  abbrev pub Rests : Forth D G → World → Type 0
-  Rests forth x = RestsIn forth.lexicon forth.picture forth.blocks x
+  abbrev pub RepresentsWorld : Forth D G → World → Type 0
+  RepresentsWorld forth x = RepresentsWorldIn forth.lexicon forth.picture forth.blocks x
 
-  abbrev pub Stands : Forth D G → List Level → World → Type 0
-  Stands forth levels x = StandsIn forth.lexicon forth.machine forth.returns forth.picture forth.blocks levels x
+  abbrev pub Represents : Forth D G → List Level → World → Type 0
+  Represents forth levels x = RepresentsIn forth.lexicon forth.machine forth.returns forth.picture forth.blocks levels x
 
   -- where the line ended nothing is known of what was left to do
-  abbrev pub StandsAfter : {A E : Type 0} → Result A E → Forth D G → List Level → World → Type 0
-  StandsAfter (Ok _) forth levels x = Stands forth levels x
-  StandsAfter (Err _) forth levels x = Rests forth x
+  abbrev pub RepresentsAfter : {A E : Type 0} → Result A E → Forth D G → List Level → World → Type 0
+  RepresentsAfter (Ok _) forth levels x = Represents forth levels x
+  RepresentsAfter (Err _) forth levels x = RepresentsWorld forth x
 
-  -- something stands there to go on with
+  -- The invariant within a line: there is something to go on with.
   abbrev pub IsSound : Forth D G → Type 0
-  IsSound forth = (levels : List Level) × (x : World) × Stands forth levels x
+  IsSound forth = (levels : List Level) × (x : World) × Represents forth levels x
 
-  -- the same between two lines
-  abbrev pub IsAtRest : Forth D G → Type 0
-  IsAtRest forth = (x : World) × Rests forth x
+  -- the invariant between two lines
+  abbrev pub IsSoundBetweenLines : Forth D G → Type 0
+  IsSoundBetweenLines forth = (x : World) × RepresentsWorld forth x

@@ -17,8 +17,8 @@ use Rattle.interpreter.specs.Promise.{HasRisenBy, CountsDevice, OnRefused, IsCle
 use Rattle.interpreter.specs.State as lines_state
 use Rattle.interpreter.specs.State.{World, Run, with_run}
 use Rattle.interpreter.specs.Stops.{fault_of}
-use Rattle.interpreter.specs.Standing.{device, HasModel, Rests}
-use Rattle.interpreter.specs.Serving.{Heard, KeepsAndWears, Lasts}
+use Rattle.interpreter.specs.Representation.{device, HasModel, RepresentsWorld}
+use Rattle.interpreter.specs.ServiceContract.{Heard, KeepsAndWears, Lasts}
 
 abbrev pub line_end : LineEnd → lines.LineEnd
 line_end end.Interpreting = lines.LineEnd.Interpreting
@@ -76,14 +76,14 @@ module _ {D : Type 0} {G : Ghosts D} where
     pub space : c.space ≡ forth.space
 
   -- between two lines the system stands for this
-  pub record Waits (opening : lines_state.Forth) (forth : Forth D G) : Type 0 where
+  pub record RepresentsForth (opening : lines_state.Forth) (forth : Forth D G) : Type 0 where
     pub budget : opening.budget ≡ forth.budget
     pub same_core : SameStackAndSpace opening.core forth
-    pub rests : Rests forth opening.world
+    pub rests : RepresentsWorld forth opening.world
 
   -- between two lines it stands for a state as a fault leaves one
   abbrev pub Cleared : Forth D G → Type 0
-  Cleared forth = (closing : lines_state.Forth) × Waits closing forth × IsCleared closing
+  Cleared forth = (closing : lines_state.Forth) × RepresentsForth closing forth × IsCleared closing
 
   -- so it does where the line ended in a fault, or the terminal failed
   abbrev pub Clears : LineEnd → Forth D G → Type 0
@@ -91,7 +91,7 @@ module _ {D : Type 0} {G : Ghosts D} where
 
   -- the system stands for this abstract Forth
   pub record IsSystem (forth : Forth D G) (state : lines_state.Forth) : Type 0 where
-    pub waits : Waits state forth
+    pub represents : RepresentsForth state forth
     pub model : HasModel forth
 
   pub record LineCame (start : Run → Ended) (deed : Deed) (e : LineEnd) (new : Forth D G) (x : World) : Type 0 where
@@ -100,10 +100,10 @@ module _ {D : Type 0} {G : Ghosts D} where
     pub comes : LineComes start deed e new.place core x
 
 module _ {D T : Type 0} {G : Ghosts D} (H : TerminalGhosts T) where
-  pub record Lined (start : Run → Ended) (e : LineEnd) (old new : Forth D G) (terminal terminal' : T) (x : World) : Type 0 where
+  pub record RanLine (start : Run → Ended) (e : LineEnd) (old new : Forth D G) (terminal terminal' : T) (x : World) : Type 0 where
     pub deed : Deed
     pub world : World
-    pub rests : Rests new world
+    pub rests : RepresentsWorld new world
     pub came : HasModel old → LineCame start deed e new world
     pub heard : Heard H (heard_of e) deed terminal terminal'
     pub cause : HasRisenBy deed.failures (G.failures (device old)) (G.failures (device new))

@@ -20,7 +20,7 @@ use Rattle.interpreter.specs.Deeds.{Deed, before, after, Fits, mended, asking}
 use Rattle.interpreter.specs.Law.{run_after, Grows}
 use Rattle.interpreter.specs.Promise.{HasRisenBy, KeepsMaps}
 use Rattle.interpreter.specs.State.{World, Run, with_run}
-use Rattle.interpreter.specs.Standing.{core, device, HasModel, Stands, StandsAfter}
+use Rattle.interpreter.specs.Representation.{core, device, HasModel, Represents, RepresentsAfter}
 use Rattle.interpreter.specs.Terminal.{Begins}
 
 -- ---- what comes of it
@@ -134,7 +134,7 @@ module _ {D : Type 0} {G : Ghosts D} where
   -- A part of a line that reaches neither terminal nor device. Start is what comes of the line before it.
   pub record Altered (start : Run → Outcome World) (result : Result (Unit {0}) Fault) (old new : Forth D G) (levels : List Level) (x : World) : Type 0 where
     pub world : World
-    pub stands : StandsAfter result new levels world
+    pub stands : RepresentsAfter result new levels world
     pub gives : Gives start result (core new) world
     pub maps : world.maps ≡ x.maps
     pub steps : new.steps ≤ old.steps
@@ -142,7 +142,7 @@ module _ {D : Type 0} {G : Ghosts D} where
   -- a service that reaches neither terminal nor device
   abbrev pub Alters : (does : Around → Core → World → Outcome World) → (result : Result (Unit {0}) Fault) → (old new : Forth D G) → Type 0
   Alters does result old new =
-      (levels : List Level) (x : World) → Stands old levels x
+      (levels : List Level) (x : World) → Represents old levels x
       → Altered (λ r. does (around_of levels) (core old) (with_run r x)) result old new levels x
 
   -- A part of a line that may reach the device, and no terminal.
@@ -152,7 +152,7 @@ module _ {D : Type 0} {G : Ghosts D} where
     pub wear : Wear
     pub saves : List Save
     pub world : World
-    pub stands : StandsAfter result new levels world
+    pub stands : RepresentsAfter result new levels world
     pub steps : new.steps ≤ old.steps
     pub comes : HasModel old → Comes start (asking answers failures wear saves) (stopped result) (core new) world
     pub cause : HasRisenBy failures (G.failures (device old)) (G.failures (device new))
@@ -160,7 +160,7 @@ module _ {D : Type 0} {G : Ghosts D} where
 
   abbrev pub Consults : (does : Around → Core → World → Outcome World) → (result : Result (Unit {0}) Fault) → (old new : Forth D G) → Type 0
   Consults does result old new =
-      (levels : List Level) (x : World) → Stands old levels x
+      (levels : List Level) (x : World) → Represents old levels x
       → Consulted (λ r. does (around_of levels) (core old) (with_run r x)) result old new levels x
 
   -- The same of what gives a value to the rest of the line, as a taking from the stream does.
@@ -170,7 +170,7 @@ module _ {D : Type 0} {G : Ghosts D} where
     pub wear : Wear
     pub saves : List Save
     pub world : World
-    pub stands : StandsAfter result new levels world
+    pub stands : RepresentsAfter result new levels world
     pub steps : new.steps ≤ old.steps
     pub hands : HasModel old → Hands start (asking answers failures wear saves) result (core new) world
     pub cause : HasRisenBy failures (G.failures (device old)) (G.failures (device new))
@@ -178,7 +178,7 @@ module _ {D : Type 0} {G : Ghosts D} where
 
   abbrev pub HandsOn : {B : Type 0} → (takes : Core → World → (B → Core → World → Outcome World) → Outcome World) → (result : Result B Fault) → (old new : Forth D G) → Type 0
   HandsOn {B} takes result old new =
-      (levels : List Level) (x : World) → Stands old levels x
+      (levels : List Level) (x : World) → Represents old levels x
       → Handed (λ r go. takes (core old) (with_run r x) go) result old new levels x
 
   -- At any device, one failure more is counted where the result tells it, and else as many as before.
@@ -206,7 +206,7 @@ module _ {D T : Type 0} {G : Ghosts D} (H : TerminalGhosts T) where
   pub record Ran (start : Run → Outcome World) (result : Result (Unit {0}) Stop) (old new : Forth D G) (terminal terminal' : T) (levels : List Level) (x : World) : Type 0 where
     pub deed : Deed
     pub world : World
-    pub stands : StandsAfter result new levels world
+    pub stands : RepresentsAfter result new levels world
     pub steps : new.steps ≤ old.steps
     pub comes : HasModel old → Comes start deed result (core new) world
     pub heard : Heard H result deed terminal terminal'
@@ -216,7 +216,7 @@ module _ {D T : Type 0} {G : Ghosts D} (H : TerminalGhosts T) where
   -- a service
   abbrev pub Serves : (does : Around → Core → World → Outcome World) → (result : Result (Unit {0}) Stop) → (old new : Forth D G) → (terminal terminal' : T) → Type 0
   Serves does result old new terminal terminal' =
-      (levels : List Level) (x : World) → Stands old levels x
+      (levels : List Level) (x : World) → Represents old levels x
       → Ran (λ r. does (around_of levels) (core old) (with_run r x)) result old new terminal terminal' levels x
 
   -- what a part of a line leaves, at any device and terminal

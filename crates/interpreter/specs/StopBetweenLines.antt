@@ -1,4 +1,4 @@
--- Between two lines.
+-- What a stop between two lines may leave.
 use Rattle.std.specs.Prelude.{◌≡◌, Bool, true, false, []}
 use Rattle.std.proofs.Common.{refl, sym, ◌∙◌}
 use Rattle.sector_disk.specs.Disk.{Image, MayLeave}
@@ -10,9 +10,9 @@ use Rattle.interpreter.specs.State.{Forth}
 use Rattle.interpreter.specs.Promise.{Keeps}
 
 -- Where nothing is done, nothing is lost: a stop leaves what the store stands for.
-pub keeps_still : {D : Type 0} (G : Ghosts D) (only_now : (d : D) (c : Image) → G.left_since d (G.time d) c → MayLeave (G.disk d) c)
+pub stop_keeps_maps : {D : Type 0} (G : Ghosts D) (only_now : (d : D) (c : Image) → G.left_since d (G.time d) c → MayLeave (G.disk d) c)
     (store : Store D G) (s : Forth) → StandsFor store s.world.maps → Keeps G s s (device_of store) (device_of store) []
-keeps_still {D} G only_now store s is = record {
+stop_keeps_maps {D} G only_now store s is = record {
   kept = kept_at s.world.maps.closed refl;
   shuts = λ h. h;
   none = λ h. refl;

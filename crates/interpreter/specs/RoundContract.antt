@@ -16,8 +16,8 @@ use Rattle.interpreter.specs.Deeds.{Deed, before, after, Fits}
 use Rattle.interpreter.specs.Law.{left}
 use Rattle.interpreter.specs.Promise.{HasRisenBy}
 use Rattle.interpreter.specs.State.{World, Run, with_run}
-use Rattle.interpreter.specs.Standing.{core, device, HasModel, Rests, Stands, StandsAfter}
-use Rattle.interpreter.specs.Serving.{Comes, Heard, KeepsAndWears, Lasts, Tells}
+use Rattle.interpreter.specs.Representation.{core, device, HasModel, RepresentsWorld, Represents, RepresentsAfter}
+use Rattle.interpreter.specs.ServiceContract.{Comes, Heard, KeepsAndWears, Lasts, Tells}
 
 -- what terminal and device see of a round
 abbrev pub seen : Result Round Stop → Result (Unit {0}) Stop
@@ -35,13 +35,13 @@ RoundComes n start deed (Ok GoesOn) levels c x = (r : Run) → Fits deed r → s
 RoundComes n start deed (Ok Over) levels c x = (r : Run) → Fits deed r → start (before deed r) ≡ Did c (with_run (after deed r) x)
 RoundComes n start deed (Err stop) levels c x = Comes start deed (Err stop) c x
 
--- what falls with each round: the steps, and where a round is free, the units of the return stack
-abbrev pub weight : {D : Type 0} {G : Ghosts D} → Forth D G → ℕ
-weight forth = fall_of forth.steps forth.returns
+-- The measure that falls with each round: the steps, and where a round is free, the units of the return stack.
+abbrev pub measure : {D : Type 0} {G : Ghosts D} → Forth D G → ℕ
+measure forth = fall_of forth.steps forth.returns
 
-abbrev pub GoesDown : Result Round Stop → (before after : ℕ) → Type 0
-GoesDown (Ok GoesOn) before after = after < before
-GoesDown _ before after = Unit {0}
+abbrev pub Decreases : Result Round Stop → (before after : ℕ) → Type 0
+Decreases (Ok GoesOn) before after = after < before
+Decreases _ before after = Unit {0}
 
 -- at any device and terminal
 abbrev pub LastsRound : {D T : Type 0} → Ghosts D → TerminalGhosts T → Result Round Stop → (old new : D) (terminal terminal' : T) → Type 0
@@ -49,17 +49,17 @@ LastsRound G H result old new terminal terminal' = Lasts G H (seen result) old n
 
 module _ {D : Type 0} {G : Ghosts D} where
   -- after a round
-  abbrev pub StandsAfterRound : Result Round Stop → Forth D G → List Level → World → Type 0
-  StandsAfterRound (Ok GoesOn) forth levels x = Stands forth levels x
-  StandsAfterRound (Ok Over) forth levels x = Stands forth [] x
-  StandsAfterRound (Err stop) forth levels x = Rests forth x
+  abbrev pub RepresentsAfterRound : Result Round Stop → Forth D G → List Level → World → Type 0
+  RepresentsAfterRound (Ok GoesOn) forth levels x = Represents forth levels x
+  RepresentsAfterRound (Ok Over) forth levels x = Represents forth [] x
+  RepresentsAfterRound (Err stop) forth levels x = RepresentsWorld forth x
 
 module _ {D T : Type 0} {G : Ghosts D} (H : TerminalGhosts T) (n : ℕ) where
   pub record RanRound (start : Run → Outcome World) (result : Result Round Stop) (old new : Forth D G) (terminal terminal' : T) (x : World) : Type 0 where
     pub deed : Deed
     pub levels : List Level
     pub world : World
-    pub stands : StandsAfterRound result new levels world
+    pub stands : RepresentsAfterRound result new levels world
     pub steps : new.steps ≤ old.steps
     pub comes : HasModel old → RoundComes n start deed result levels (core new) world
     pub heard : Heard H (seen result) deed terminal terminal'
@@ -88,7 +88,7 @@ GoesTo n start (Err f) levels c x = (said : Core) × (said.space ≡ c.space) ×
 pub record Entered {D : Type 0} {G : Ghosts D} (n : ℕ) (start : Run → Outcome World) (result : Result (Unit {0}) Fault) (old new : Forth D G) (x : World) : Type 0 where
   pub levels : List Level
   pub world : World
-  pub stands : StandsAfter result new levels world
+  pub stands : RepresentsAfter result new levels world
   pub goes : GoesTo n start result levels (core new) world
   pub maps : world.maps ≡ x.maps
   pub steps : new.steps ≤ old.steps

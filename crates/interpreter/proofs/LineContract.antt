@@ -30,11 +30,11 @@ use Rattle.interpreter.specs.Stops.{fault_of, ending_of}
 use Rattle.interpreter.specs.Text.{compiling}
 use Rattle.interpreter.specs.Terminal.{AppendsSome, Begins}
 use Rattle.interpreter.specs.Terminals.{terminal_call, print}
-use Rattle.interpreter.specs.Standing.{core, device, HasModel, Rests}
-use Rattle.interpreter.specs.Serving.{Comes, IsLike, Left, Broke, BreaksOff, Heard, KeepsAndWears, Lasts, Ran}
+use Rattle.interpreter.specs.Representation.{core, device, HasModel, RepresentsWorld}
+use Rattle.interpreter.specs.ServiceContract.{Comes, IsLike, Left, Broke, BreaksOff, Heard, KeepsAndWears, Lasts, Ran}
 use Rattle.block_words.specs.declared.Blocks.{Blocks}
 use Rattle.journal.specs.Store.{device_of}
-use Rattle.interpreter.specs.Lining.{line_end, is_broken, heard_of, LineLeft, LineBroke, LineBreaksOff, LineComes, LineCame, Lined, SameStackAndSpace, SameSpace}
+use Rattle.interpreter.specs.LineContract.{line_end, is_broken, heard_of, LineLeft, LineBroke, LineBreaksOff, LineComes, LineCame, RanLine, SameStackAndSpace, SameSpace}
 use Rattle.interpreter.proofs.Deeds.{printing, trying, after-then, mended-then}
 use Rattle.interpreter.proofs.Calls.{print-well, print-fails, heard_print, heard_unprinted}
 use Rattle.interpreter.proofs.Running.{OnlyNow, maps_same}
@@ -80,9 +80,9 @@ same_model {D} {G} b c same model = subst (λ (b : Blocks D G). IsTrue (G.keeps_
 
 module _ {D T : Type 0} (G : Ghosts D) (H : TerminalGhosts T) (only_now : OnlyNow G) where
   -- it is printed
-  pub said_well : (e : LineEnd) (place : Option Place) (bytes : List ℕ) (forth : Forth D G) (t u : T) (c : Core) (x : World) → is_broken e ≡ false → SameStackAndSpace c forth → Rests forth x
+  pub said_well : (e : LineEnd) (place : Option Place) (bytes : List ℕ) (forth : Forth D G) (t u : T) (c : Core) (x : World) → is_broken e ≡ false → SameStackAndSpace c forth → RepresentsWorld forth x
       → H.input u ≡ H.input t → Appends (H.output t) (H.output u) bytes → H.calls u ≡ count_up (H.calls t)
-      → Lined H (λ r. replied (line_end e) place (print bytes c (with_run r x))) e forth (record forth { place = place }) t u x
+      → RanLine H (λ r. replied (line_end e) place (print bytes c (with_run r x))) e forth (record forth { place = place }) t u x
   said_well e place bytes forth t u c x well same_core rests input printed counted = record {
     deed = printing bytes 1;
     world = x;
@@ -96,10 +96,10 @@ module _ {D T : Type 0} (G : Ghosts D) (H : TerminalGhosts T) (only_now : OnlyNo
   }
 
   -- the terminal fails
-  pub said_broke : (e : lines.LineEnd) (place : Option Place) (bytes : List ℕ) (old new : Forth D G) (t u : T) (c : Core) (x : World) → Rests old x → new.blocks ≡ old.blocks
-      → ((said : Core) → said.space ≡ c.space → SameStackAndSpace (with_empty_stack (at_rest said)) new) → Rests new (dropped x)
+  pub said_broke : (e : lines.LineEnd) (place : Option Place) (bytes : List ℕ) (old new : Forth D G) (t u : T) (c : Core) (x : World) → RepresentsWorld old x → new.blocks ≡ old.blocks
+      → ((said : Core) → said.space ≡ c.space → SameStackAndSpace (with_empty_stack (at_rest said)) new) → RepresentsWorld new (dropped x)
       → H.input u ≡ H.input t → AppendsSome (H.output t) (H.output u) bytes → H.calls u ≡ count_up (H.calls t)
-      → Lined H (λ r. replied e place (print bytes c (with_run r x))) end.Io old new t u x
+      → RanLine H (λ r. replied e place (print bytes c (with_run r x))) end.Io old new t u x
   said_broke e place bytes old new t u c x rests blocks same_core after_rests input printed counted = record {
     deed = trying bytes;
     world = dropped x;
@@ -134,7 +134,7 @@ module _ {D T : Type 0} {G : Ghosts D} (H : TerminalGhosts T) where
   -- what comes of the line before it may be said otherwise
   pub lined_as : {start : Run → Ended} (start' : Run → Ended) (e : LineEnd) {mid new : Forth D G} (old : Forth D G) {t u : T} {x : World} (y : World)
       → ((r : Run) → start' r ≡ start r) → mid.blocks ≡ old.blocks → x.maps ≡ y.maps
-      → Lined H start e mid new t u x → Lined H start' e old new t u y
+      → RanLine H start e mid new t u x → RanLine H start' e old new t u y
   lined_as {start} start' e {mid} {new} old {t} {u} {x} y same blocks maps h = record {
     deed = h.deed;
     world = h.world;
@@ -190,7 +190,7 @@ module _ {D T : Type 0} (G : Ghosts D) (H : TerminalGhosts T) (counts_now : (d :
       → Heard H (Ok tt) d t u → HasRisenBy d.failures (G.failures (device old)) (G.failures (device mid))
       → (HasModel old → KeepsAndWears G x.maps w.maps (device old) (device mid) d.saves d.wear)
       → (HasModel old → (r : Run) → Fits d r → start (before d r) ≡ start2 (after d r))
-      → Lined H start2 e mid new u v w → Lined H start e old new t v x
+      → RanLine H start2 e mid new u v w → RanLine H start e old new t v x
   lined_then {start} {start2} {e} {old} {mid} {new} {t} {u} {v} {x} {w} d on on_then heard cause keeps first h = record {
     deed = then d h.deed;
     world = h.world;
@@ -290,8 +290,8 @@ module _ {D T : Type 0} (G : Ghosts D) (H : TerminalGhosts T) (counts_now : (d :
   pub over_lined : {start : Run → Outcome World} (start' : Run → Ended) {e : LineEnd} {old mid new : Forth D G} {t u v : T} {x : World} (h : Ran H start (Ok tt) old mid t u [] x)
       → ((r : Run) → start' r ≡ ended (start r))
       → Lasts G H (Ok tt) (device old) (device mid) t u → Lasts G H (heard_of e) (device mid) (device new) u v
-      → Lined H (λ r. end_of_line (compiling (core mid)) (core mid) (with_run r h.world)) e mid new u v h.world
-      → Lined H start' e old new t v x
+      → RanLine H (λ r. end_of_line (compiling (core mid)) (core mid) (with_run r h.world)) e mid new u v h.world
+      → RanLine H start' e old new t v x
   over_lined {start} start' {e} {old} {mid} {new} {t} {u} {v} {x} h opens on on_then k =
       lined_then G H counts_now widens only_now h.deed on on_then h.heard h.cause h.keeps (λ model r fits. opens (before h.deed r) ∙ ap (λ o. ended o) (h.comes model r fits)) k
 
@@ -315,8 +315,8 @@ module _ {D T : Type 0} (G : Ghosts D) (H : TerminalGhosts T) (counts_now : (d :
   pub ends_lined : {start : Run → Outcome World} (start' : Run → Ended) {e : LineEnd} (s : Stop) → is_io s ≡ false → {old mid new : Forth D G} {t u v : T} {x : World} (h : Ran H start (Err s) old mid t u [] x)
       → ((r : Run) → start' r ≡ ended (start r))
       → Lasts G H (Err s) (device old) (device mid) t u → Lasts G H (heard_of e) (device mid) (device new) u v
-      → ((c : Core) → IsLike (ending_of s) c (core mid) → Lined H (λ r. ended (Ends (ending_of s) c (with_run r h.world))) e mid new u v h.world)
-      → Lined H start' e old new t v x
+      → ((c : Core) → IsLike (ending_of s) c (core mid) → RanLine H (λ r. ended (Ends (ending_of s) c (with_run r h.world))) e mid new u v h.world)
+      → RanLine H start' e old new t v x
   ends_lined {start} start' {e} s well {old} {mid} {new} {t} {u} {v} {x} h opens on on_then k =
       ⊎_elim
       (λ model.
@@ -334,8 +334,8 @@ module _ {D T : Type 0} (G : Ghosts D) (H : TerminalGhosts T) (counts_now : (d :
       → ((r : Run) → start' r ≡ ended (start r))
       → Lasts G H (Err (stop.Fault f)) (device old) (device mid) t u → Lasts G H (heard_of e) (device mid) (device new) u v
       → place ≡ place_in mid.space → next.blocks ≡ mid.blocks
-      → ((c : Core) → c.space ≡ mid.space → Lined H (λ r. after_fault (Some place) (fault_of f) c (with_run r h.world)) e next new u v h.world)
-      → Lined H start' e old new t v x
+      → ((c : Core) → c.space ≡ mid.space → RanLine H (λ r. after_fault (Some place) (fault_of f) c (with_run r h.world)) e next new u v h.world)
+      → RanLine H start' e old new t v x
   fault_lined start' {e} f place {old} {mid} h opens on on_then is blocks k =
       ends_lined start' (stop.Fault f) refl h opens on on_then
       (λ c like.
@@ -345,8 +345,8 @@ module _ {D T : Type 0} (G : Ghosts D) (H : TerminalGhosts T) (counts_now : (d :
   -- the terminal failed before the reply
   pub broke_lined : {start : Run → Outcome World} (start' : Run → Ended) {old mid : Forth D G} (new : Forth D G) {t u : T} {x : World} (h : Ran H start (Err stop.Io) old mid t u [] x)
       → ((r : Run) → start' r ≡ ended (start r)) → new.blocks ≡ mid.blocks
-      → ((c : Core) → SameSpace c mid → SameStackAndSpace (with_empty_stack (at_rest c)) new) → Rests new (dropped h.world)
-      → Lined H start' end.Io old new t u x
+      → ((c : Core) → SameSpace c mid → SameStackAndSpace (with_empty_stack (at_rest c)) new) → RepresentsWorld new (dropped h.world)
+      → RanLine H start' end.Io old new t u x
   broke_lined {start} start' {old} {mid} new {t} {u} {x} h opens blocks same_core rests = record {
     deed = h.deed;
     world = dropped h.world;

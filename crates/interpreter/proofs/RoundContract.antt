@@ -21,9 +21,9 @@ use Rattle.cell_machine.specs.Fault.{Ending}
 use Rattle.block_words.specs.declared.Blocks.{Blocks}
 use Rattle.journal.specs.Store.{device_of}
 use Rattle.interpreter.specs.Promise.{HasRisenBy}
-use Rattle.interpreter.specs.Standing.{core, device, Rests, Stands}
-use Rattle.interpreter.specs.Serving.{Comes, Left, IsLike, Printed, KeepsAndWears, Lasts, WhereBroke, Ran, failed_calls}
-use Rattle.interpreter.specs.Rounds.{RoundComes, RanRound, LastsRound}
+use Rattle.interpreter.specs.Representation.{core, device, RepresentsWorld, Represents}
+use Rattle.interpreter.specs.ServiceContract.{Comes, Left, IsLike, Printed, KeepsAndWears, Lasts, WhereBroke, Ran, failed_calls}
+use Rattle.interpreter.specs.RoundContract.{RoundComes, RanRound, LastsRound}
 use Rattle.interpreter.proofs.Deeds.{before-nothing, after-nothing, after-then}
 use Rattle.interpreter.proofs.Running.{OnlyNow, comes_as, maps_same, heard_nothing}
 use Rattle.block_words.proofs.Counted.{risen_then}
@@ -67,7 +67,7 @@ round_comes_then n start start2 d e first none (Err s) levels c x h = comes_then
 module _ {D T : Type 0} (G : Ghosts D) (H : TerminalGhosts T) (counts_now : (d : D) (t : ℕ) (c : Image) → t ≤ G.time d → MayLeave (G.disk d) c → G.left_since d t c)
     (widens : (d : D) (s t : ℕ) (c : Image) → s ≤ t → G.left_since d t c → G.left_since d s c) (only_now : OnlyNow G) (n : ℕ) where
   -- nothing was done yet
-  pub round_of_nothing : (forth : Forth D G) (levels : List Level) (x : World) (t : T) → Stands forth levels x → RanRound H n (λ r. left n levels (core forth) (with_run r x)) (Ok GoesOn) forth forth t t x
+  pub round_of_nothing : (forth : Forth D G) (levels : List Level) (x : World) (t : T) → Represents forth levels x → RanRound H n (λ r. left n levels (core forth) (with_run r x)) (Ok GoesOn) forth forth t t x
   round_of_nothing forth levels x t stands = record {
     deed = nothing;
     levels = levels;
@@ -136,7 +136,7 @@ module _ {D T : Type 0} {G : Ghosts D} (H : TerminalGhosts T) (n : ℕ) where
 -- the machine ends the line
 module _ {D T : Type 0} (G : Ghosts D) (H : TerminalGhosts T) (only_now : OnlyNow G) (n : ℕ) where
   pub round_left : {start : Run → Outcome World} (s : Stop) (old new : Forth D G) (t : T) {x : World}
-      → Rests new x → new.blocks ≡ old.blocks → new.steps ≤ old.steps
+      → RepresentsWorld new x → new.blocks ≡ old.blocks → new.steps ≤ old.steps
       → Comes start nothing (Err s) (core new) x → failed_calls (Err s) ≡ 0 → Printed (Err s) (H.output t) (H.output t) [] [] → RanRound H n start (Err s) old new t t x
   round_left {start} s old new t {x} rests blocks less comes well printed = record {
     deed = nothing;
