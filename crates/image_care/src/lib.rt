@@ -6,10 +6,12 @@ mod carrying;
 mod copying;
 mod examining;
 mod listing;
+mod one_block;
 mod reading_files;
 mod salvaging;
 
 pub use copying::copy;
 pub use examining::{Examined, examine};
+pub use one_block::read_block;
 pub use reading_files::{ReadOnlyFile, ReadingFiles};
 pub use salvaging::salvage;
