@@ -191,11 +191,15 @@ fn check_refused(
     text: &str,
 ) -> Result<(), Fail> {
     check_unwritable(rt, folder, path, text)?;
-    let script = format!(in rt.alloc(); "3 image: {text} : check {path}")?;
+    let script = format!(in rt.alloc();
+        "\
+3 image: {text} : list {path} 0
+3 image: {text} : check {path}"
+    )?;
     follow(rt, folder, &script)
 }
 
-/// Each command that may write an image refuses it with the same text.
+/// Each command that has to write an image refuses it with the same text.
 fn check_unwritable(
     rt: &(impl Files<File = File> + AllocGlobal + Abort),
     folder: &str,
@@ -203,7 +207,6 @@ fn check_unwritable(
     text: &str,
 ) -> Result<(), Fail> {
     for words in [
-        "list PATH 0",
         "run PATH",
         "put PATH 1 PATH",
         "export PATH 0 0",
@@ -251,6 +254,10 @@ fn images_are_refused(rt: HostRuntime) -> Result<(), Fail> {
     }
     // The file of a program that runs, which nobody may write.
     check_unwritable(&rt, "program_refused", "/proc/self/exe", "cannot open")?;
+    // A listing opens it for reading, and finds that it is no image.
+    let left = call(&rt, &["forth83", "list", "/proc/self/exe", "0"], b"");
+    assert_eq!(rt; (left.status, left.output.is_empty()), (3, true));
+    assert!(rt; left.errors.as_slice() != b"forth83: image: cannot open\n".as_slice());
     // A check opens what is a file, and nothing else.
     follow(
         &rt,

@@ -1,5 +1,5 @@
 //! The program over images that are files in memory, whose calls are short, interrupted or fail.
-use super::support::{Left, call_over, make_over, run_over_files, transcript};
+use super::support::{Left, call_over, call_over_both, make_over, run_over_files, transcript};
 use sector_disk::{FileFault, HostFault, HostFile, HostFiles, MemoryFile, Script};
 use std::cell::{Cell, RefCell};
 use std::fs;
@@ -461,4 +461,179 @@ fn digest_in(text: &str) -> &str {
         Some((_, digest)) => digest,
         None => text,
     }
+}
+
+/// A system whose files can't be opened for writing, and why.
+#[derive(Drop)]
+struct Unwritable<'a, 'b> {
+    files: &'b OneFile<'a>,
+    fault: FileFault,
+}
+
+impl<'a> HostFiles<Opened<'a>> for Unwritable<'a, '_> {
+    ghost opens = { λ files path file. Unit {0} };
+
+    ghost makes = { λ files path file. Unit {0} };
+
+    fn open(&self, _path: &str) -> Result<Opened<'a>, FileFault> {
+        match self.fault {
+            FileFault::InUse => Err(FileFault::InUse),
+            _ => Err(FileFault::Cannot),
+        }
+    }
+
+    fn make(&self, path: &str) -> Result<Opened<'a>, FileFault> {
+        self.files.make(path)
+    }
+
+    fn keep_name(&self, path: &str) -> Result<(), HostFault> {
+        self.files.keep_name(path)
+    }
+}
+
+/// The system whose files may only be read.
+fn for_reading<'a, 'b>(files: &'b OneFile<'a>) -> Unwritable<'a, 'b> {
+    Unwritable {
+        files,
+        fault: FileFault::Cannot,
+    }
+}
+
+/// Lists a block of an image that may only be read.
+fn list_unwritable(
+    rt: &(impl Files<File = File> + AllocGlobal),
+    files: &OneFile,
+    block: &str,
+) -> Left {
+    call_over_both(
+        rt,
+        &for_reading(files),
+        files,
+        &["forth83", "list", "A", block],
+        b"",
+    )
+}
+
+/// What a listing of an image that may only be read tells, and that nothing was printed and written.
+fn check_unlisted(
+    rt: &(impl Files<File = File> + AllocGlobal + Abort),
+    files: &OneFile,
+    block: &str,
+    text: &str,
+) -> Result<(), Fail> {
+    let left = list_unwritable(rt, files, block);
+    let wanted = format!(in rt.alloc(); "forth83: image: {text}\n")?;
+    assert_eq!(rt; (left.status, left.output.is_empty()), (3, true), "{text}");
+    assert_eq!(rt; left.errors.as_slice(), wanted.as_bytes(), "{text}");
+    assert_eq!(rt; files.calls.writes.get(), 0, "{text}");
+    Ok(())
+}
+
+/// Each call of a session fails once. What is listed then of the image that may only be read is what is listed after the recovery, of a
+/// save that is under way too; nothing is written, and the image stays as it was.
+#[test]
+fn listings_before_a_recovery(rt: HostRuntime) -> Result<(), Fail> {
+    let mut under_way: u32 = 0;
+    for k in 0..60 {
+        let file = empty(&rt)?;
+        let calls = Calls::new();
+        let files = OneFile {
+            file: &file,
+            calls: &calls,
+            is_there: Cell::new(false),
+        };
+        make_over(&rt, &files);
+        calls.begin(k);
+        let (input, _) = transcript(&rt, SAVED)?;
+        let _ = call_over(&rt, &files, &["forth83", "run", "A"], input.as_slice());
+        calls.begin(u64::MAX);
+        let before = list_unwritable(&rt, &files, "2");
+        assert_eq!(rt; (before.status, calls.openings.get()), (0, 1), "at {k}");
+        // The gate, the record and the two slots that it lists are read besides the label and the block.
+        let made = calls.made.get();
+        assert!(rt; made == 4 || made == 9, "at {k}");
+        let told = call_over(&rt, &files, CHECK.as_slice(), b"");
+        assert_eq!(rt; calls.writes.get(), 0, "at {k}");
+        let told = str::from_utf8(told.output.as_slice()).unwrap_or("?");
+        assert_eq!(rt;
+            told.contains(": 2 blocks, digest true\n"),
+            made == 9,
+            "at {k}"
+        );
+        if made == 9 {
+            under_way = under_way.saturating_add(1);
+            assert!(rt; before.output.as_slice().starts_with(b".. "), "at {k}");
+        }
+        let after = call_over(&rt, &files, &["forth83", "list", "A", "2"], b"");
+        assert_eq!(rt; after.status, 0, "at {k}");
+        assert_eq!(rt; before.output.as_slice(), after.output.as_slice(), "at {k}");
+    }
+    assert!(rt; under_way > 4, "{under_way}");
+    Ok(())
+}
+
+/// An image that may only be read is refused as by an opening, and then for its block. Where it is in use it isn't opened once more.
+#[test]
+fn listings_that_are_refused(rt: HostRuntime) -> Result<(), Fail> {
+    let file = empty(&rt)?;
+    let calls = Calls::new();
+    let files = OneFile {
+        file: &file,
+        calls: &calls,
+        is_there: Cell::new(false),
+    };
+    check_unlisted(&rt, &files, "1", "cannot open")?;
+    make_over(&rt, &files);
+    run_over_files(&rt, &files, SAVED)?;
+    calls.begin(u64::MAX);
+    check_unlisted(&rt, &files, "32", "no block")?;
+    check_unlisted(&rt, &files, "65535", "no block")?;
+    for k in 0..4 {
+        calls.begin(k);
+        check_unlisted(&rt, &files, "1", "device fault")?;
+    }
+    calls.begin(u64::MAX);
+    let in_use = Unwritable {
+        files: &files,
+        fault: FileFault::InUse,
+    };
+    let left = call_over_both(&rt, &in_use, &files, &["forth83", "list", "A", "1"], b"");
+    assert_eq!(rt;
+        left.errors.as_slice(),
+        b"forth83: image: in use\n".as_slice()
+    );
+    assert_eq!(rt; (left.status, calls.openings.get()), (3, 0));
+    // In use where it is opened for reading.
+    let left = call_over_both(
+        &rt,
+        &for_reading(&files),
+        &in_use,
+        &["forth83", "list", "A", "1"],
+        b"",
+    );
+    assert_eq!(rt;
+        left.errors.as_slice(),
+        b"forth83: image: in use\n".as_slice()
+    );
+    // An open gate over a record whose digest isn't that of its bits; and before it the label.
+    overwrite_file(&rt, &files, 512, b"COMMIT83")?;
+    overwrite_file(&rt, &files, 1024, b"\xff")?;
+    calls.begin(u64::MAX);
+    check_unlisted(&rt, &files, "1", "damaged")?;
+    check_unlisted(&rt, &files, "32", "damaged")?;
+    overwrite_file(&rt, &files, 0, b"f")?;
+    calls.begin(u64::MAX);
+    check_unlisted(&rt, &files, "1", "no label")
+}
+
+/// Puts bytes into the file.
+fn overwrite_file(rt: &impl Abort, files: &OneFile, at: u64, bytes: &[u8]) -> Result<(), Fail> {
+    match files.file.try_borrow_mut() {
+        Ok(mut file) => match file.write_at(at, bytes) {
+            Ok(n) => assert_eq!(rt; n, bytes.len()),
+            Err(_) => return Err(Fail::from("it can't be written")),
+        },
+        Err(_) => return Err(Fail::from("it is open")),
+    }
+    Ok(())
 }

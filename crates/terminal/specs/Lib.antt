@@ -6,6 +6,7 @@ pub mod InMemory
 pub mod Failures
 pub mod Done
 pub mod Copying
+pub mod Shown
 pub mod Ordered
 pub mod Files
 pub mod Putting

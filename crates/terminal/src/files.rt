@@ -2,13 +2,13 @@
 ghost use Rattle.std.specs.Prelude.{◌≡◌, ◌≢◌, ◌⊎◌, ◌<◌, ◌≤◌, ◌+◌, ◌*◌, ◌↔◌, true, OnOk, IfOk, IfErr, IsErrOf};
 ghost use Rattle.journal.specs.Layout.{sectors_for};
 ghost use Rattle.journal.specs.Store.{Continues, DeviceBegins, DeviceFailed, DeviceReads, blocks_of, closed_of, device_of, pending_count};
-ghost use Rattle.terminal.specs.Done.{Comes, Exports, ImportsBlocks, ListsBlock, LooksAt, MakesBlank, PutsBlock, RunsSession, Upgraded};
+ghost use Rattle.terminal.specs.Done.{Comes, Exports, ImportsBlocks, LooksAt, MakesBlank, PutsBlock, RunsSession, Upgraded};
 ghost use Rattle.terminal.specs.Files.{IsMade, IsOpened, OpensOn};
 ghost use Rattle.terminal.specs.Putting.{LeavesSome, PutsSome};
 
 use super::exporting::export_blocks;
 use super::failure::Failure;
-use super::images::{list_block, make_over, open_over, put_text};
+use super::images::{make_over, open_over, put_text};
 use super::importing::{import_file, read_blocks};
 use super::orders::Form;
 use super::program::run_session;
@@ -86,24 +86,6 @@ pub fn run_image<
 {
     let store = open_image(files, path)?;
     run_session::<SectorFile<H>, F, R, W, T>(alloc, store, steps, input, output, tracer)
-}
-
-/// Prints a block of an image. Nothing is written to the image, but by its recovery.
-pub fn list_image<H: HostFile + Drop, O: HostFiles<H>, W: Write>(
-    files: &O,
-    path: &str,
-    block: u16,
-    output: &mut W,
-) -> Result<Store<SectorFile<H>>, Failure>
-    ensures listed { IfOk result (λ store. Comes ⟦<SectorFile<H> as SectorDevice>⟧
-        (IsOpened H.HostFile (O.opens files.now path.now))
-        (ListsBlock ⟦<SectorFile<H> as SectorDevice>⟧ block (W.contents output.old) (W.contents output.new)) (device_of store)) }
-{
-    let mut store = open_image(files, path)?;
-    match list_block(&mut store, block, output) {
-        Ok(()) => Ok(store),
-        Err(failure) => Err(failure),
-    }
 }
 
 /// Prints the blocks of an image from the one to the other. Nothing is written to the image, but by its recovery.

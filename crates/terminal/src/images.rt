@@ -13,7 +13,7 @@ ghost use Rattle.journal.specs.Store.{Continues, DeviceFailed, KeepsSaved};
 ghost use Rattle.recovery.specs.Formatted.{blank_blocks};
 ghost use Rattle.recovery.specs.Label.{is_size, is_size_for};
 ghost use Rattle.recovery.specs.Opened.{image_refusal};
-ghost use Rattle.terminal.specs.Done.{MakesBlank};
+ghost use Rattle.terminal.specs.Done.{ListsBlock, MakesBlank};
 ghost use Rattle.terminal.specs.Failures.{of_image};
 ghost use Rattle.terminal.specs.Files.{OpensAs};
 ghost use Rattle.terminal.specs.Putting.{PutsSome, LeavesSome};
@@ -69,6 +69,25 @@ pub fn open_over<D: SectorDevice + Drop>(device: D) -> Result<Store<D>, (Failure
     match open(device) {
         Ok(store) => Ok(store),
         Err((fault, device)) => Err((Failure::from(fault), device)),
+    }
+}
+
+/// Prints a block of the image on a device. Nothing is written to it, but by its recovery.
+pub fn list_over<D: SectorDevice + Drop, W: Write>(
+    device: D,
+    block: u16,
+    output: &mut W,
+) -> Result<Store<D>, Failure>
+    ensures listed { IfOk result (λ store. ListsBlock D.SectorDevice block (W.contents output.old) (W.contents output.new)
+        device (device_of store)) }
+{
+    let mut store = match open_over(device) {
+        Ok(store) => store,
+        Err((failure, _)) => return Err(failure),
+    };
+    match list_block(&mut store, block, output) {
+        Ok(()) => Ok(store),
+        Err(failure) => Err(failure),
     }
 }
 

@@ -19,4 +19,5 @@ pub mod orders;
 mod program;
 mod reading;
 mod screen;
+mod showing;
 mod starting;

@@ -20,11 +20,11 @@ use super::checking::check_image;
 use super::copying::{copy_image, salvage_image};
 use super::failure::Failure;
 use super::files::{
-    check_import, export_image, import_image, list_image, make_image, put_into_image, run_image,
-    upgrade_image,
+    check_import, export_image, import_image, make_image, put_into_image, run_image, upgrade_image,
 };
 use super::orders::Order;
 use super::reading::order;
+use super::showing::list_image;
 use clap::Error;
 use clap::error::ErrorKind;
 use image_care::ReadingFiles;
@@ -164,7 +164,9 @@ fn perform<
             output,
             &mut Traces::new(errors),
         )),
-        Order::List(path, block) => closed(list_image::<H, O, W>(files, path, block, output)),
+        Order::List(path, block) => {
+            list_image::<H, O, K, P, W>(files, looking, path, block, output)
+        }
         Order::Put(path, block, text) => {
             closed(put_into_image::<H, O>(rt, files, path, block, text))
         }
@@ -189,7 +191,7 @@ fn perform<
 }
 
 /// Closes what a command gave back.
-fn closed<T: Drop>(outcome: Result<T, Failure>) -> Result<(), Failure>
+pub(super) fn closed<T: Drop>(outcome: Result<T, Failure>) -> Result<(), Failure>
     ensures { MatchResult outcome (λ _. IsOk result) (λ failure. result ≡ Err failure) }
 {
     match outcome {

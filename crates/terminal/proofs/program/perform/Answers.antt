@@ -15,8 +15,7 @@ returns-in-Trace-clause-done g c =
     rw c.in-Trace.is (done_of c.run_image-in-Trace.result c.closed-in-Trace.result c.closed-in-Trace.ensures _ _ (λ store ran. (device_of store, ran)) c.run_image-in-Trace.ensures.ran)
 
 pub returns-in-List-clause-done : goal.returns-in-List-clause-done
-returns-in-List-clause-done g c =
-    rw c.in-List.is (done_of c.list_image.result c.closed-in-List.result c.closed-in-List.ensures _ _ (λ store listed. (device_of store, listed)) c.list_image.ensures.listed)
+returns-in-List-clause-done g c = rw c.in-List.is c.list_image.ensures.listed
 
 pub returns-in-Put-clause-done : goal.returns-in-Put-clause-done
 returns-in-Put-clause-done g c =

@@ -1,0 +1,116 @@
+//! A block of an image is printed: of one whose file can't be opened for writing by reads alone.
+ghost use Rattle.std.specs.Prelude.{◌≡◌, ◌≢◌, ◌⊎◌, ◌<◌, ◌≤◌, ◌+◌, Some, None, IsTrue, IfErr, IfOk, MatchBool, MatchResult, OnOk, Err};
+ghost use Rattle.sector_disk.specs.Counting.{count_up};
+ghost use Rattle.sector_disk.specs.Disk.{MayLeave};
+ghost use Rattle.journal.specs.Calls.{BeginsAtMost, StopsLeave};
+ghost use Rattle.recovery.specs.Label.{blocks_in, is_size};
+ghost use Rattle.terminal.specs.Done.{Comes, DoneOn, ListsBlock};
+ghost use Rattle.terminal.specs.Failures.{of_file};
+ghost use Rattle.terminal.specs.Files.{IsOpened};
+ghost use Rattle.terminal.specs.Ordered.{ListDone};
+ghost use Rattle.terminal.specs.Shown.{ShowsBlock, block_refusal};
+
+use super::checking::print;
+use super::failure::Failure;
+use super::images::list_over;
+use super::program::closed;
+use super::screen::listing;
+use image_care::read_block;
+use sector_disk::{FileFault, HostFile, HostFiles, SectorDevice, SectorFile, open_disk};
+use std::io::Write;
+
+/// Prints a block of an image: after its recovery where its file can be opened for writing, and by reads alone where it can't.
+/// What was opened is closed.
+pub fn list_image<
+    H: HostFile + Drop,
+    O: HostFiles<H>,
+    K: HostFile + Drop,
+    P: HostFiles<K>,
+    W: Write,
+>(files: &O, looking: &P, path: &str, block: u16, output: &mut W) -> Result<(), Failure>
+    ensures listed { OnOk result (ListDone ⟦<SectorFile<H> as SectorDevice>⟧ ⟦<SectorFile<K> as SectorDevice>⟧
+        (IsOpened H.HostFile (O.opens files.now path.now)) (IsOpened K.HostFile (P.opens looking.now path.now))
+        block (W.contents output.old) (W.contents output.new)) }
+{
+    list_opened::<H, K, P, W>(open_disk(files, path), looking, path, block, output)
+}
+
+/// The same, once the file was opened for writing or wasn't: it is opened for reading only where the system refused that.
+pub fn list_opened<H: HostFile + Drop, K: HostFile + Drop, P: HostFiles<K>, W: Write>(
+    opened: Result<SectorFile<H>, FileFault>,
+    looking: &P,
+    path: &str,
+    block: u16,
+    output: &mut W,
+) -> Result<(), Failure>
+    // The image on the file that could be opened for writing was recovered, and listed.
+    ensures listed { IfOk opened (λ disk. OnOk result (DoneOn ⟦<SectorFile<H> as SectorDevice>⟧ (λ device. device ≡ disk)
+        (ListsBlock ⟦<SectorFile<H> as SectorDevice>⟧ block (W.contents output.old) (W.contents output.new)))) }
+    ensures shown { IfErr opened (λ fault. fault ≡ FileFault.Cannot → OnOk result (DoneOn ⟦<SectorFile<K> as SectorDevice>⟧
+        (IsOpened K.HostFile (P.opens looking.now path.now))
+        (ShowsBlock ⟦<SectorFile<K> as SectorDevice>⟧ block (W.contents output.old) (W.contents output.new)))) }
+    // A file that is in use stays so: it isn't listed at all.
+    ensures refused { IfErr opened (λ fault. fault ≢ FileFault.Cannot
+        → (result ≡ Err (of_file fault)) × (output.new ≡ output.old)) }
+{
+    match opened {
+        Ok(disk) => closed(list_over(disk, block, output)),
+        Err(FileFault::Cannot) => closed(show_image::<K, P, W>(looking, path, block, output)),
+        Err(fault) => Err(Failure::from(fault)),
+    }
+}
+
+/// Prints a block of an image. Its file is opened for nothing but that, and is given back.
+pub fn show_image<H: HostFile + Drop, O: HostFiles<H>, W: Write>(
+    files: &O,
+    path: &str,
+    block: u16,
+    output: &mut W,
+) -> Result<SectorFile<H>, Failure>
+    ensures shown { IfOk result (λ disk. Comes ⟦<SectorFile<H> as SectorDevice>⟧
+        (IsOpened H.HostFile (O.opens files.now path.now))
+        (ShowsBlock ⟦<SectorFile<H> as SectorDevice>⟧ block (W.contents output.old) (W.contents output.new)) disk) }
+{
+    let mut disk = open_disk(files, path)?;
+    match show_over(&mut disk, block, output) {
+        Ok(()) => Ok(disk),
+        Err(failure) => Err(failure),
+    }
+}
+
+/// Prints a block of the image on a device. Where it is refused nothing is printed.
+pub fn show_over<D: SectorDevice, W: Write>(
+    device: &mut D,
+    block: u16,
+    output: &mut W,
+) -> Result<(), Failure>
+    ensures shows { OnOk result (ShowsBlock D.SectorDevice block (W.contents output.old) (W.contents output.new)
+        device.old device.new) }
+    // Each refusal tells the first test that fails: those of an opening, and then whether the block is there.
+    ensures exact { IsTrue (D.keeps_model device.old) → MatchResult result
+        (λ _. block_refusal block (D.sector_count device.old) (D.disk device.old).content ≡ None)
+        (λ e. (e ≡ Failure.Device) ⊎ (e ≡ Failure.CannotWrite)
+        ⊎ (block_refusal block (D.sector_count device.old) (D.disk device.old).content ≡ Some e)) }
+    ensures bad_size { IfErr result (λ e. MatchBool (is_size (D.sector_count device.old))
+        (e ≢ Failure.BadSize) (e ≡ Failure.BadSize)) }
+    // No block is told just where it isn't there.
+    ensures no_block { IfErr result (λ e. e ≡ Failure.NoBlock → blocks_in (D.sector_count device.old) ≤ block) }
+    ensures there { OnOk result (block < blocks_in (D.sector_count device.old)) }
+    // A fault of the device is told just where one of its calls failed.
+    ensures device { IfErr result (λ e. e ≡ Failure.Device → D.failures device.new ≡ count_up (D.failures device.old)) }
+    ensures refused { IfErr result (λ e. e ≢ Failure.Device → D.failures device.new ≡ D.failures device.old) }
+    ensures well { OnOk result (D.failures device.new ≡ D.failures device.old) }
+    // Where nothing is told of the block, nothing was printed.
+    ensures unprinted { IfErr result (λ e. e ≢ Failure.CannotWrite → output.new ≡ output.old) }
+    // Whatever the answer is, nothing was written or synced.
+    ensures same { IsTrue (D.keeps_model device.old) → D.disk device.new ≡ D.disk device.old }
+    ensures stops { IsTrue (D.keeps_model device.old)
+        → StopsLeave D.SectorDevice device.old device.new (MayLeave (D.disk device.old)) }
+    ensures begins { BeginsAtMost D.SectorDevice device.old device.new 0 0 }
+{
+    match read_block(device, block) {
+        Ok(Some(bytes)) => print(listing(&bytes).as_slice(), output),
+        Ok(None) => Err(Failure::NoBlock),
+        Err(fault) => Err(Failure::from(fault)),
+    }
+}
