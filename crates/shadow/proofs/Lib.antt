@@ -1,8 +1,12 @@
 pub mod Calls
 pub mod Exchanged
+pub mod Formats
+pub mod Labels
 pub mod Meaning
+pub mod Openings
 pub mod Pages
 pub mod Saves
+pub mod Spoils
 pub mod Stops
 pub mod Stores
 pub mod Sums

@@ -1,7 +1,10 @@
 pub mod Calls
 pub mod Clean
+pub mod Formatted
 pub mod Images
+pub mod Label
 pub mod Layout
+pub mod Opened
 pub mod Pages
 pub mod Steps
 pub mod Store

@@ -17,7 +17,7 @@ use crate::tags::{exchange, tag_of};
 use journal::layout::is_listed;
 use sector_disk::{DeviceFault, SectorDevice};
 
-fn read_tag<D: SectorDevice>(device: &mut D, k: u32) -> Result<[u8; 32], DeviceFault>
+pub(crate) fn read_tag<D: SectorDevice>(device: &mut D, k: u32) -> Result<[u8; 32], DeviceFault>
     requires { k < D.sector_count device.old }
     ensures bytes { IsTrue (D.keeps_model device.old)
         → IfOk result (λ found. found ≡ tag_in ((D.disk device.old).content k)) }
@@ -34,7 +34,11 @@ fn read_tag<D: SectorDevice>(device: &mut D, k: u32) -> Result<[u8; 32], DeviceF
 }
 
 // The tag of block `b` with the bytes in the place that begins with sector `k`.
-fn made_tag<D: SectorDevice>(device: &mut D, b: u16, k: u32) -> Result<[u8; 32], DeviceFault>
+pub(crate) fn made_tag<D: SectorDevice>(
+    device: &mut D,
+    b: u16,
+    k: u32,
+) -> Result<[u8; 32], DeviceFault>
     requires small { k < 2 ^ 16 }
     requires within { k + 1 < D.sector_count device.old }
     ensures tag { IsTrue (D.keeps_model device.old)

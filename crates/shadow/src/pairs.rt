@@ -1,5 +1,5 @@
 // Sectors and pairs of sectors that are written within a page.
-ghost use Rattle.std.specs.Prelude.{◌≡◌, ◌<◌, ◌≤◌, ◌+◌, ◌^◌, ◌++◌, length, take, drop, IsTrue, OnOk, OnErr, IfOk};
+ghost use Rattle.std.specs.Prelude.{◌≡◌, ◌<◌, ◌≤◌, ◌+◌, ◌^◌, length, take, drop, IsTrue, OnOk, OnErr, IfOk};
 ghost use Rattle.sector_disk.specs.Disk.{MayLeave, written, settled};
 ghost use Rattle.journal.specs.Calls.{StopsLeave, BeginsAtMost, ReadsAtMost};
 ghost use Rattle.shadow.specs.Calls.{Passes};
@@ -28,12 +28,7 @@ pub(crate) fn read_pair<D: SectorDevice>(
     ensures begins { BeginsAtMost D.SectorDevice device.old device.new 0 0 }
     ensures reads { ReadsAtMost D.SectorDevice device.old device.new 2 }
 {
-    let mut first = [0; 512];
-    let mut second = [0; 512];
-    device.read(k, &mut first)?;
-    device.read(k + 1, &mut second)?;
-    join(&first, &second, out);
-    Ok(())
+    journal::read_pair(device, k, out)
 }
 
 // Writes sector `k`.
@@ -99,15 +94,6 @@ pub(crate) fn write_pair<D: SectorDevice>(
     let (first, second) = bytes.split_at(512);
     write_sector(device, k, &sector_of(first))?;
     write_sector(device, k + 1, &sector_of(second))
-}
-
-fn join(first: &[u8; 512], second: &[u8; 512], out: &mut [u8])
-    requires { length out.old ≡ 1024 }
-    ensures { out.new ≡ first.now ++ second.now }
-{
-    let (front, back) = out.split_at_mut(512);
-    front.copy_from_slice(first);
-    back.copy_from_slice(second);
 }
 
 fn sector_of(bytes: &[u8]) -> [u8; 512]

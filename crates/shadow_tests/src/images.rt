@@ -32,7 +32,11 @@ pub(crate) fn sector<D: SectorDevice>(disk: &mut D, k: u32) -> Result<[u8; 512],
     }
 }
 
-fn put<D: SectorDevice>(disk: &mut D, k: u32, bytes: &[u8; 512]) -> Result<(), &'static str> {
+pub(crate) fn put<D: SectorDevice>(
+    disk: &mut D,
+    k: u32,
+    bytes: &[u8; 512],
+) -> Result<(), &'static str> {
     if k >= disk.sectors() {
         return Err("no sector to write");
     }

@@ -2,7 +2,11 @@
 #![tactic(auto)]
 
 #[cfg(test)]
+mod formats;
+#[cfg(test)]
 mod images;
+#[cfg(test)]
+mod openings;
 #[cfg(test)]
 mod saves;
 #[cfg(test)]

@@ -1,0 +1,325 @@
+// A device is made an image of blank blocks.
+ghost use Rattle.std.specs.Prelude.{◌≡◌, ◌≢◌, ◌<◌, ◌≤◌, ◌+◌, ◌*◌, ◌%◌, ◌^◌, ◌++◌, ℕ, true, false, take, drop, IsTrue, OnOk, IfOk, IfErr, MatchBool, replicate};
+ghost use Rattle.sector_disk.specs.Counting.{count_up};
+ghost use Rattle.sector_disk.specs.Disk.{Image, MayLeave, written, settled};
+ghost use Rattle.sector_disk.specs.Moments.{Elapses};
+ghost use Rattle.journal.specs.Calls.{StopsLeave, BeginsAtMost, ReadsAtMost};
+ghost use Rattle.journal.specs.Layout.{most_blocks};
+ghost use Rattle.journal.specs.Maps.{fresh};
+ghost use Rattle.recovery.specs.Formatted.{blank_blocks};
+ghost use Rattle.recovery.specs.declared.fault.OpenFault.TheVariants.{BadSize, Device};
+ghost use Rattle.shadow.specs.Calls.{Passes};
+ghost use Rattle.shadow.specs.Formatted.{FormatLeaves, HasFirst, IsBlank, KeepsRest, IsUnlabelled, IsPrepared, IsMade, TakenAway, Sealed, InUnit, PastLabel, Spoils, placed};
+ghost use Rattle.shadow.specs.Images.{Means};
+ghost use Rattle.shadow.specs.Label.{is_size_for};
+ghost use Rattle.shadow.specs.Layout.{sectors_for, label_of, gate_at, record_at};
+ghost use Rattle.shadow.specs.Opened.{end_of};
+ghost use Rattle.shadow.specs.Pages.{KeepsPages};
+ghost use Rattle.shadow.specs.Steps.{IsAsSynced};
+ghost use Rattle.shadow.specs.Store.{device_of, disk_of, blocks_of, closed_of, is_pending, StandsFor};
+ghost use Rattle.shadow.specs.Tags.{tag_of, xor_bytes, sum_below};
+
+use crate::label::fits;
+use crate::layout::{GATE, label, place_sector, record_sector, tag_sector, with_sum};
+use crate::pairs::{write_pair, write_sector, write_through};
+use crate::settling::settle;
+use crate::store::Store;
+use crate::tags::{add, tag_of};
+use journal::layout::{BlockCount, LABEL};
+use recovery::OpenFault;
+use sector_disk::{DeviceFault, SectorDevice};
+
+// Writes a block and its tag to the place that begins with sector `k`.
+fn write_place<D: SectorDevice>(
+    device: &mut D,
+    k: u32,
+    bytes: &[u8; 1024],
+    tag: &[u8; 32],
+) -> Result<(), DeviceFault>
+    requires past { 32 ≤ k }
+    requires small { k < 2 ^ 16 }
+    requires page { k % 8 ≡ 0 }
+    requires within { k + 2 < D.sector_count device.old }
+    ensures ok { KeepsPages D.SectorDevice device.old → OnOk result (D.disk device.new
+        ≡ written (written (written (D.disk device.old) k (take 512 bytes.now)) (k + 1) (drop 512 bytes.now)) (k + 2) (tag.now ++ replicate 480 0)) }
+    ensures spoils { Spoils D.SectorDevice PastLabel device.old device.new }
+    ensures passes { Passes D.SectorDevice device.old device.new result }
+    ensures begins { BeginsAtMost D.SectorDevice device.old device.new 3 0 }
+    ensures reads { ReadsAtMost D.SectorDevice device.old device.new 0 }
+{
+    write_pair(device, k, bytes)?;
+    write_sector(device, k + 2, &tag_sector(tag))
+}
+
+// Writes block `b` and its tag to its first place, and clears the tag of its second one.
+fn write_places<D: SectorDevice>(
+    device: &mut D,
+    b: u16,
+    bytes: &[u8; 1024],
+    tag: &[u8; 32],
+) -> Result<(), DeviceFault>
+    requires below { b < most_blocks }
+    requires within { 48 + 16 * b ≤ D.sector_count device.old }
+    ensures ok { KeepsPages D.SectorDevice device.old
+        → OnOk result (D.disk device.new ≡ placed b bytes.now (tag.now ++ replicate 480 0) (D.disk device.old)) }
+    ensures spoils { Spoils D.SectorDevice PastLabel device.old device.new }
+    ensures passes { Passes D.SectorDevice device.old device.new result }
+    ensures begins { BeginsAtMost D.SectorDevice device.old device.new 4 0 }
+    ensures reads { ReadsAtMost D.SectorDevice device.old device.new 0 }
+{
+    write_place(device, place_sector(b, false), bytes, tag)?;
+    write_sector(device, place_sector(b, true) + 2, &[0; 512])
+}
+
+// Writes block `b` to its first place, with its tag, and clears the tag of its second one. The tag is put into a sum.
+fn write_block<D: SectorDevice>(
+    device: &mut D,
+    b: u16,
+    bytes: &[u8; 1024],
+    sum: &mut [u8; 32],
+) -> Result<(), DeviceFault>
+    requires below { b < most_blocks }
+    requires within { 48 + 16 * b ≤ D.sector_count device.old }
+    ensures places { KeepsPages D.SectorDevice device.old → OnOk result (HasFirst b bytes.now (D.disk device.new).content) }
+    ensures others { KeepsPages D.SectorDevice device.old → OnOk result
+        ((k : ℕ) → k < 32 + 16 * b → (D.disk device.new).content k ≡ (D.disk device.old).content k) }
+    ensures rest { KeepsPages D.SectorDevice device.old
+        → OnOk result (KeepsRest (D.disk device.old).content (D.disk device.new).content) }
+    ensures sum { OnOk result (sum.new ≡ xor_bytes sum.old (tag_of b bytes.now)) }
+    ensures spoils { Spoils D.SectorDevice PastLabel device.old device.new }
+    ensures passes { Passes D.SectorDevice device.old device.new result }
+    ensures begins { BeginsAtMost D.SectorDevice device.old device.new 4 0 }
+    ensures reads { ReadsAtMost D.SectorDevice device.old device.new 0 }
+{
+    let tag = tag_of(b, bytes);
+    write_places(device, b, bytes, &tag)?;
+    add(sum, &tag);
+    Ok(())
+}
+
+// Fills the first places with blanks, and puts their tags into a sum.
+fn fill_places<D: SectorDevice>(
+    device: &mut D,
+    blocks: BlockCount,
+    sum: &mut [u8; 32],
+) -> Result<(), DeviceFault>
+    requires size { D.sector_count device.old ≡ sectors_for blocks.number }
+    requires empty { sum.old ≡ replicate 32 0 }
+    ensures places { KeepsPages D.SectorDevice device.old → OnOk result
+        ((b : ℕ) → b < blocks.number → HasFirst b (replicate 1024 32) (D.disk device.new).content) }
+    ensures rest { KeepsPages D.SectorDevice device.old
+        → OnOk result (KeepsRest (D.disk device.old).content (D.disk device.new).content) }
+    ensures sum { OnOk result (sum.new ≡ sum_below (λ b. tag_of b (replicate 1024 32)) blocks.number) }
+    ensures spoils { Spoils D.SectorDevice PastLabel device.old device.new }
+    ensures passes { Passes D.SectorDevice device.old device.new result }
+    ensures begins { BeginsAtMost D.SectorDevice device.old device.new (4 * blocks.number) 0 }
+    ensures reads { ReadsAtMost D.SectorDevice device.old device.new 0 }
+{
+    for b in 0..blocks.number {
+        write_block(device, b, &blanks(), sum)?;
+    }
+    Ok(())
+}
+
+fn blanks() -> [u8; 1024]
+    ensures { result ≡ replicate 1024 32 }
+{
+    [b' '; 1024]
+}
+
+// Closes the gate, clears the record that it doesn't name, and writes the other one.
+fn fill_head<D: SectorDevice>(device: &mut D, listing: &[u8; 512]) -> Result<(), DeviceFault>
+    requires { 32 ≤ D.sector_count device.old }
+    ensures ok { KeepsPages D.SectorDevice device.old → OnOk result (D.disk device.new
+        ≡ written (written (written (D.disk device.old) gate_at (replicate 512 0)) (record_at true) (replicate 512 0)) (record_at false) listing.now) }
+    ensures spoils { Spoils D.SectorDevice PastLabel device.old device.new }
+    ensures passes { Passes D.SectorDevice device.old device.new result }
+    ensures begins { BeginsAtMost D.SectorDevice device.old device.new 3 0 }
+    ensures reads { ReadsAtMost D.SectorDevice device.old device.new 0 }
+{
+    write_sector(device, GATE, &[0; 512])?;
+    fill_records(device, listing)
+}
+
+fn fill_records<D: SectorDevice>(device: &mut D, listing: &[u8; 512]) -> Result<(), DeviceFault>
+    requires { 32 ≤ D.sector_count device.old }
+    ensures ok { KeepsPages D.SectorDevice device.old → OnOk result (D.disk device.new
+        ≡ written (written (D.disk device.old) (record_at true) (replicate 512 0)) (record_at false) listing.now) }
+    ensures spoils { Spoils D.SectorDevice PastLabel device.old device.new }
+    ensures passes { Passes D.SectorDevice device.old device.new result }
+    ensures begins { BeginsAtMost D.SectorDevice device.old device.new 2 0 }
+    ensures reads { ReadsAtMost D.SectorDevice device.old device.new 0 }
+{
+    write_sector(device, record_sector(true), &[0; 512])?;
+    write_sector(device, record_sector(false), listing)
+}
+
+// Writes zeros over the label, and makes them stay. A stop may spoil the label's unit, and nothing else.
+fn clear_label<D: SectorDevice>(device: &mut D) -> Result<(), DeviceFault>
+    requires { 0 < D.sector_count device.old }
+    ensures ok { IsTrue (D.keeps_model device.old)
+        → OnOk result (D.disk device.new ≡ settled (written (D.disk device.old) 0 (replicate 512 0))) }
+    ensures stops { IsTrue (D.keeps_model device.old)
+        → StopsLeave D.SectorDevice device.old device.new (IsAsSynced (InUnit (D.disk device.old) 0) (D.disk device.old)) }
+    ensures passes { Passes D.SectorDevice device.old device.new result }
+    ensures begins { BeginsAtMost D.SectorDevice device.old device.new 1 1 }
+    ensures reads { ReadsAtMost D.SectorDevice device.old device.new 0 }
+{
+    device.write(LABEL, &[0; 512])?;
+    device.sync()
+}
+
+// Makes what is there stay, and takes a good label away, if one stands there.
+fn unlabel<D: SectorDevice>(device: &mut D, blocks: BlockCount) -> Result<(), DeviceFault>
+    requires size { D.sector_count device.old ≡ sectors_for blocks.number }
+    ensures ok { KeepsPages D.SectorDevice device.old → OnOk result (IsUnlabelled blocks.number (D.disk device.new)) }
+    ensures rest { KeepsPages D.SectorDevice device.old
+        → OnOk result (KeepsRest (D.disk device.old).content (D.disk device.new).content) }
+    ensures stops { KeepsPages D.SectorDevice device.old
+        → StopsLeave D.SectorDevice device.old device.new (TakenAway blocks.number (D.disk device.old)) }
+    ensures passes { Passes D.SectorDevice device.old device.new result }
+    ensures begins { BeginsAtMost D.SectorDevice device.old device.new 1 2 }
+    ensures reads { ReadsAtMost D.SectorDevice device.old device.new 1 }
+{
+    let mut found = [0; 512];
+    settle(device, &mut found)?;
+    if found == label(blocks.number) {
+        clear_label(device)
+    } else {
+        Ok(())
+    }
+}
+
+// Writes all of the blank image but its label, and gives the record that counts.
+fn fill<D: SectorDevice>(
+    device: &mut D,
+    blocks: BlockCount,
+    listing: &mut [u8; 512],
+) -> Result<(), DeviceFault>
+    requires size { D.sector_count device.old ≡ sectors_for blocks.number }
+    ensures ok { KeepsPages D.SectorDevice device.old → OnOk result (IsBlank blocks.number (D.disk device.new).content) }
+    ensures named { KeepsPages D.SectorDevice device.old → OnOk result ((D.disk device.new).content (record_at false) ≡ listing.new) }
+    ensures rest { KeepsPages D.SectorDevice device.old
+        → OnOk result (KeepsRest (D.disk device.old).content (D.disk device.new).content) }
+    ensures spoils { Spoils D.SectorDevice PastLabel device.old device.new }
+    ensures passes { Passes D.SectorDevice device.old device.new result }
+    ensures begins { BeginsAtMost D.SectorDevice device.old device.new (4 * blocks.number + 3) 0 }
+    ensures reads { ReadsAtMost D.SectorDevice device.old device.new 0 }
+{
+    let mut sum = [0; 32];
+    fill_places(device, blocks, &mut sum)?;
+    *listing = with_sum(&[0; 512], &sum);
+    fill_head(device, listing)
+}
+
+// Makes all blank under no good label.
+fn prepare<D: SectorDevice>(
+    device: &mut D,
+    blocks: BlockCount,
+    listing: &mut [u8; 512],
+) -> Result<(), DeviceFault>
+    requires size { D.sector_count device.old ≡ sectors_for blocks.number }
+    requires unlabelled { KeepsPages D.SectorDevice device.old → IsUnlabelled blocks.number (D.disk device.old) }
+    ensures ok { KeepsPages D.SectorDevice device.old → OnOk result (IsPrepared blocks.number (λ _. replicate 1024 32) (D.disk device.new)) }
+    ensures named { KeepsPages D.SectorDevice device.old → OnOk result ((D.disk device.new).content (record_at false) ≡ listing.new) }
+    ensures rest { KeepsPages D.SectorDevice device.old
+        → OnOk result (KeepsRest (D.disk device.old).content (D.disk device.new).content) }
+    ensures stops { KeepsPages D.SectorDevice device.old
+        → StopsLeave D.SectorDevice device.old device.new (λ c. c 0 ≢ label_of blocks.number) }
+    ensures passes { Passes D.SectorDevice device.old device.new result }
+    ensures begins { BeginsAtMost D.SectorDevice device.old device.new (4 * blocks.number + 3) 1 }
+    ensures reads { ReadsAtMost D.SectorDevice device.old device.new 0 }
+{
+    fill(device, blocks, listing)?;
+    device.sync()
+}
+
+// Writes the label over an image whose other sectors are synced.
+fn seal<D: SectorDevice>(device: &mut D, blocks: BlockCount) -> Result<(), DeviceFault>
+    requires size { D.sector_count device.old ≡ sectors_for blocks.number }
+    requires synced { KeepsPages D.SectorDevice device.old → (k : ℕ) → (D.disk device.old).unsynced k ≡ false }
+    ensures ok { KeepsPages D.SectorDevice device.old
+        → OnOk result (D.disk device.new ≡ settled (written (D.disk device.old) 0 (label_of blocks.number))) }
+    ensures stops { KeepsPages D.SectorDevice device.old
+        → StopsLeave D.SectorDevice device.old device.new (Sealed blocks.number (D.disk device.old).content) }
+    ensures passes { Passes D.SectorDevice device.old device.new result }
+    ensures begins { BeginsAtMost D.SectorDevice device.old device.new 1 1 }
+    ensures reads { ReadsAtMost D.SectorDevice device.old device.new 0 }
+{
+    write_through(device, LABEL, &label(blocks.number))
+}
+
+// Makes the image. A stop before the end leaves no good label, or what was there.
+fn make<D: SectorDevice>(
+    device: &mut D,
+    blocks: BlockCount,
+    listing: &mut [u8; 512],
+) -> Result<(), DeviceFault>
+    requires size { D.sector_count device.old ≡ sectors_for blocks.number }
+    ensures ok { KeepsPages D.SectorDevice device.old
+        → OnOk result (IsMade blocks.number (λ _. replicate 1024 32) (D.disk device.new)) }
+    ensures named { KeepsPages D.SectorDevice device.old → OnOk result ((D.disk device.new).content (record_at false) ≡ listing.new) }
+    ensures rest { KeepsPages D.SectorDevice device.old
+        → OnOk result (KeepsRest (D.disk device.old).content (D.disk device.new).content) }
+    ensures stops { KeepsPages D.SectorDevice device.old
+        → StopsLeave D.SectorDevice device.old device.new (FormatLeaves blocks.number (D.disk device.old)) }
+    ensures passes { Passes D.SectorDevice device.old device.new result }
+    ensures begins { BeginsAtMost D.SectorDevice device.old device.new (4 * blocks.number + 5) 4 }
+    ensures reads { ReadsAtMost D.SectorDevice device.old device.new 1 }
+{
+    unlabel(device, blocks)?;
+    prepare(device, blocks, listing)?;
+    seal(device, blocks)
+}
+
+/// Makes an image of `blocks` blank blocks, 32 to 3,840, on a device of exactly `32 + 16 * blocks` sectors, and answers a
+/// store of them. An error hands the device back. Takes no memory.
+///
+/// The label is written last, and a good label that stood there is taken away first. So a stop leaves no good label, or the
+/// blank image, or the old image as it was, but for the other sectors in the label's unit, of which an image says nothing.
+/// The second places keep their bytes, and lose their tags.
+pub fn format<D: SectorDevice>(mut device: D, blocks: u16) -> Result<Store<D>, (OpenFault, D)>
+    // By their law devices keep more than pages: of each one that keeps the disk model a sector is a unit of its own.
+    ensures pages { IsTrue (D.keeps_model device) → KeepsPages D.SectorDevice device }
+    ensures ok { KeepsPages D.SectorDevice device
+        → IfOk result (λ store. StandsFor store (fresh (blank_blocks blocks))) }
+    ensures blank { KeepsPages D.SectorDevice device → IfOk result (λ store. IsBlank blocks (disk_of store).content) }
+    ensures rest { KeepsPages D.SectorDevice device
+        → IfOk result (λ store. KeepsRest (D.disk device).content (disk_of store).content) }
+    ensures label { KeepsPages D.SectorDevice device → IfOk result (λ store. (disk_of store).content 0 ≡ label_of blocks) }
+    ensures synced { KeepsPages D.SectorDevice device → IfOk result (λ store. (k : ℕ) → (disk_of store).unsynced k ≡ false) }
+    ensures blocks { IfOk result (λ store. blocks_of store ≡ blocks) }
+    ensures closed { IfOk result (λ store. closed_of store ≡ false) }
+    ensures pending { IfOk result (λ store. (b : ℕ) → is_pending store b ≡ false) }
+
+    // BadSize comes exactly where the size is wrong, over any device and with no call of it. Else only the device fails.
+    ensures size { IfOk result (λ _. is_size_for blocks (D.sector_count device) ≡ true) }
+    ensures refusal { IfErr result (λ e. MatchBool (is_size_for blocks (D.sector_count device)) (e.0 ≡ Device) (e.0 ≡ BadSize)) }
+    ensures unasked { IfErr result (λ e. e.0 ≡ BadSize → e.1 ≡ device) }
+    ensures device { IfErr result (λ e. e.0 ≡ Device → D.failures e.1 ≡ count_up (D.failures device)) }
+    ensures refused { IfErr result (λ e. e.0 ≢ Device → D.failures e.1 ≡ D.failures device) }
+    ensures well { IfOk result (λ store. D.failures (device_of store) ≡ D.failures device) }
+
+    // What a stop at any moment leaves, and a stop once it has returned.
+    ensures stops { KeepsPages D.SectorDevice device → (n : ℕ) → D.sector_count device ≡ sectors_for n
+        → StopsLeave D.SectorDevice device (end_of result) (FormatLeaves n (D.disk device)) }
+    ensures after { KeepsPages D.SectorDevice device
+        → IfOk result (λ store. (image : Image) → MayLeave (disk_of store) image → Means (blank_blocks blocks) image) }
+    // At most zeros over a label, of each block two halves and two tags, gate, two records and label are written.
+    ensures begins { BeginsAtMost D.SectorDevice device (end_of result) (4 * blocks + 5) 4 }
+    // The label is read.
+    ensures reads { ReadsAtMost D.SectorDevice device (end_of result) 1 }
+    ensures time { Elapses D.time D.left_since device (end_of result) }
+    ensures failures { D.failures device ≤ D.failures (end_of result) }
+    ensures sectors { D.sector_count (end_of result) ≡ D.sector_count device }
+    ensures model { D.keeps_model (end_of result) ≡ D.keeps_model device }
+{
+    if !fits(blocks as u32, device.sectors()) {
+        return Err((OpenFault::BadSize, device));
+    }
+    let mut listing = [0; 512];
+    match make(&mut device, BlockCount { number: blocks }, &mut listing) {
+        Ok(()) => Ok(Store::adopt(device, blocks, false, &listing)),
+        Err(_) => Err((OpenFault::Device, device)),
+    }
+}

@@ -1,0 +1,53 @@
+// Sizes and labels of images.
+ghost use Rattle.std.specs.Prelude.{◌≡◌, ◌≢◌, ◌<◌, ◌≤◌, ◌+◌, ◌*◌, ◌-◌, ◌/◌, ◌==◌, ◌||◌, Some, None, MatchResult, IfOk, IfErr};
+ghost use Rattle.std.specs.Bool.{OnTrue};
+ghost use Rattle.journal.specs.Layout.{fewest_blocks, most_blocks};
+ghost use Rattle.recovery.specs.declared.fault.OpenFault.TheVariants.{BadSize};
+ghost use Rattle.shadow.specs.Label.{is_size_for, is_size, is_known_size, label_refusal};
+ghost use Rattle.shadow.specs.Layout.{sectors_for, label_of};
+
+use crate::layout::VERSION;
+use byteorder::{ByteOrder, LittleEndian};
+use journal::layout::{FEWEST_BLOCKS, MOST_BLOCKS};
+use recovery::{OpenFault, blocks_of_size, check_label};
+
+// Whether an image of so many blocks has so many sectors.
+pub(crate) fn fits(blocks: u32, sectors: u32) -> bool
+    ensures value { result ≡ is_size_for blocks sectors }
+    ensures yes { OnTrue result ((fewest_blocks ≤ blocks) × (blocks ≤ most_blocks) × (sectors ≡ sectors_for blocks)) }
+{
+    FEWEST_BLOCKS as u32 <= blocks && blocks <= MOST_BLOCKS as u32 && sectors == 32 + 16 * blocks
+}
+
+fn is_size(sectors: u32) -> bool
+    ensures { result ≡ is_size sectors }
+{
+    fits(sectors.saturating_sub(32) / 16, sectors)
+}
+
+// Whether an image of this or an older layout has so many sectors.
+pub(crate) fn is_known_size(sectors: u32) -> bool
+    ensures { result ≡ is_known_size sectors }
+{
+    is_size(sectors) || blocks_of_size(sectors, MOST_BLOCKS).is_some()
+}
+
+// How many blocks the good label of an image of so many sectors counts, or else why it isn't one: the first of NoLabel,
+// OtherVersion and WrongCount that holds.
+pub(crate) fn read_count(label: &[u8; 512], sectors: u32) -> Result<u16, OpenFault>
+    ensures exact { MatchResult result (λ _. label_refusal sectors label.now ≡ None)
+        (λ e. label_refusal sectors label.now ≡ Some e) }
+    ensures good { IfOk result (λ n. label.now ≡ label_of n) }
+    ensures size { IfOk result (λ n. sectors ≡ sectors_for n) }
+    ensures many { IfOk result (λ n. fewest_blocks ≤ n) }
+    ensures few { IfOk result (λ n. n ≤ most_blocks) }
+    ensures sized { IfErr result (λ e. e ≢ BadSize) }
+{
+    let blocks = LittleEndian::read_u16(&label[10..]);
+    check_label(label, VERSION, blocks)?;
+    if fits(blocks as u32, sectors) {
+        Ok(blocks)
+    } else {
+        Err(OpenFault::WrongCount)
+    }
+}
