@@ -8,3 +8,4 @@ pub mod Spots
 pub mod Closing
 pub mod Fields
 pub mod Ends
+pub mod OpenPlaces

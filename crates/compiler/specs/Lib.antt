@@ -1,3 +1,4 @@
 pub mod Definition
 pub mod Represents
 pub mod Promise
+pub mod OpenPlaces

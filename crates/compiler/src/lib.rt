@@ -16,6 +16,10 @@ use cell_machine::code::Code;
 use cell_machine::marks;
 use leaves::patch_leaves;
 use opens::{Open, Opens};
+use std::alloc::{AllocError, Global};
+
+/// No memory was found.
+pub type NoMemory = AllocError;
 
 /// What a call answers where it adds nothing. Nothing is changed then.
 #[derive(Clone, Copy, Debug, PartialEq, Eq)]
@@ -48,7 +52,7 @@ enum LoopEnd {
     ByTop,
 }
 
-/// The open definition, if there is one, and where the bodies end. It takes no memory.
+/// The open definition, if there is one, and where the bodies end. No call but `Compiler::new` takes memory.
 ///
 /// A call that adds to the definition is refused, in this order, where none is open (`NoDefinition`), where it doesn't fit
 /// (`Unbalanced`) and where there is no room for it (`CodeFull`).
@@ -71,12 +75,12 @@ pub struct Compiler {
 }
 
 impl Compiler {
-    /// No definition is open, and no cell is used.
-    pub fn new() -> Compiler
-        ensures closed { IsClosed result }
-        ensures empty { used result ≡ 0 }
+    /// No definition is open, and no cell is used. `NoMemory` where there is none for the structures.
+    pub fn new(alloc: Global) -> Result<Compiler, NoMemory>
+        ensures closed { IfOk result (λ compiler. IsClosed compiler) }
+        ensures empty { IfOk result (λ compiler. used compiler ≡ 0) }
     {
-        Compiler {
+        Ok(Compiler {
             is_open: false,
             name: ArrayVec::new(),
             start: 0,
@@ -84,8 +88,8 @@ impl Compiler {
             here: 0,
             marked: false,
             leaves: None,
-            opens: Opens::new(),
-        }
+            opens: Opens::new(alloc)?,
+        })
     }
 
     /// Whether a definition is open.

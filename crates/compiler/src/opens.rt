@@ -1,9 +1,13 @@
 //! The structures that are begun.
 
-ghost use Rattle.std.specs.Prelude.{◌≡◌, ◌<◌, ◌≤◌, List, [], ◌∷◌, length, drop, MatchOption};
+ghost use Rattle.std.specs.Prelude.{◌≡◌, ◌<◌, ◌≤◌, List, [], ◌∷◌, length, drop, MatchOption, IfOk};
 
-use arrayvec::ArrayVec;
+use crate::NoMemory;
+use std::alloc::Global;
 use std::marker::Model;
+
+/// How many structures may be open at most.
+const MOST: usize = 256;
 
 /// A structure that is begun, with the places that its end needs.
 #[derive(Clone, Copy)]
@@ -20,60 +24,59 @@ pub enum Open {
     Do(u16, Option<u16>),
 }
 
-impl Default for Open {
-    fn default() -> Open {
-        Open::Begin(0)
-    }
-}
-
-/// At most 256 structures, innermost first.
+/// At most 256 structures, innermost first. They lie in the heap, so that a system that is moved doesn't carry them along.
 #[derive(Drop)]
 pub struct Opens {
-    list: ArrayVec<Open, 256>,
+    // the outermost at place 0
+    places: Vec<Open>,
+    depth: usize,
 }
 
 impl Model for Opens {
-    ghost use Rattle.std.specs.Prelude.{◌≤◌, List, reverse, length};
+    ghost use Rattle.std.specs.Prelude.{◌≡◌, ◌≤◌, List};
+    ghost use Rattle.std.specs.Vec.{vec_len};
+    ghost use Rattle.compiler.specs.OpenPlaces.{opens_in};
     ghost use Rattle.compiler.specs.declared.opens.Open.{Open};
 
     ghost Value = { List Open };
 
-    ghost view = { λ a. reverse a.list.items };
+    ghost view = { λ a. opens_in a.places.items a.depth };
 
-    ghost invariant = { λ a. length a.list.items ≤ 256 };
+    ghost invariant = { λ a. (vec_len a.places ≡ 256) × (a.depth ≤ 256) };
 }
 
 impl Opens {
-    pub fn new() -> Opens
-        ensures { result ≡ [] }
+    /// No structure, in memory that is taken here once.
+    pub fn new(alloc: Global) -> Result<Opens, NoMemory>
+        ensures { IfOk result (λ opens. opens ≡ []) }
     {
-        Opens {
-            list: ArrayVec::new(),
-        }
+        Ok(Opens {
+            places: vec![in alloc; Open::Begin(0); MOST]?,
+            depth: 0,
+        })
     }
 
     pub fn len(&self) -> usize
         ensures { result ≡ length self.now }
     {
-        self.list.len()
+        self.depth
     }
 
     /// No structure is open.
     pub fn clear(&mut self)
         ensures { self.new ≡ [] }
     {
-        self.list.clear();
+        self.depth = 0;
     }
 
     /// The innermost structure.
     pub fn innermost(&self) -> Option<Open>
         ensures { MatchOption result (self.now ≡ []) (λ o. (rest : List Open) × (self.now ≡ o ∷ rest)) }
     {
-        let depth = self.list.len();
-        if depth == 0 {
+        if self.depth == 0 {
             None
         } else {
-            Some(self.list[depth - 1])
+            Some(self.places[self.depth - 1])
         }
     }
 
@@ -82,14 +85,15 @@ impl Opens {
         requires { length self.old < 256 }
         ensures { self.new ≡ begun ∷ self.old }
     {
-        self.list.push(begun);
+        self.places[self.depth] = begun;
+        self.depth += 1;
     }
 
     /// The innermost structure ends.
     pub fn close(&mut self)
         ensures { self.new ≡ drop 1 self.old }
     {
-        self.list.pop();
+        self.depth = self.depth.saturating_sub(1);
     }
 
     /// The innermost structure becomes this one.
@@ -97,7 +101,6 @@ impl Opens {
         requires { 0 < length self.old }
         ensures { self.new ≡ begun ∷ drop 1 self.old }
     {
-        self.list.pop();
-        self.list.push(begun);
+        self.places[self.depth - 1] = begun;
     }
 }

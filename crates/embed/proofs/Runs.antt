@@ -1,8 +1,10 @@
 -- A session over a store that was opened on a device.
-use Rattle.std.proofs.Common.{◌≡◌, ◌∙◌, ℕ, List, Option, IsTrue, Result, Ok, Err, refl, sym, subst}
+use Rattle.std.proofs.Common.{◌≡◌, ◌∙◌, ◌≤◌, ℕ, List, Option, IsTrue, Result, Ok, Err, refl, ap, sym, subst}
 use Rattle.std.specs.Prelude.{IfErr, OnOk}
 use Rattle.sector_disk.specs.declared.device.SectorDevice.{Ghosts}
+use Rattle.sector_disk.specs.Moments.{Elapses}
 use Rattle.journal.specs.declared.store.Store.{Store}
+use Rattle.journal.specs.Maps.{fresh}
 use Rattle.journal.specs.Store.{StandsFor, device_of}
 use Rattle.block_words.specs.Words.{Save}
 use Rattle.interpreter.specs.State.{Forth}
@@ -10,12 +12,14 @@ use Rattle.interpreter.specs.Promise.{Keeps}
 use Rattle.sessions.specs.declared.run_fault.RunFault.{RunFault}
 use Rattle.sessions.specs.declared.run_fault.RunFault.TheVariants as run
 use Rattle.sessions.specs.Devices.{Becomes}
-use Rattle.sessions.specs.Sessions.{Completes, BreaksOff}
-use Rattle.embed.specs.Calls.{OpensOn}
-use Rattle.embed.specs.Refusals.{of_run}
-use Rattle.embed.specs.Sessions.{BreaksSession, RunsSession, system_on}
+use Rattle.sessions.specs.Sessions.{Completes, BreaksOff, Runs}
+use Rattle.sessions.proofs.Ended.{ended}
+use Rattle.embed.specs.Calls.{OpensOn, meant_by}
+use Rattle.embed.specs.Refusals.{IsOfImage, of_run}
+use Rattle.embed.specs.Sessions.{BegunOn, EndsOn, BreaksSession, RunsSession, system_on}
+use Rattle.embed.proofs.Devices.{Widens, becomes_then}
 use Rattle.embed.specs.declared.refusal.Refusal.{Refusal}
-use Rattle.embed.specs.declared.refusal.Refusal.TheVariants.{Input, Output}
+use Rattle.embed.specs.declared.refusal.Refusal.TheVariants.{Input, NoSteps, Output}
 
 -- which fault of a run it was, by what is told
 pub was_read : (fault : RunFault) (e : Refusal) → e ≡ of_run fault → e ≡ Input → fault ≡ run.Read
@@ -25,6 +29,15 @@ was_read run.Write e of is = absurd (let no : Output ≡ Input = cc in cc)
 pub was_write : (fault : RunFault) (e : Refusal) → e ≡ of_run fault → e ≡ Output → fault ≡ run.Write
 was_write run.Write e of is = refl
 was_write run.Read e of is = absurd (let no : Input ≡ Output = cc in cc)
+
+-- it isn't one of the image, nor of the steps
+pub not_image : (fault : RunFault) → IsOfImage (of_run fault) → ⊥
+not_image run.Read is = is
+not_image run.Write is = is
+
+pub not_steps : (fault : RunFault) → of_run fault ≡ NoSteps → ⊥
+not_steps run.Read is = let no : Input ≡ NoSteps = is in cc
+not_steps run.Write is = let no : Output ≡ NoSteps = is in cc
 
 on_ok : {A E : Type 0} (r : Result A E) (a : A) (P : Type 0) → r ≡ Ok a → OnOk r P → P
 on_ok r a P is p = subst (λ r. OnOk r P) is p
@@ -73,3 +86,45 @@ module _ {D A : Type 0} (G : Ghosts D) (device : D) (steps : ℕ) (left left' wr
         breaks = if_err outcome fault _ broken ended.5;
         keeps = ended.3;
       }))
+
+-- a run of a system that was begun on a device, and ended
+module _ {D F A : Type 0} (G : Ghosts D) (stands : F → Forth → Type 0) (sound : F → Type 0) (at_device : F → D) (device : D) (steps : ℕ)
+    (left left' written written' : Option (List ℕ)) (room : List F) (begun : BegunOn G stands sound at_device steps device room)
+    (before after : F) (at : before ≡ begun.over.system) (end : D) (ends : EndsOn G stands at_device after end) (outcome : Result A RunFault)
+    (ok : OnOk outcome (Runs G stands at_device before after (λ opening closing made. Completes G opening closing left left' written written' (at_device before) (at_device after) made)))
+    (err : IfErr outcome (λ fault. Runs G stands at_device before after (λ opening closing made. BreaksOff G fault opening closing left left' written written' (at_device before) (at_device after) made)))
+    (time : Elapses G.time G.left_since (at_device before) (at_device after)) (model : G.keeps_model (at_device after) ≡ G.keeps_model (at_device before))
+    (failures : G.failures (at_device before) ≤ G.failures (at_device after))
+  where
+    first : at_device before ≡ device_of begun.store
+    first = ap at_device at ∙ begun.over.device
+
+    last : at_device after ≡ device_of ends.store
+    last = sym ends.same
+
+    goes : Becomes G (device_of begun.store) (device_of ends.store)
+    goes = record {
+      model = rw (first, last) at model;
+      time = rw (first, last) at time;
+      failures = rw (first, last) at failures;
+    }
+
+    stood : IsTrue (G.keeps_model device) → stands before (system_on G steps device)
+    stood keeps = subst (λ f. stands f (system_on G steps device)) (sym at) (begun.over.begins (fresh (meant_by G device)) (begun.opens.stands keeps))
+
+    run_ends : IsTrue (G.keeps_model device) → Ends G device steps left left' written written' begun.store ends.store outcome
+    run_ends keeps =
+        let well = rw (first, last) at ok in
+        let broken = rw (first, last) at err in
+        ended outcome _ _ _ _ _ _ ends.means (system_on G steps device) (stood keeps) well broken
+
+    pub ran : (done : A) → outcome ≡ Ok done → RunsSession G steps left left' written written' device end
+    ran done well = has_run G device steps left left' written written' end begun.store ends.store outcome done well ends.left begun.opens goes run_ends
+
+    pub broke : (fault told : RunFault) → outcome ≡ Err fault → fault ≡ told → IsTrue (G.keeps_model device)
+        → BreaksSession G told steps left left' written written' device end
+    broke fault told broken is keeps =
+        has_broken G device steps left left' written written' end begun.store ends.store outcome fault told broken is ends.left begun.opens goes keeps (run_ends keeps)
+
+    pub came : Widens G → Becomes G device end
+    came widens = subst (λ d. Becomes G device d) (sym ends.left) (becomes_then G device (device_of begun.store) (device_of ends.store) widens begun.opens.goes goes)

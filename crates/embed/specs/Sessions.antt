@@ -1,8 +1,10 @@
 -- A session over an image on a device.
-use Rattle.std.specs.Prelude.{◌≡◌, ℕ, false, IsTrue, List, Option}
+use Rattle.std.specs.Prelude.{◌≡◌, ℕ, false, IsTrue, List, [], ◌∷◌, Option}
 use Rattle.sector_disk.specs.declared.device.SectorDevice.{Ghosts}
 use Rattle.journal.specs.Calls.{StopsLeave}
-use Rattle.journal.specs.Maps.{fresh}
+use Rattle.journal.specs.Maps.{Maps, fresh}
+use Rattle.journal.specs.Store.{StandsFor, device_of}
+use Rattle.journal.specs.declared.store.Store.{Store}
 use Rattle.block_words.specs.Words.{Save}
 use Rattle.interpreter.specs.State.{Forth}
 use Rattle.interpreter.specs.Lines.{new_forth}
@@ -10,7 +12,7 @@ use Rattle.interpreter.specs.Promise.{Keeps}
 use Rattle.sessions.specs.declared.run_fault.RunFault.{RunFault}
 use Rattle.sessions.specs.Devices.{Becomes}
 use Rattle.sessions.specs.Sessions.{Completes, BreaksOff}
-use Rattle.embed.specs.Calls.{LeavesBlocks, MayRecover, meant_by}
+use Rattle.embed.specs.Calls.{LeavesBlocks, MayRecover, OpensOn, meant_by}
 
 module _ {D : Type 0} (G : Ghosts D) where
   -- A new system over the blocks that the image on the device means.
@@ -44,3 +46,27 @@ module _ {D : Type 0} (G : Ghosts D) where
     pub stops : StopsLeave G device begun (MayRecover G device)
     pub breaks : BreaksOff G fault (system_on steps device) closing left left' written written' begun after made
     pub keeps : Keeps G (system_on steps device) closing begun after made
+
+module _ {D F : Type 0} {G : Ghosts D} (stands : F → Forth → Type 0) (sound : F → Type 0) (device_of_system : F → D) (steps : ℕ) where
+  -- A new system over a store, alone in what holds it.
+  pub record BegunOver (store : Store D G) (room : List F) : Type 0 where
+    pub system : F
+    pub alone : room ≡ system ∷ []
+    pub is_sound : sound system
+    pub begins : (m : Maps) → StandsFor store m → stands system (new_forth steps m)
+    pub device : device_of_system system ≡ device_of store
+
+module _ {D F : Type 0} (G : Ghosts D) (stands : F → Forth → Type 0) (sound : F → Type 0) (device_of_system : F → D) where
+  -- A new system over the image on a device, which was opened.
+  pub record BegunOn (steps : ℕ) (device : D) (room : List F) : Type 0 where
+    pub store : Store D G
+    pub opens : OpensOn G device store
+    pub over : BegunOver {G = G} stands sound device_of_system steps store room
+
+module _ {D F : Type 0} (G : Ghosts D) (stands : F → Forth → Type 0) (device_of_system : F → D) where
+  -- A system that ended left this device: its store stood for what the system stood for.
+  pub record EndsOn (system : F) (device : D) : Type 0 where
+    pub store : Store D G
+    pub left : device ≡ device_of store
+    pub same : device_of store ≡ device_of_system system
+    pub means : (state : Forth) → stands system state → StandsFor store state.world.maps

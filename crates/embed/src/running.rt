@@ -1,17 +1,20 @@
 //! A session over an image on a device.
-ghost use Rattle.std.specs.Prelude.{◌≡◌, ◌≢◌, ◌⊎◌, ◌↔◌, None, Some, IsTrue, IfOk, IfErr, MatchResult, OnOk};
+ghost use Rattle.std.specs.Prelude.{◌≡◌, ◌≢◌, ◌⊎◌, ◌↔◌, ◌<◌, [], ◌∷◌, None, Some, IsTrue, IfOk, IfErr, MatchResult, OnOk};
 ghost use Rattle.journal.specs.Calls.{StopsLeave};
+ghost use Rattle.journal.specs.Store.{device_of};
 ghost use Rattle.sessions.specs.declared.run_fault.RunFault.TheVariants.{Read as ReadFault, Write as WriteFault};
 ghost use Rattle.sessions.specs.Devices.{Becomes};
 ghost use Rattle.embed.specs.Calls.{MayRecover, device_after};
 ghost use Rattle.embed.specs.Refusals.{IsOfImage, refusal_of};
-ghost use Rattle.embed.specs.Sessions.{RunsSession, BreaksSession};
+ghost use Rattle.embed.specs.Sessions.{RunsSession, BreaksSession, BegunOn, BegunOver, EndsOn};
 
 use crate::block_calls::opened;
 use crate::refusal::Refusal;
+use interpreter::promise::Lines;
 use interpreter::{Forth, Memory};
+use journal::Store;
 use sector_disk::SectorDevice;
-use sessions::run_over;
+use sessions::run;
 use std::alloc::Global;
 use std::io::{Read, Write};
 
@@ -51,19 +54,70 @@ pub fn run_image<D: SectorDevice + Drop, R: Read, W: Write>(
     if steps == 0 {
         return Err((Refusal::NoSteps, device));
     }
-    match opened(device) {
-        Ok(store) => match Memory::new(alloc) {
-            Ok(memory) => {
-                let (store, end) = run_over::<D, Forth<D>, R, W>(
-                    memory, store, steps, input, output,
-                );
-                match end {
-                    Ok(()) => Ok(store.into_device()),
-                    Err(fault) => Err((Refusal::from(fault), store.into_device())),
-                }
+    match begun::<D, Forth<D>>(alloc, device, steps) {
+        Ok(mut room) => {
+            let end = run::<D, Forth<D>, R, W>(&mut room[0], input, output);
+            let after = ended::<D, Forth<D>>(room);
+            match end {
+                Ok(()) => Ok(after),
+                Err(fault) => Err((Refusal::from(fault), after)),
             }
-            Err(_) => Err((Refusal::NoMemory, store.into_device())),
-        },
+        }
         Err(refused) => Err(refused),
     }
+}
+
+/// A new system over the image, which is opened before memory is taken. It lies in the heap, alone in this vector. A refusal hands the
+/// device back.
+// A call of its own, as the next two are, so that what is moved in it doesn't lie on the stack while the system runs.
+#[inline(never)]
+fn begun<D: SectorDevice + Drop, F: Lines<D> + Drop>(
+    alloc: Global,
+    device: D,
+    steps: u32,
+) -> Result<Vec<F>, (Refusal, D)>
+    requires steps { 0 < steps }
+    ensures ok { IfOk result (λ room. BegunOn D.SectorDevice F.stands F.sound F.device steps device room.items) }
+    ensures opens { IsTrue (D.keeps_model device) → OnOk result (refusal_of (D.sector_count device) (D.disk device).content ≡ None) }
+    ensures refused { IfErr result (λ e. (e.0 ≢ Refusal.NoSteps) × (e.0 ≢ Refusal.Input) × (e.0 ≢ Refusal.Output)) }
+    ensures image { IsTrue (D.keeps_model device) → IfErr result (λ e. IsOfImage e.0
+        → (e.0 ≡ Refusal.Device) ⊎ (refusal_of (D.sector_count device) (D.disk device).content ≡ Some e.0)) }
+    ensures recovers { IsTrue (D.keeps_model device)
+        → IfErr result (λ e. StopsLeave D.SectorDevice device e.1 (MayRecover D.SectorDevice device)) }
+    ensures goes { IfErr result (λ e. Becomes D.SectorDevice device e.1) }
+{
+    match opened(device) {
+        Ok(store) => begun_over(alloc, store, steps),
+        Err(refused) => Err(refused),
+    }
+}
+
+/// A new system over the store, in memory that is taken before it is made. `NoMemory` where there is none.
+#[inline(never)]
+fn begun_over<D: SectorDevice + Drop, F: Lines<D> + Drop>(
+    alloc: Global,
+    store: Store<D>,
+    steps: u32,
+) -> Result<Vec<F>, (Refusal, D)>
+    requires steps { 0 < steps }
+    ensures ok { IfOk result (λ room. BegunOver F.stands F.sound F.device steps store room.items) }
+    ensures refused { IfErr result (λ e. (e.0 ≡ Refusal.NoMemory) × (e.1 ≡ device_of store)) }
+{
+    let Ok(memory) = Memory::new(alloc) else {
+        return Err((Refusal::NoMemory, store.into_device()));
+    };
+    let Ok(mut room) = Vec::with_capacity(alloc, 1) else {
+        return Err((Refusal::NoMemory, store.into_device()));
+    };
+    room.push(F::new(memory, store, steps)).unwrap();
+    Ok(room)
+}
+
+/// The device of a system that ends.
+#[inline(never)]
+fn ended<D: SectorDevice + Drop, F: Lines<D> + Drop>(mut room: Vec<F>) -> D
+    requires alone { (system : F) × (room.items ≡ system ∷ []) }
+    ensures ends { (system : F) → room.items ≡ system ∷ [] → EndsOn D.SectorDevice F.stands F.device system result }
+{
+    room.pop().unwrap().into_store().into_device()
 }

@@ -27,3 +27,4 @@ pub mod Looking
 pub mod TextRounds
 pub mod Reading
 pub mod StopBetweenLines
+pub mod HeldReturns

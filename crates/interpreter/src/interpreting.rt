@@ -67,7 +67,7 @@ impl<D: SectorDevice> Forth<D> {
         let event = self.lexicon.resume(
             &mut self.machine,
             &mut self.stack,
-            &mut self.returns,
+            self.returns.lend(),
             &mut self.space,
             &mut self.steps,
         );

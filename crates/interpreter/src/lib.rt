@@ -11,6 +11,7 @@ pub use terminal::{IoFault, Terminal};
 
 mod fault;
 mod forth;
+mod held_returns;
 mod interpreting;
 pub mod laws;
 mod lines;

@@ -238,7 +238,7 @@ impl<D: SectorDevice> Forth<D> {
         ensures budget { self.new.budget ≡ self.old.budget }
     {
         self.machine = Machine::new();
-        self.returns.clear();
+        self.returns.lend().clear();
         self.space.set_bytes(TIB, text);
         self.space.set_cell(TIB_COUNT, text.len() as u16);
         self.space.set_cell(TO_IN, 0);
@@ -287,7 +287,7 @@ impl<D: SectorDevice> Forth<D> {
             Ok(()) => self.finish(terminal),
             Err(Stop::Fault(fault)) => {
                 let place = self.here_in_stream();
-                take_loads(&mut self.returns, &mut self.loads);
+                take_loads(self.returns.lend(), &mut self.loads);
                 self.fail(fault, Some(place), terminal)
             }
             Err(Stop::Quit) => self.quit(terminal),

@@ -2,6 +2,7 @@
 ghost use Rattle.std.specs.Prelude.{IfOk};
 ghost use Rattle.interpreter.specs.Memory.{IsBlank};
 
+use crate::held_returns::HeldReturns;
 use block_buffers::Buffers;
 use data_space::DataSpace;
 use lexicon::Lexicon;
@@ -10,12 +11,13 @@ use std::alloc::{AllocError, Global};
 /// There is not enough memory.
 pub type NoMemory = AllocError;
 
-/// All memory that a system takes before its first line: data space of zeros, the system words, and a list of buffers. A system
-/// that is made of it takes no more but that of a block's buffer.
+/// All memory that a system takes before its first line: data space of zeros, the system words, a return stack, and a list of
+/// buffers. A system that is made of it takes no more but that of a block's buffer.
 #[derive(Drop)]
 pub struct Memory {
     pub(crate) space: DataSpace,
     pub(crate) lexicon: Lexicon,
+    pub(crate) returns: HeldReturns,
     pub(crate) buffers: Buffers,
 }
 
@@ -27,6 +29,7 @@ impl Memory {
         Ok(Memory {
             space: DataSpace::new(alloc)?,
             lexicon: Lexicon::new(alloc)?,
+            returns: HeldReturns::new(alloc)?,
             buffers: Buffers::new(alloc)?,
         })
     }

@@ -39,7 +39,7 @@ fn close(compiler: &mut Compiler, code: &mut Code) -> Result<(), Refusal>
 #[test]
 fn a_leave_within_an_if_goes_past_the_loop(rt: HostRuntime) -> Result<(), Fail> {
     let mut code = Code::new(rt.alloc())?;
-    let mut compiler = Compiler::new();
+    let mut compiler = Compiler::new(rt.alloc())?;
     begin(&mut compiler, &code)?;
     leave(&mut compiler, &mut code)?;
     close(&mut compiler, &mut code)?;

@@ -51,12 +51,12 @@ popped p (suc k) h l =
 -- an entry put on top
 pub pushed : (p : List Entry) (u k : ℕ) (e : Entry) → k ≡ u + entry_units e → k ≤ 256 → length p ≡ 257 → entries_in 256 (slice_set p k e) k ≡ e ∷ entries_in 256 p u
 pushed p u k e s l n =
-    let x : entry_at (slice_set p k e) k ≡ e = get_or-set_same p k e (Call 0) (omega arith) in
+    let x : entry_at (slice_set p k e) k ≡ e = get_or-set_same p k e (Load 0 0) (omega arith) in
     let d : k - entry_units e ≡ u = omega arith in
     popped (slice_set p k e) k (omega (arith, at_least_one e)) l
     ∙ ap (λ x. x ∷ entries_in 256 (slice_set p k e) (k - entry_units x)) x
     ∙ ap (λ j. e ∷ entries_in 256 (slice_set p k e) j) d
-    ∙ ap (λ l. e ∷ l) (same 256 p (slice_set p k e) u (λ j i. get_or-set_other p k j e (Call 0) (λ f. absurd (omega (arith, f, at_least_one e)))))
+    ∙ ap (λ l. e ∷ l) (same 256 p (slice_set p k e) u (λ j i. get_or-set_other p k j e (Load 0 0) (λ f. absurd (omega (arith, f, at_least_one e)))))
 
 -- ---- the entries as the stack keeps them: in which places, and how many units
 
@@ -131,7 +131,7 @@ module _ (p : List Entry) (u : ℕ) (es : List Entry) (h : Lies p u es) where
       }
     where
       written : (k : ℕ) (x : Entry) → (k ≡ 0 → ⊥) → IsGround (slice_set p k x)
-      written k x n = record { size = length-set p k x ∙ h.ground.size; below = get_or-set_other p k 0 x (Call 0) (λ z. n (sym z)) ∙ h.ground.below }
+      written k x n = record { size = length-set p k x ∙ h.ground.size; below = get_or-set_other p k 0 x (Load 0 0) (λ z. n (sym z)) ∙ h.ground.below }
 
   -- the top with another index, where it is a loop
   pub reindexed : (j : ℕ) (x : Entry) → x ≡ indexed j top → Lies (slice_set p u x) u (if is_loop top then with_index j es else es)
@@ -139,7 +139,7 @@ module _ (p : List Entry) (u : ℕ) (es : List Entry) (h : Lies p u es) where
     where
       other : is_loop top ≡ false → indexed j top ≡ top → Lies (slice_set p u x) u (if is_loop top then with_index j es else es)
       other f equal =
-          let kept : slice_set p u x ≡ p = ap (λ e. slice_set p u e) (is ∙ equal) ∙ set-get_or p u (Call 0) in
+          let kept : slice_set p u x ≡ p = ap (λ e. slice_set p u e) (is ∙ equal) ∙ set-get_or p u (Load 0 0) in
           subst (λ b. Lies (slice_set p u x) u (if b then with_index j es else es)) (sym f) (subst (λ q. Lies q u es) (sym kept) h)
 
       by_top : (e : Entry) → top ≡ e → Lies (slice_set p u x) u (if is_loop top then with_index j es else es)
@@ -170,7 +170,7 @@ module _ (p : List Entry) (u : ℕ) (es : List Entry) (h : Lies p u es) where
         is = x ∙ ap (λ l. e ∷ l) h.is;
         count = ap units x ∙ omega (arith, h.count);
         most = l;
-        ground = record { size = length-set p k e ∙ h.ground.size; below = get_or-set_other p k 0 e (Call 0) (λ z. n (sym z)) ∙ h.ground.below };
+        ground = record { size = length-set p k e ∙ h.ground.size; below = get_or-set_other p k 0 e (Load 0 0) (λ z. n (sym z)) ∙ h.ground.below };
       }
 
   pub taken : (u ≡ 0 → ⊥) → Lies p (u - entry_units top) rest

@@ -1,7 +1,7 @@
 -- The places that the entries of the return stack lie in.
 use Rattle.std.specs.Prelude.{◌≡◌, ℕ, zero, suc, ◌-◌, Bool, true, false, List, [], ◌∷◌, length, slice_index_or}
 use Rattle.stacks.specs.declared.return_stack.Entry.{Entry}
-use Rattle.stacks.specs.declared.return_stack.Entry.TheVariants.{Call, Loop, Load}
+use Rattle.stacks.specs.declared.return_stack.Entry.TheVariants.{Loop, Load}
 use Rattle.stacks.specs.Stacks.{entry_units}
 
 -- a loop
@@ -15,7 +15,7 @@ indexed index (Loop limit old) = Loop limit index
 indexed index entry = entry
 
 abbrev pub entry_at : List Entry → ℕ → Entry
-entry_at places at = slice_index_or places at (Call 0)
+entry_at places at = slice_index_or places at (Load 0 0)
 
 -- at most this many entries, the top at place `top`, each of the others where the one above it begins
 unfoldable pub entries_in : (most : ℕ) → List Entry → (top : ℕ) → List Entry

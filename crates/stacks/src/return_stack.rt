@@ -16,14 +16,15 @@ const PLACES: usize = CAPACITY + 1;
 /// What is left to do, or kept for it.
 #[derive(Clone, Copy, Debug, PartialEq, Eq)]
 pub enum Entry {
+    /// A load, with the block number and the input position to go back to: two units. It is the first, so that the places of a new
+    /// stack are zeros, which are written where they shall lie.
+    Load { block: u16, to_in: u16 },
     /// A call of a body, with the place to go on at: one unit.
     Call(usize),
     /// A cell that the body put aside: one unit.
     Value(u16),
     /// A loop with its limit and its present index: three units.
     Loop { limit: u16, index: u16 },
-    /// A load, with the block number and the input position to go back to: two units.
-    Load { block: u16, to_in: u16 },
 }
 
 impl Entry {

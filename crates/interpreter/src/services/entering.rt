@@ -53,9 +53,7 @@ impl<D: SectorDevice> Forth<D> {
         if !self.may_execute(token) {
             return Err(Fault::Token);
         }
-        let _ = self
-            .machine
-            .enter(&mut self.stack, &mut self.returns, Work::Primitive(token));
+        let _ = self.machine.enter(&mut self.stack, self.returns.lend(), Work::Primitive(token));
         Ok(())
     }
 
@@ -74,14 +72,14 @@ impl<D: SectorDevice> Forth<D> {
         if block == 0 {
             return Err(Fault::NoBlock);
         }
-        if self.returns.loads() >= MOST_LOADS {
+        if self.returns.stack().loads() >= MOST_LOADS {
             return Err(Fault::LoadDepth);
         }
         let back = Entry::Load {
             block: cell_of(&self.space, BLK),
             to_in: cell_of(&self.space, TO_IN),
         };
-        let Ok(()) = self.returns.push(back) else {
+        let Ok(()) = self.returns.lend().push(back) else {
             return Err(Fault::ReturnStack);
         };
         self.space.set_cell(BLK, block);

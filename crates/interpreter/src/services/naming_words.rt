@@ -172,7 +172,10 @@ impl<D: SectorDevice> Forth<D> {
             result self.old self.new }
         ensures spares { Spares result self.old self.new }
     {
-        match self.lexicon.forget(token, &self.machine, &self.returns) {
+        match self
+            .lexicon
+            .forget(token, &self.machine, self.returns.stack())
+        {
             Ok(()) => Ok(()),
             Err(refusal) => Err(lexicon_fault(refusal)),
         }

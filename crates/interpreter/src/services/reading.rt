@@ -82,7 +82,7 @@ impl<D: SectorDevice> Forth<D> {
         ensures spares { SparesAll self.old self.new }
     {
         levels();
-        let Ok(entry) = self.returns.pop() else {
+        let Ok(entry) = self.returns.lend().pop() else {
             return Round::Over;
         };
         let Entry::Load { block, to_in } = entry else {
@@ -155,9 +155,7 @@ impl<D: SectorDevice> Forth<D> {
             → Entered n (λ r. left n (Once token ∷ levels) (core self.old) (with_run r x)) (Ok tt) self.old self.new x }
         ensures spares { SparesAll self.old self.new }
     {
-        let _ = self
-            .machine
-            .enter(&mut self.stack, &mut self.returns, Work::Primitive(token));
+        let _ = self.machine.enter(&mut self.stack, self.returns.lend(), Work::Primitive(token));
     }
 
     /// A number of the text, in `BASE`.

@@ -29,7 +29,9 @@ returns-clause-entered g c = λ m levels x less stands.
     let old = c.args.self.now in
     let popped = record (core old) { stack = c.pop.new.self } in
     let may : may_execute c.in-Ok.token x ≡ true = sym (c.may_execute.ensures x stands.rests) ∙ c.if-not-may_execute.false in
-    let e = word_entered c.enter.result c.in-Ok.token old.returns c.pop.new.self c.enter.ensures.refused c.enter.ensures.entered old.lexicon.code in
+    let refused_it = rw c.lend.ensures.value at c.enter.ensures.refused in
+    let entered_it = rw c.lend.ensures.value at c.enter.ensures.entered in
+    let e = word_entered c.enter.result c.in-Ok.token old.returns c.pop.new.self refused_it entered_it old.lexicon.code in
     record {
       levels = Once c.in-Ok.token ∷ levels;
       world = x;

@@ -1,7 +1,7 @@
 use Rattle.std.proofs.Common.{◌≡◌, ◌∙◌, ◌+◌, ◌<◌, ◌≤◌, suc, ◌∷◌, true, false, refl, sym, ap, subst, arith}
 use Rattle.std.proofs.lemmas.Grind.{common_steps}
 use Rattle.stacks.specs.declared.return_stack.Entry.TheVariants as entry
-use Rattle.stacks.specs.Stacks.{units}
+use Rattle.stacks.specs.Stacks.{loads, units}
 use Rattle.data_space.specs.Space.{cell_at, with_cell}
 use Rattle.cell_machine.specs.Frames.{Load, around_of}
 use Rattle.cell_machine.specs.Value.{and_then}
@@ -31,7 +31,7 @@ pub returns-then-loads-ge-MOST_LOADS-clause-entered :
     goal.returns-then-loads-ge-MOST_LOADS-clause-entered
 returns-then-loads-ge-MOST_LOADS-clause-entered g c = λ m levels x less stands.
     let same = loads_left c.args.self.now.lexicon (language_of x) c.args.self.now.machine c.args.self.now.returns levels c.requires.idle stands.left in
-    let deep : 8 ≤ (around_of levels).loads = omega (arith, same, c.loads.ensures, c.if-loads-ge-MOST_LOADS.true) in
+    let deep : 8 ≤ (around_of levels).loads = omega (arith, same, c.loads.ensures, ap loads c.stack.ensures, c.if-loads-ge-MOST_LOADS.true) in
     not_entered (suc m)
     (refused _ stands (record (core c.args.self.now) { stack = c.pop.new.self }) refl
     (λ r. too_deep m levels (core c.args.self.now) (with_run r x) c.in-Ok.block c.pop.new.self c.in-Ok.ensures.ok c.if-block-eq0.false deep) (omega arith))
@@ -39,9 +39,10 @@ returns-then-loads-ge-MOST_LOADS-clause-entered g c = λ m levels x less stands.
 pub returns-in_default-push-clause-entered : goal.returns-in_default-push-clause-entered
 returns-in_default-push-clause-entered g c = λ m levels x less stands.
     let same = loads_left c.args.self.now.lexicon (language_of x) c.args.self.now.machine c.args.self.now.returns levels c.requires.idle stands.left in
-    let few : (around_of levels).loads < 8 = omega (arith, same, c.loads.ensures, c.if-loads-ge-MOST_LOADS.false) in
+    let few : (around_of levels).loads < 8 = omega (arith, same, c.loads.ensures, ap loads c.stack.ensures, c.if-loads-ge-MOST_LOADS.false) in
     let all = units_left c.args.self.now.lexicon (language_of x) c.args.self.now.machine c.args.self.now.returns levels c.requires.idle stands.left in
-    let full : units c.args.self.now.returns + 2 ≤ 256 → ⊥ = λ room. (let e : false ≡ true = c.in_default-push.ensures.room.1 room in cc) in
+    let may_push = rw c.lend.ensures.value at c.in_default-push.ensures.room in
+    let full : units c.args.self.now.returns + 2 ≤ 256 → ⊥ = λ room. (let e : false ≡ true = may_push.1 room in cc) in
     let many : 256 < (around_of levels).units + 2 = omega (arith, all, full) in
     record {
       levels = levels;
@@ -59,15 +60,17 @@ returns-in_default-push-clause-entered g c = λ m levels x less stands.
 pub returns-clause-entered : goal.returns-clause-entered
 returns-clause-entered g c = λ m levels x less stands.
     let same = loads_left c.args.self.now.lexicon (language_of x) c.args.self.now.machine c.args.self.now.returns levels c.requires.idle stands.left in
-    let few : (around_of levels).loads < 8 = omega (arith, same, c.loads.ensures, c.if-loads-ge-MOST_LOADS.false) in
+    let few : (around_of levels).loads < 8 = omega (arith, same, c.loads.ensures, ap loads c.stack.ensures, c.if-loads-ge-MOST_LOADS.false) in
     let all = units_left c.args.self.now.lexicon (language_of x) c.args.self.now.machine c.args.self.now.returns levels c.requires.idle stands.left in
     let old = core c.args.self.now in
-    let room : units c.args.self.now.returns + 2 ≤ 256 = c.in-Ok-push.ensures.room.0 refl in
+    let may_push = rw c.lend.ensures.value at c.in-Ok-push.ensures.room in
+    let did_push = rw c.lend.ensures.value at c.in-Ok-push.ensures.ok in
+    let room : units c.args.self.now.returns + 2 ≤ 256 = may_push.0 refl in
     let fits : (around_of levels).units + 2 ≤ 256 = omega (arith, all, room) in
     let blk = cell_at old.space 22 in
     let to_in = cell_at old.space 20 in
     let pushed : c.push.new.self ≡ entry.Load blk to_in ∷ c.args.self.now.returns =
-    c.in-Ok-push.ensures.ok ∙ ap (λ b. entry.Load b c.cell_of-2.result ∷ c.args.self.now.returns) c.cell_of.ensures ∙ ap (λ t. entry.Load blk t ∷ c.args.self.now.returns) c.cell_of-2.ensures in
+    did_push ∙ ap (λ b. entry.Load b c.cell_of-2.result ∷ c.args.self.now.returns) c.cell_of.ensures ∙ ap (λ t. entry.Load blk t ∷ c.args.self.now.returns) c.cell_of-2.ensures in
     let first : c.set_cell.new.self ≡ with_cell old.space 22 c.in-Ok.block = grind (arith, common_steps, c.set_cell.ensures.after, c.set_cell.ensures.within) in
     let second : c.set_cell-2.new.self ≡ with_cell c.set_cell.new.self 20 0 = grind (arith, common_steps, c.set_cell-2.ensures.after, c.set_cell-2.ensures.within) in
     record {

@@ -15,13 +15,15 @@ use Rattle.interpreter.proofs.forth.Forth.round.Goals as goal
 pub serve-requires : goal.serve-requires
 serve-requires g c =
     let s = c.requires.sound in
-    let runs = c.in-Service.ensures.runs (language_of s.1) s.0 s.2.rests.meant s.2.left in
+    let ran = rw c.lend.ensures.value at c.in-Service.ensures.runs in
+    let runs = ran (language_of s.1) s.0 s.2.rests.meant s.2.left in
     let due = due_of _ _ _ _ _ _ runs.1.1.1 in
     record { asked = (runs.1.0, s.1, due.0, (record { rests = s.2.rests; left = runs.1.1.0 }, due.1.0)); idle = c.resume-event.ensures.nothing_pending }
 
 pub returns-in-Service-clause-round : goal.returns-in-Service-clause-round
 returns-in-Service-clause-round g c = λ n levels x less stands.
-    let runs = c.in-Service.ensures.runs (language_of x) levels stands.rests.meant stands.left in
+    let ran = rw c.lend.ensures.value at c.in-Service.ensures.runs in
+    let runs = ran (language_of x) levels stands.rests.meant stands.left in
     let due = due_of _ _ _ _ _ _ runs.1.1.1 in
     let paid = paid_least c.in-Service.op _ _ c.in-Service.ensures.paid in
     round_as g.T.Terminal n _ c.args.self.now
@@ -32,17 +34,20 @@ returns-in-Service-clause-round g c = λ n levels x less stands.
 pub returns-in-Service-clause-down : goal.returns-in-Service-clause-down
 returns-in-Service-clause-down g c =
     let s = c.requires.sound in
-    let runs = c.in-Service.ensures.runs (language_of s.1) s.0 s.2.rests.meant s.2.left in
+    let ran = rw c.lend.ensures.value at c.in-Service.ensures.runs in
+    let runs = ran (language_of s.1) s.0 s.2.rests.meant s.2.left in
     let due = due_of _ _ _ _ _ _ runs.1.1.1 in
     let paid = paid_least c.in-Service.op _ _ c.in-Service.ensures.paid in
     let h = c.serve.ensures.round (c.args.self.now.steps + 1) runs.1.0 s.1 due.0 (omega (arith, paid)) (record { rests = s.2.rests; left = runs.1.1.0 }) due.1.0 in
+    let falls = rw c.lend.ensures.value at c.in-Service.ensures.falls in
     down_if c.serve.result _ _
     (service_falls c.in-Service.op c.args.self.now.steps c.resume-event.new.budget c.serve.new.self.steps c.args.self.now.returns c.resume-event.new.returns c.serve.new.self.returns
-    c.in-Service.ensures.falls c.in-Service.ensures.paid c.serve.ensures.given h.steps)
+    falls c.in-Service.ensures.paid c.serve.ensures.given h.steps)
 
 pub returns-in-Fault-clause-round : goal.returns-in-Fault-clause-round
 returns-in-Fault-clause-round g c = λ n levels x less stands.
-    let runs = c.in-Fault.ensures.runs (language_of x) levels stands.rests.meant stands.left in
+    let ran = rw c.lend.ensures.value at c.in-Fault.ensures.runs in
+    let runs = ran (language_of x) levels stands.rests.meant stands.left in
     round_left g.D.SectorDevice g.T.Terminal g.met.D.SectorDevice.only_now n (stop.Fault c.machine_fault.result) c.args.self.now _ c.args.terminal.now stands.rests refl c.in-Fault.ensures.paid
     (left_so _ _ runs.1.0 _ x runs.1.1.1.0
     (λ r. left_calls c.services.ensures n c.args.self.now.lexicon (with_run r x) runs.0 levels (core c.args.self.now) stands.rests.meant less ∙ ap (λ e. next n e (with_run r x)) runs.1.1.0 ∙ ap (λ f. Ends (Faults f) runs.1.0 (with_run r x)) (sym c.machine_fault.ensures.fault)))
@@ -50,7 +55,8 @@ returns-in-Fault-clause-round g c = λ n levels x less stands.
 
 pub returns-in-Quit-clause-round : goal.returns-in-Quit-clause-round
 returns-in-Quit-clause-round g c = λ n levels x less stands.
-    let runs = c.in-Quit.ensures.runs (language_of x) levels stands.rests.meant stands.left in
+    let ran = rw c.lend.ensures.value at c.in-Quit.ensures.runs in
+    let runs = ran (language_of x) levels stands.rests.meant stands.left in
     round_left g.D.SectorDevice g.T.Terminal g.met.D.SectorDevice.only_now n stop.Quit c.args.self.now _ c.args.terminal.now stands.rests refl c.in-Quit.ensures.paid
     (left_so _ Quits _ _ x refl
     (λ r. left_calls c.services.ensures n c.args.self.now.lexicon (with_run r x) runs.0 levels (core c.args.self.now) stands.rests.meant less ∙ ap (λ e. next n e (with_run r x)) runs.1))
@@ -58,7 +64,8 @@ returns-in-Quit-clause-round g c = λ n levels x less stands.
 
 pub returns-in-Abort-clause-round : goal.returns-in-Abort-clause-round
 returns-in-Abort-clause-round g c = λ n levels x less stands.
-    let runs = c.in-Abort.ensures.runs (language_of x) levels stands.rests.meant stands.left in
+    let ran = rw c.lend.ensures.value at c.in-Abort.ensures.runs in
+    let runs = ran (language_of x) levels stands.rests.meant stands.left in
     round_left g.D.SectorDevice g.T.Terminal g.met.D.SectorDevice.only_now n stop.Abort c.args.self.now _ c.args.terminal.now stands.rests refl c.in-Abort.ensures.paid
     (left_so _ Aborts _ _ x refl
     (λ r. left_calls c.services.ensures n c.args.self.now.lexicon (with_run r x) runs.0 levels (core c.args.self.now) stands.rests.meant less ∙ ap (λ e. next n e (with_run r x)) runs.1))
@@ -67,12 +74,14 @@ returns-in-Abort-clause-round g c = λ n levels x less stands.
 pub advance-requires : goal.advance-requires
 advance-requires g c =
     let s = c.requires.sound in
-    let runs = c.in-Done.ensures.runs (language_of s.1) s.0 s.2.rests.meant s.2.left in
+    let ran = rw c.lend.ensures.value at c.in-Done.ensures.runs in
+    let runs = ran (language_of s.1) s.0 s.2.rests.meant s.2.left in
     record { sound = (runs.1.0, s.1, record { rests = s.2.rests; left = runs.1.1.0 }); idle = c.in-Done.ensures.nothing_pending }
 
 pub returns-in-Done-clause-round : goal.returns-in-Done-clause-round
 returns-in-Done-clause-round g c = λ n levels x less stands.
-    let runs = c.in-Done.ensures.runs (language_of x) levels stands.rests.meant stands.left in
+    let ran = rw c.lend.ensures.value at c.in-Done.ensures.runs in
+    let runs = ran (language_of x) levels stands.rests.meant stands.left in
     round_as g.T.Terminal n _ c.args.self.now
     (λ r. left_calls c.services.ensures n c.args.self.now.lexicon (with_run r x) runs.0 levels (core c.args.self.now) stands.rests.meant less ∙ ap (λ e. next n e (with_run r x)) runs.1.1.1)
     c.in-Done.ensures.paid refl

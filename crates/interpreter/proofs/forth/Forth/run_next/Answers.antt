@@ -10,7 +10,9 @@ use Rattle.interpreter.proofs.forth.Forth.run_next.Goals as goal
 pub returns-clause-entered : goal.returns-clause-entered
 returns-clause-entered g c = λ n levels x stands.
     let old = c.args.self.now in
-    let e = word_entered c.enter.result c.args.token old.returns old.stack c.enter.ensures.refused c.enter.ensures.entered old.lexicon.code in
+    let refused_it = rw c.lend.ensures.value at c.enter.ensures.refused in
+    let entered_it = rw c.lend.ensures.value at c.enter.ensures.entered in
+    let e = word_entered c.enter.result c.args.token old.returns old.stack refused_it entered_it old.lexicon.code in
     record {
       levels = Once c.args.token ∷ levels;
       world = x;

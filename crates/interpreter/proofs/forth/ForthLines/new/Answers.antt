@@ -7,20 +7,20 @@ use Rattle.interpreter.proofs.forth.ForthLines.new.Goals as goal
 
 pub returns-clause-sound : goal.returns-clause-sound
 returns-clause-sound g c = λ m gives.
-    let e = c.new-4.ensures.store in (
+    let e = c.new-3.ensures.store in (
       new_world m,
       record {
         meant = c.requires.blank.words;
         held_end = refl;
         held = refl;
-        buffers = sym c.new-4.ensures.buffers;
+        buffers = sym c.new-3.ensures.buffers;
         maps = λ model. subst (λ s. StandsFor {D = g.row.D.Denot} {G = g.D.SectorDevice} s m) (sym e) (gives c.into.result c.into.ensures (subst (λ s. IsTrue (g.D.SectorDevice.keeps_model (device_of s))) e model));
       },
     )
 
 pub returns-clause-opens : goal.returns-clause-opens
 returns-clause-opens g c = λ m gives.
-    let e = c.new-4.ensures.store in
+    let e = c.new-3.ensures.store in
     let stands = gives c.into.result c.into.ensures in
     let wrote : c.set_cell.new.self ≡ with_cell c.args.memory.space 16 10 = grind (arith, common_steps, c.set_cell.ensures.after, c.set_cell.ensures.within) in
     record {
@@ -31,7 +31,7 @@ returns-clause-opens g c = λ m gives.
           meant = c.requires.blank.words;
           held_end = refl;
           held = refl;
-          buffers = sym c.new-4.ensures.buffers;
+          buffers = sym c.new-3.ensures.buffers;
           maps = λ model. subst (λ s. StandsFor {D = g.row.D.Denot} {G = g.D.SectorDevice} s m) (sym e) stands;
         };
       };
