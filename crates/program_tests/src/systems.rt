@@ -421,6 +421,42 @@ fn checks_whose_calls_fail(rt: HostRuntime) -> Result<(), Fail> {
     Ok(())
 }
 
+/// Each of so many calls of a command fails once: it is told, nothing is printed, and nothing written.
+fn check_each_call(
+    rt: &(impl Files<File = File> + AllocGlobal + Abort),
+    files: &OneFile,
+    words: &[&str],
+    count: u64,
+) -> Result<(), Fail> {
+    files.calls.begin(u64::MAX);
+    let left = call_over(rt, files, words, b"");
+    assert_eq!(rt; (left.status, files.calls.made.get()), (0, count));
+    for k in 0..count {
+        files.calls.begin(k);
+        let left = call_over(rt, files, words, b"");
+        assert_eq!(rt; (left.status, left.output.is_empty()), (3, true), "at {k}");
+        let text = b"forth83: image: device fault\n".as_slice();
+        assert_eq!(rt; left.errors.as_slice(), text, "at {k}");
+        assert_eq!(rt; files.calls.writes.get(), 0, "at {k}");
+    }
+    Ok(())
+}
+
+/// An opening syncs, and reads label and gate; then both sectors of the block are read.
+#[test]
+fn listings_whose_calls_fail(rt: HostRuntime) -> Result<(), Fail> {
+    let file = empty(&rt)?;
+    let calls = Calls::new();
+    let files = OneFile {
+        file: &file,
+        calls: &calls,
+        is_there: Cell::new(false),
+    };
+    make_over(&rt, &files);
+    check_each_call(&rt, &files, &["forth83", "list", "A", "1"], 5)?;
+    check_each_call(&rt, &files, &["forth83", "export", "A", "1", "1"], 5)
+}
+
 /// Each call of a session fails once, and the digest that is told then is the one after the recovery. Where a save is under way, it is
 /// told that it has two blocks.
 #[test]
