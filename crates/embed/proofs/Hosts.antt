@@ -1,8 +1,8 @@
 -- A request that the host took, and then the bytes of a sector.
-use Rattle.std.proofs.Common.{◌≡◌, ◌≤◌, ℕ, Bool, Result, Ok, Err, inl, inr, ⊎_elim, subst, sym}
+use Rattle.std.proofs.Common.{◌≡◌, Bool, Result, Ok, Err, inl, ⊎_elim, subst, sym}
 use Rattle.std.specs.Prelude.{OnErr, OnOk, is_ok}
 use Rattle.std.specs.Bool.{OnFalse, OnTrue}
-use Rattle.sector_disk.specs.Disk.{Image, MayLeave, MayLeaveEither}
+use Rattle.sector_disk.specs.Disk.{MayLeaveEither}
 use Rattle.sector_disk.specs.Moments.{Elapses, LeavesOnly}
 use Rattle.sector_disk.proofs.Moments.{leaves_then}
 use Rattle.embed.specs.declared.host.Host.{Ghosts}

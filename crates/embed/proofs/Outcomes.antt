@@ -1,6 +1,6 @@
 -- What is known of how a call ended.
-use Rattle.std.proofs.Common.{◌≡◌, ◌≢◌, ◌⊎◌, ◌∙◌, List, [], ◌∷◌, ℕ, zero, suc, Result, Ok, Err, Option, Some, None, inl, inr, refl, sym, subst, ap}
-use Rattle.std.specs.Prelude.{IfErr, IfOk, IfSome, MatchResult, OnErr, OnOk, unwrap_or, slice_index_or}
+use Rattle.std.proofs.Common.{◌≡◌, ◌≢◌, ◌⊎◌, List, [], ◌∷◌, ℕ, zero, suc, Result, Ok, Err, Option, Some, None, inl, refl, ap}
+use Rattle.std.specs.Prelude.{IfErr, IfOk, IfSome, MatchResult, OnOk, unwrap_or}
 use Rattle.journal.specs.Maps.{block_in, contents, fresh, none_pending, pending_in}
 use Rattle.recovery.specs.Opened.{first_of}
 use Rattle.recovery.specs.declared.fault.OpenFault.{OpenFault}

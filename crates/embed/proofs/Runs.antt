@@ -19,7 +19,7 @@ use Rattle.embed.specs.Refusals.{IsOfImage, of_run}
 use Rattle.embed.specs.Sessions.{BegunOn, EndsOn, BreaksSession, RunsSession, system_on}
 use Rattle.embed.proofs.Devices.{Widens, becomes_then}
 use Rattle.embed.specs.declared.refusal.Refusal.{Refusal}
-use Rattle.embed.specs.declared.refusal.Refusal.TheVariants.{Input, NoSteps, Output}
+use Rattle.embed.specs.declared.refusal.Refusal.TheVariants.{Input, NoMemory, NoSteps, Output}
 
 -- which fault of a run it was, by what is told
 pub was_read : (fault : RunFault) (e : Refusal) → e ≡ of_run fault → e ≡ Input → fault ≡ run.Read
@@ -30,10 +30,14 @@ pub was_write : (fault : RunFault) (e : Refusal) → e ≡ of_run fault → e �
 was_write run.Write e of is = refl
 was_write run.Read e of is = absurd (let no : Input ≡ Output = cc in cc)
 
--- it isn't one of the image, nor of the steps
+-- it isn't one of the image, of the memory or of the steps
 pub not_image : (fault : RunFault) → IsOfImage (of_run fault) → ⊥
 not_image run.Read is = is
 not_image run.Write is = is
+
+pub not_memory : (fault : RunFault) → of_run fault ≡ NoMemory → ⊥
+not_memory run.Read is = let no : Input ≡ NoMemory = is in cc
+not_memory run.Write is = let no : Output ≡ NoMemory = is in cc
 
 pub not_steps : (fault : RunFault) → of_run fault ≡ NoSteps → ⊥
 not_steps run.Read is = let no : Input ≡ NoSteps = is in cc

@@ -1,6 +1,6 @@
 -- Spills one after another, and what a commit of them saves.
 use Rattle.std.proofs.Common.{◌≡◌, ◌∙◌, ℕ, zero, suc, ◌+◌, ◌<◌, Bool, true, false, List, [], ◌∷◌, length, drop, take, refl, ap, subst, sym, ◌*◌, arith}
-use Rattle.std.specs.Prelude.{Option, Some, None, unwrap_or, slice_set, slice_index, ◌&&◌}
+use Rattle.std.specs.Prelude.{Option, Some, unwrap_or, slice_set, slice_index, ◌&&◌}
 use Rattle.std.specs.List.{list_all}
 use Rattle.std.proofs.lemmas.List.{length-drop, length-set}
 use Rattle.journal.specs.Maps.{Maps, fresh, latest, none_pending, overridden, spilled}

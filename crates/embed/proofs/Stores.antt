@@ -1,16 +1,15 @@
 -- What a call makes of a device, through a store that was opened on it.
-use Rattle.std.proofs.Common.{◌≡◌, ◌⊎◌, ℕ, List, false, true, IsTrue, refl, sym, subst, inl, inr, ⊎_elim, ◌∙◌, arith}
-use Rattle.sector_disk.specs.Disk.{Image, MayLeave}
+use Rattle.std.proofs.Common.{◌≡◌, ◌⊎◌, ℕ, List, false, sym, subst, inl, inr, ⊎_elim, ◌∙◌, arith}
+use Rattle.sector_disk.specs.Disk.{MayLeave}
 use Rattle.sector_disk.specs.declared.device.SectorDevice.{Ghosts}
 use Rattle.sector_disk.proofs.Moments.{elapses_then, leaves_then}
 use Rattle.journal.specs.declared.store.Store.{Store}
 use Rattle.journal.specs.Calls.{StopsLeave}
 use Rattle.journal.specs.Images.{Means}
 use Rattle.journal.specs.Maps.{Maps, fresh, latest}
-use Rattle.journal.specs.Store.{Continues, KeepsSaved, SavesAllOrNone, StandsFor, closed_of, device_of, disk_of}
+use Rattle.journal.specs.Store.{Continues, KeepsSaved, SavesAllOrNone, StandsFor, closed_of, device_of}
 use Rattle.sessions.specs.Devices.{Becomes}
-use Rattle.embed.specs.Calls.{AllOrNone, KeepsBlocks, LeavesBlocks, MayRecover, OpensOn, meant_by}
-use Rattle.embed.specs.Saving.{with_blocks}
+use Rattle.embed.specs.Calls.{AllOrNone, KeepsBlocks, LeavesBlocks, MayRecover, meant_by}
 use Rattle.embed.specs.Spilling.{all_spilled}
 use Rattle.embed.proofs.Devices.{Widens}
 use Rattle.embed.proofs.Spills.{closed_same, saved_same, saves}

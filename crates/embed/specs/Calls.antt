@@ -1,11 +1,11 @@
 -- What the library's calls do to a device.
-use Rattle.std.specs.Prelude.{◌≡◌, ◌⊎◌, ◌+◌, ◌*◌, ◌≤◌, ℕ, false, IsTrue, List, length, Option, Result, Ok, Err}
+use Rattle.std.specs.Prelude.{◌≡◌, ◌⊎◌, ℕ, false, IsTrue, List, Result, Ok, Err}
 use Rattle.sector_disk.specs.Disk.{Image, MayLeave}
 use Rattle.sector_disk.specs.declared.device.SectorDevice.{Ghosts}
 use Rattle.journal.specs.declared.store.Store.{Store}
-use Rattle.journal.specs.Calls.{BeginsAtMost, ReadsAtMost, StopsLeave}
+use Rattle.journal.specs.Calls.{StopsLeave}
 use Rattle.journal.specs.Images.{Means, meaning}
-use Rattle.journal.specs.Maps.{Maps, fresh}
+use Rattle.journal.specs.Maps.{fresh}
 use Rattle.journal.specs.Store.{StandsFor, blocks_of, closed_of, device_of, is_pending}
 use Rattle.recovery.specs.Label.{blocks_in}
 use Rattle.recovery.specs.Opened.{RecoveryLeaves}

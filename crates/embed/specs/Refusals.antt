@@ -2,8 +2,8 @@
 use Rattle.std.specs.Prelude.{ℕ, ◌*◌, ◌==◌, not, nat_lt, if◌then◌else◌, List, length, Option, Some, None, option_map, Result, Ok, Err, ⊤}
 use Rattle.std.specs.List.{list_all}
 use Rattle.sector_disk.specs.Disk.{Image}
-use Rattle.recovery.specs.Label.{blocks_in, is_size, is_size_for}
-use Rattle.recovery.specs.Opened.{first_of, image_refusal}
+use Rattle.recovery.specs.Label.{blocks_in, is_size}
+use Rattle.recovery.specs.Opened.{image_refusal}
 use Rattle.recovery.specs.declared.fault.OpenFault.{OpenFault}
 use Rattle.recovery.specs.declared.fault.OpenFault.TheVariants as image
 use Rattle.sessions.specs.declared.run_fault.RunFault.{RunFault}

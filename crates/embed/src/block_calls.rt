@@ -49,6 +49,7 @@ pub fn opened<D: SectorDevice>(device: D) -> Result<Store<D>, (Refusal, D)>
     ensures sized { IfOk result (λ _. is_size (D.sector_count device) ≡ true) }
     ensures bad_size { IfErr result (λ e. MatchBool (is_size (D.sector_count device))
         (e.0 ≢ Refusal.BadSize) (e.0 ≡ Refusal.BadSize)) }
+    ensures unasked { IfErr result (λ e. e.0 ≡ Refusal.BadSize → e.1 ≡ device) }
     ensures image { IfErr result (λ e. IsOfImage e.0) }
     // Each refusal tells the first test that the image fails.
     ensures exact { IsTrue (D.keeps_model device) → MatchResult result
@@ -78,6 +79,7 @@ pub fn recover<D: SectorDevice>(device: D) -> Result<D, (Refusal, D)>
     ensures sized { IfOk result (λ _. is_size (D.sector_count device) ≡ true) }
     ensures bad_size { IfErr result (λ e. MatchBool (is_size (D.sector_count device))
         (e.0 ≢ Refusal.BadSize) (e.0 ≡ Refusal.BadSize)) }
+    ensures unasked { IfErr result (λ e. e.0 ≡ Refusal.BadSize → e.1 ≡ device) }
     ensures exact { IsTrue (D.keeps_model device) → MatchResult result
         (λ _. refusal_of (D.sector_count device) (D.disk device).content ≡ None)
         (λ e. (e.0 ≡ Refusal.Device) ⊎ (refusal_of (D.sector_count device) (D.disk device).content ≡ Some e.0)) }
@@ -114,6 +116,8 @@ pub fn read_block<D: SectorDevice>(device: D, block: u16, out: &mut [u8]) -> Res
     ensures well { IfOk result (λ after. D.failures after ≡ D.failures device) }
     ensures failed { IfErr result (λ e. e.0 ≡ Refusal.Device → D.failures e.1 ≡ count_up (D.failures device)) }
     ensures unfailed { IfErr result (λ e. e.0 ≢ Refusal.Device → D.failures e.1 ≡ D.failures device) }
+    ensures content { IsTrue (D.keeps_model device)
+        → IfErr result (λ e. e.0 ≢ Refusal.Device → (D.disk e.1).content ≡ (D.disk device).content) }
     ensures goes { Becomes D.SectorDevice device (device_after result) }
 {
     match check_read(device.sectors(), block, out.len()) {
@@ -173,6 +177,8 @@ pub fn save_blocks<D: SectorDevice>(
     ensures well { IfOk result (λ after. D.failures after ≡ D.failures device) }
     ensures failed { IfErr result (λ e. e.0 ≡ Refusal.Device → D.failures e.1 ≡ count_up (D.failures device)) }
     ensures unfailed { IfErr result (λ e. e.0 ≢ Refusal.Device → D.failures e.1 ≡ D.failures device) }
+    ensures content { IsTrue (D.keeps_model device)
+        → IfErr result (λ e. e.0 ≢ Refusal.Device → (D.disk e.1).content ≡ (D.disk device).content) }
     ensures goes { Becomes D.SectorDevice device (device_after result) }
 {
     match check_save(device.sectors(), blocks, bytes.len()) {

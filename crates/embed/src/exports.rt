@@ -62,6 +62,7 @@ pub extern "C" fn silgwyrad_run(
 ) -> u8
     ensures listed { result ≤ 12 }
     ensures steps { (result ≡ code_of Refusal.NoSteps) ↔ (steps ≡ 0) }
+    ensures size { steps ≢ 0 → MatchBool (is_size sectors) (result ≢ code_of Refusal.BadSize) (result ≡ code_of Refusal.BadSize) }
 {
     let mut reader = HostInput::new(input);
     let mut writer = HostOutput::new(output);

@@ -1,7 +1,9 @@
 //! A session over an image on a device.
-ghost use Rattle.std.specs.Prelude.{◌≡◌, ◌≢◌, ◌⊎◌, ◌↔◌, ◌<◌, [], ◌∷◌, None, Some, IsTrue, IfOk, IfErr, MatchResult, OnOk};
+ghost use Rattle.std.specs.Prelude.{◌≡◌, ◌≢◌, ◌⊎◌, ◌↔◌, ◌<◌, [], ◌∷◌, true, None, Some, IsTrue, IfOk, IfErr, MatchBool, MatchResult, OnOk};
+ghost use Rattle.sector_disk.specs.Counting.{count_up};
 ghost use Rattle.journal.specs.Calls.{StopsLeave};
 ghost use Rattle.journal.specs.Store.{device_of};
+ghost use Rattle.recovery.specs.Label.{is_size};
 ghost use Rattle.sessions.specs.declared.run_fault.RunFault.TheVariants.{Read as ReadFault, Write as WriteFault};
 ghost use Rattle.sessions.specs.Devices.{Becomes};
 ghost use Rattle.embed.specs.Calls.{MayRecover, device_after};
@@ -39,10 +41,22 @@ pub fn run_image<D: SectorDevice + Drop, R: Read, W: Write>(
         (W.contents output.old) (W.contents output.new) device e.1) }
     ensures steps { MatchResult result (λ _. steps ≢ 0) (λ e. (e.0 ≡ Refusal.NoSteps) ↔ (steps ≡ 0)) }
     ensures unasked { IfErr result (λ e. e.0 ≡ Refusal.NoSteps → e.1 ≡ device) }
+    ensures sized { OnOk result (is_size (D.sector_count device) ≡ true) }
+    ensures bad_size { IfErr result (λ e. e.0 ≢ Refusal.NoSteps → MatchBool (is_size (D.sector_count device))
+        (e.0 ≢ Refusal.BadSize) (e.0 ≡ Refusal.BadSize)) }
+    ensures uncalled { IfErr result (λ e. e.0 ≡ Refusal.BadSize → e.1 ≡ device) }
     // An image is refused as at every other call.
     ensures image { IsTrue (D.keeps_model device) → IfErr result (λ e. IsOfImage e.0
         → (e.0 ≡ Refusal.Device) ⊎ (refusal_of (D.sector_count device) (D.disk device).content ≡ Some e.0)) }
     ensures opens { IsTrue (D.keeps_model device) → OnOk result (refusal_of (D.sector_count device) (D.disk device).content ≡ None) }
+    // Memory is asked for last: the image was well.
+    ensures memory { IsTrue (D.keeps_model device) → IfErr result (λ e. e.0 ≡ Refusal.NoMemory
+        → refusal_of (D.sector_count device) (D.disk device).content ≡ None) }
+    // Device is told where a call of the opening failed. A call that fails in the session is told in a reply.
+    ensures failed { IfErr result (λ e. e.0 ≡ Refusal.Device → D.failures e.1 ≡ count_up (D.failures device)) }
+    ensures unfailed { IfErr result (λ e. IsOfImage e.0 → e.0 ≢ Refusal.Device → D.failures e.1 ≡ D.failures device) }
+    ensures content { IsTrue (D.keeps_model device) → IfErr result (λ e. IsOfImage e.0 → e.0 ≢ Refusal.Device
+        → (D.disk e.1).content ≡ (D.disk device).content) }
     // Only where input or output failed was anything read or written before a refusal, and at another one a stop at any moment
     // leaves what one of a recovery may leave.
     ensures unbegun { IfErr result (λ e. e.0 ≢ Refusal.Input → e.0 ≢ Refusal.Output
@@ -80,6 +94,16 @@ fn begun<D: SectorDevice + Drop, F: Lines<D> + Drop>(
     ensures ok { IfOk result (λ room. BegunOn D.SectorDevice F.stands F.sound F.device steps device room.items) }
     ensures opens { IsTrue (D.keeps_model device) → OnOk result (refusal_of (D.sector_count device) (D.disk device).content ≡ None) }
     ensures refused { IfErr result (λ e. (e.0 ≢ Refusal.NoSteps) × (e.0 ≢ Refusal.Input) × (e.0 ≢ Refusal.Output)) }
+    ensures sized { OnOk result (is_size (D.sector_count device) ≡ true) }
+    ensures bad_size { IfErr result (λ e. MatchBool (is_size (D.sector_count device))
+        (e.0 ≢ Refusal.BadSize) (e.0 ≡ Refusal.BadSize)) }
+    ensures uncalled { IfErr result (λ e. e.0 ≡ Refusal.BadSize → e.1 ≡ device) }
+    ensures memory { IsTrue (D.keeps_model device) → IfErr result (λ e. e.0 ≡ Refusal.NoMemory
+        → refusal_of (D.sector_count device) (D.disk device).content ≡ None) }
+    ensures failed { IfErr result (λ e. e.0 ≡ Refusal.Device → D.failures e.1 ≡ count_up (D.failures device)) }
+    ensures unfailed { IfErr result (λ e. IsOfImage e.0 → e.0 ≢ Refusal.Device → D.failures e.1 ≡ D.failures device) }
+    ensures content { IsTrue (D.keeps_model device) → IfErr result (λ e. IsOfImage e.0 → e.0 ≢ Refusal.Device
+        → (D.disk e.1).content ≡ (D.disk device).content) }
     ensures image { IsTrue (D.keeps_model device) → IfErr result (λ e. IsOfImage e.0
         → (e.0 ≡ Refusal.Device) ⊎ (refusal_of (D.sector_count device) (D.disk device).content ≡ Some e.0)) }
     ensures recovers { IsTrue (D.keeps_model device)

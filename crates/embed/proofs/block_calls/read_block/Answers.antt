@@ -2,11 +2,10 @@ use Rattle.std.proofs.Common.{◌≡◌, subst}
 use Rattle.std.specs.Prelude.{OnOk}
 use Rattle.journal.specs.Maps.{fresh}
 use Rattle.journal.specs.Store.{device_of}
-use Rattle.embed.specs.Calls.{KeepsBlocks, LeavesBlocks, MayRecover, device_after, meant_by}
-use Rattle.embed.specs.Refusals.{read_refusal, refusal_of}
-use Rattle.embed.proofs.Devices.{becomes_same, becomes_then, untouched}
-use Rattle.embed.proofs.Outcomes.{blames, contents_fresh, err_map, never, no_refusal, ok_after, ok_map, on_any, second_of}
-use Rattle.embed.proofs.Stores.{kept_still, kept_then}
+use Rattle.embed.specs.Calls.{LeavesBlocks, meant_by}
+use Rattle.embed.proofs.Devices.{becomes_then}
+use Rattle.embed.proofs.Outcomes.{contents_fresh, never, ok_after}
+use Rattle.embed.proofs.Stores.{kept_then}
 use Rattle.embed.proofs.block_calls.read_block.Goals as goal
 
 pub returns-in-Ok-opened-clause-bytes : goal.returns-in-Ok-opened-clause-bytes
@@ -31,3 +30,6 @@ pub returns-in-Ok-opened-clause-goes : goal.returns-in-Ok-opened-clause-goes
 returns-in-Ok-opened-clause-goes g c =
     becomes_then g.D.SectorDevice c.args.device (device_of c.in-Ok-opened.store) _ g.met.D.SectorDevice.widens
     c.in-Ok-opened.ensures.ok.goes c.read_from.ensures.goes
+
+pub returns-in-Ok-opened-clause-content : goal.returns-in-Ok-opened-clause-content
+returns-in-Ok-opened-clause-content g c = λ keeps. never c.read_from.result _ c.read_from.ensures.refusal

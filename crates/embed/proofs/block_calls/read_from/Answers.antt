@@ -1,9 +1,8 @@
-use Rattle.std.proofs.Common.{◌≡◌, ◌∙◌, sym, subst, ap}
+use Rattle.std.proofs.Common.{◌∙◌, sym, subst}
 use Rattle.journal.specs.Calls.{StopsLeave}
 use Rattle.journal.specs.Images.{Means}
 use Rattle.journal.specs.Store.{device_of}
-use Rattle.sessions.specs.Devices.{Becomes}
-use Rattle.embed.proofs.Stores.{continued, leaves}
+use Rattle.embed.proofs.Stores.{leaves}
 use Rattle.embed.proofs.block_calls.read_from.Goals as goal
 
 pub returns-in-Ok-clause-same : goal.returns-in-Ok-clause-same

@@ -1,8 +1,5 @@
-use Rattle.std.proofs.Common.{sym, subst}
-use Rattle.journal.specs.Calls.{StopsLeave}
 use Rattle.journal.specs.Maps.{fresh}
-use Rattle.embed.specs.Calls.{MayRecover, meant_by}
-use Rattle.sessions.specs.Devices.{Becomes}
+use Rattle.embed.specs.Calls.{meant_by}
 use Rattle.embed.proofs.Stores.{leaves}
 use Rattle.embed.proofs.block_calls.recover.Goals as goal
 

@@ -4,6 +4,7 @@ use Rattle.journal.specs.Maps.{fresh}
 use Rattle.journal.specs.Store.{device_of}
 use Rattle.embed.specs.Calls.{LeavesBlocks, meant_by}
 use Rattle.embed.proofs.Devices.{becomes_then}
+use Rattle.embed.proofs.Outcomes.{never}
 use Rattle.embed.proofs.Spills.{saves}
 use Rattle.embed.proofs.Stores.{saved_then}
 use Rattle.embed.proofs.block_calls.save_blocks.Goals as goal
@@ -25,3 +26,6 @@ pub returns-in-Ok-opened-clause-goes : goal.returns-in-Ok-opened-clause-goes
 returns-in-Ok-opened-clause-goes g c =
     becomes_then g.D.SectorDevice c.args.device (device_of c.in-Ok-opened.store) _ g.met.D.SectorDevice.widens
     c.in-Ok-opened.ensures.ok.goes c.save_to.ensures.goes
+
+pub returns-in-Ok-opened-clause-content : goal.returns-in-Ok-opened-clause-content
+returns-in-Ok-opened-clause-content g c = λ keeps. never c.save_to.result _ c.save_to.ensures.refusal

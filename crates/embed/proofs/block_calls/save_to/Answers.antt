@@ -1,4 +1,4 @@
-use Rattle.std.proofs.Common.{◌≡◌, subst, sym}
+use Rattle.std.proofs.Common.{subst}
 use Rattle.sector_disk.specs.Disk.{MayLeave}
 use Rattle.embed.proofs.Stores.{commits_then}
 use Rattle.embed.proofs.block_calls.save_to.Goals as goal

@@ -1,4 +1,4 @@
-use Rattle.std.proofs.Common.{◌≡◌, ◌*◌, ℕ, length, drop, true, false}
+use Rattle.std.proofs.Common.{◌≡◌, ◌*◌, length, drop, true, false}
 use Rattle.std.specs.Prelude.{nat_lt}
 use Rattle.std.specs.List.{list_all}
 use Rattle.journal.specs.Maps.{Maps}

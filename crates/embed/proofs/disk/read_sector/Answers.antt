@@ -1,8 +1,6 @@
 use Rattle.std.proofs.Common.{◌∙◌, ◌≡◌, IsTrue, subst, sym}
 use Rattle.std.specs.Bool.{OnTrue}
 use Rattle.sector_disk.proofs.Moments.{elapses_then}
-use Rattle.embed.specs.Requests.{request_bytes}
-use Rattle.embed.specs.declared.host.Request.TheVariants.{Read}
 use Rattle.embed.proofs.Hosts.{asked_then}
 use Rattle.embed.proofs.disk.read_sector.Goals as goal
 

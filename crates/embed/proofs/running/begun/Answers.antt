@@ -1,9 +1,8 @@
-use Rattle.std.proofs.Common.{subst, sym}
+use Rattle.std.proofs.Common.{◌≡◌, ◌∙◌, subst, sym}
 use Rattle.journal.specs.Calls.{StopsLeave}
-use Rattle.journal.specs.Store.{device_of}
 use Rattle.embed.specs.Calls.{MayRecover}
-use Rattle.embed.specs.Sessions.{BegunOn, BegunOver}
-use Rattle.embed.specs.declared.refusal.Refusal.TheVariants.{NoMemory}
+use Rattle.embed.specs.Refusals.{IsOfImage}
+use Rattle.embed.specs.declared.refusal.Refusal.TheVariants.{BadSize, Device, NoMemory}
 use Rattle.embed.proofs.Rooms.{map_err, map_ok}
 use Rattle.embed.proofs.running.begun.Goals as goal
 
@@ -15,3 +14,23 @@ pub returns-in-Ok-clause-recovers : goal.returns-in-Ok-clause-recovers
 returns-in-Ok-clause-recovers g c = λ keeps.
     map_err c.begun_over.result _ _ (λ e told.
     subst (λ d. StopsLeave g.D.SectorDevice c.args.device d (MayRecover g.D.SectorDevice c.args.device)) (sym told.1) (c.in-Ok.ensures.ok.stops keeps)) c.begun_over.ensures.refused
+
+pub returns-in-Ok-clause-uncalled : goal.returns-in-Ok-clause-uncalled
+returns-in-Ok-clause-uncalled g c =
+    map_err c.begun_over.result _ _ (λ e told is. absurd (let other : NoMemory ≡ BadSize = sym told.0 ∙ is in cc)) c.begun_over.ensures.refused
+
+pub returns-in-Ok-clause-memory : goal.returns-in-Ok-clause-memory
+returns-in-Ok-clause-memory g c = λ keeps.
+    map_err c.begun_over.result _ _ (λ e told is. c.in-Ok.ensures.exact keeps) c.begun_over.ensures.refused
+
+pub returns-in-Ok-clause-failed : goal.returns-in-Ok-clause-failed
+returns-in-Ok-clause-failed g c =
+    map_err c.begun_over.result _ _ (λ e told is. absurd (let other : NoMemory ≡ Device = sym told.0 ∙ is in cc)) c.begun_over.ensures.refused
+
+pub returns-in-Ok-clause-unfailed : goal.returns-in-Ok-clause-unfailed
+returns-in-Ok-clause-unfailed g c =
+    map_err c.begun_over.result _ _ (λ e told is other. absurd (subst IsOfImage told.0 is)) c.begun_over.ensures.refused
+
+pub returns-in-Ok-clause-content : goal.returns-in-Ok-clause-content
+returns-in-Ok-clause-content g c = λ keeps.
+    map_err c.begun_over.result _ _ (λ e told is other. absurd (subst IsOfImage told.0 is)) c.begun_over.ensures.refused

@@ -1,4 +1,4 @@
-use Rattle.std.proofs.Common.{◌≡◌, ◌∙◌, ◌∷◌, ◌++◌, [], IsTrue, ap, subst, sym, is_ok}
+use Rattle.std.proofs.Common.{◌∙◌, ◌∷◌, ◌++◌, [], IsTrue, ap, subst, sym, is_ok}
 use Rattle.std.specs.Prelude.{if◌then◌else◌}
 use Rattle.journal.specs.Store.{StandsFor, device_of}
 use Rattle.sessions.proofs.EachStore.{own_maps, stands_for_own}

@@ -1,4 +1,4 @@
-use Rattle.std.proofs.Common.{◌∙◌, ◌∷◌, ◌++◌, [], ap, subst, sym}
+use Rattle.std.proofs.Common.{◌∙◌, ◌++◌, ap, subst, sym}
 use Rattle.std.specs.Prelude.{option_to_list}
 use Rattle.embed.proofs.Rooms.{only}
 use Rattle.embed.proofs.running.ended.Goals as goal

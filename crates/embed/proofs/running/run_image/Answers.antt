@@ -1,7 +1,7 @@
-use Rattle.std.proofs.Common.{◌≡◌, ◌∙◌, ap, slice_index_or, slice_set, subst, sym}
+use Rattle.std.proofs.Common.{◌∙◌, ap, slice_index_or, slice_set, subst, sym}
 use Rattle.embed.specs.Refusals.{IsOfImage}
 use Rattle.embed.proofs.Devices.{untouched}
-use Rattle.embed.proofs.Runs.{broke, came, not_image, not_steps, ran, was_read, was_write}
+use Rattle.embed.proofs.Runs.{broke, came, not_image, not_memory, not_steps, ran, was_read, was_write}
 use Rattle.embed.proofs.running.run_image.Goals as goal
 
 pub returns-then-steps-eq0-clause-recovers : goal.returns-then-steps-eq0-clause-recovers
@@ -56,3 +56,18 @@ returns-in-Err-end-clause-goes g c =
     c.ended-after.result (c.ended-after.ensures.ends c.run-end.new.forth (ap (λ l. slice_set l 0 c.run-end.new.forth) c.in-Ok.ensures.ok.over.alone))
     c.run-end.result c.run-end.ensures.ok c.run-end.ensures.err c.run-end.ensures.time c.run-end.ensures.model c.run-end.ensures.failures
     g.met.D.SectorDevice.widens
+
+pub returns-in-Err-end-clause-uncalled : goal.returns-in-Err-end-clause-uncalled
+returns-in-Err-end-clause-uncalled g c = λ told. absurd (not_image c.in-Err-end.fault (subst IsOfImage (sym told ∙ c.from.ensures) tt))
+
+pub returns-in-Err-end-clause-memory : goal.returns-in-Err-end-clause-memory
+returns-in-Err-end-clause-memory g c = λ keeps told. absurd (not_memory c.in-Err-end.fault (sym c.from.ensures ∙ told))
+
+pub returns-in-Err-end-clause-failed : goal.returns-in-Err-end-clause-failed
+returns-in-Err-end-clause-failed g c = λ told. absurd (not_image c.in-Err-end.fault (subst IsOfImage (sym told ∙ c.from.ensures) tt))
+
+pub returns-in-Err-end-clause-unfailed : goal.returns-in-Err-end-clause-unfailed
+returns-in-Err-end-clause-unfailed g c = λ is other. absurd (not_image c.in-Err-end.fault (subst IsOfImage c.from.ensures is))
+
+pub returns-in-Err-end-clause-content : goal.returns-in-Err-end-clause-content
+returns-in-Err-end-clause-content g c = λ keeps is other. absurd (not_image c.in-Err-end.fault (subst IsOfImage c.from.ensures is))
