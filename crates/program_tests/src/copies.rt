@@ -1,7 +1,9 @@
 //! Images that are copied and salvaged: what becomes of their blocks, what is refused, and what a stop leaves of both images.
 use super::images::{check_block, overwrite, with_image};
-use super::stopping::{Disk, FATES, Fate, OneDisk};
-use super::support::{call, call_over, call_over_both, check, follow, make_over, transcript};
+use super::stopping::{Disk, FATES, Fate, NAMED, OneDisk};
+use super::support::{
+    call, call_over, call_over_both, check, follow, make_over, told_of_making, transcript,
+};
 use super::systems::{BOTH, SAVED, SEVENS};
 use std::fs;
 use std::fs::File;
@@ -247,6 +249,8 @@ fn making_is_stopped(
         (3, true),
         "{name} at {k}"
     );
+    let told = told_of_making(k, NAMED).as_bytes();
+    assert_eq!(rt; left.errors.as_slice(), told, "{name} at {k}");
     new.restart(fate);
     old.restart(fate);
     let left = call_over(rt, &files, &["forth83", "run", "A"], BOTH.as_bytes());

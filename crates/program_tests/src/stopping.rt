@@ -1,5 +1,5 @@
 //! The program over an image on a disk that loses its power at each call: what wasn't synced is lost or kept, sector by sector.
-use super::support::{call_over, make_over, transcript};
+use super::support::{call_over, make_over, told_of_making, transcript};
 use super::systems::{BLANK, BOTH, SAVED, SEVENS, SEVENS_FILE};
 use sector_disk::{FileFault, HostFault, HostFile, HostFiles};
 use std::cell::{Cell, RefCell};
@@ -11,6 +11,9 @@ use std::test::Fail;
 
 /// The bytes of an image of 32 blocks.
 const LENGTH: usize = 67_072;
+
+/// The call that makes the name of such a file stay, counted from 0: two writes of zeros and a sync come before it.
+pub(crate) const NAMED: u64 = 3;
 
 /// What becomes of the sectors that weren't synced.
 #[derive(Clone, Copy, Debug, PartialEq, Eq)]
@@ -390,6 +393,11 @@ fn making_is_stopped(
     disk.begin(k);
     let left = call_over(rt, &files, &["forth83", "new", "A", "--blocks", "32"], b"");
     assert_eq!(rt; left.status, 3, "at {k}");
+    assert_eq!(rt;
+        left.errors.as_slice(),
+        told_of_making(k, NAMED).as_bytes(),
+        "at {k}"
+    );
     disk.restart(fate);
     let left = call_over(rt, &files, &["forth83", "run", "A"], BOTH.as_bytes());
     let is_none = left.status == 3

@@ -20,6 +20,18 @@ pub(crate) struct Left {
     pub(crate) errors: Vec<u8>,
 }
 
+/// What is told where a call of an image fails.
+pub(crate) const DEVICE_FAULT: &str = "forth83: image: device fault\n";
+
+/// What is told where call `k` of an image that is being made fails. Up to `named`, which makes the name stay, they make its file.
+pub(crate) fn told_of_making(k: u64, named: u64) -> &'static str {
+    if k <= named {
+        "forth83: image: cannot open\n"
+    } else {
+        DEVICE_FAULT
+    }
+}
+
 /// The program, over systems of the whole language.
 pub(crate) fn command<R: Read, W: Write, E: Write>(
     rt: &(impl Files<File = File> + AllocGlobal),

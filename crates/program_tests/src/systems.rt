@@ -1,5 +1,8 @@
 //! The program over images that are files in memory, whose calls are short, interrupted or fail.
-use super::support::{Left, call_over, call_over_both, make_over, run_over_files, transcript};
+use super::support::{
+    DEVICE_FAULT, Left, call_over, call_over_both, make_over, run_over_files, told_of_making,
+    transcript,
+};
 use sector_disk::{FileFault, HostFault, HostFile, HostFiles, MemoryFile, Script};
 use std::cell::{Cell, RefCell};
 use std::fs;
@@ -234,7 +237,11 @@ fn sessions_over_short_calls(rt: HostRuntime) -> Result<(), Fail> {
     Ok(())
 }
 
-/// Each call of a session fails once: it is opened once and no more, and afterwards both blocks are as before, or both as saved.
+/// How many calls open an image of which no save is under way: a sync, and two reads, of the label and the gate.
+const OPENING: u64 = 3;
+
+/// Each call of a session fails once: it is opened once and no more, and afterwards both blocks are as before, or both as saved. Where the
+/// opening fails that is told, and no line is read; a session that was begun goes on to its end.
 #[test]
 fn sessions_whose_calls_fail(rt: HostRuntime) -> Result<(), Fail> {
     for k in 0..60 {
@@ -248,8 +255,19 @@ fn sessions_whose_calls_fail(rt: HostRuntime) -> Result<(), Fail> {
         make_over(&rt, &files);
         calls.begin(k);
         let (input, _) = transcript(&rt, SAVED)?;
-        let _ = call_over(&rt, &files, &["forth83", "run", "A"], input.as_slice());
+        let left = call_over(&rt, &files, &["forth83", "run", "A"], input.as_slice());
         assert_eq!(rt; calls.openings.get(), 1, "at {k}");
+        let (status, told) = if k < OPENING {
+            (3, DEVICE_FAULT)
+        } else {
+            (0, "")
+        };
+        assert_eq!(rt;
+            (left.status, left.output.is_empty()),
+            (status, k < OPENING),
+            "at {k}"
+        );
+        assert_eq!(rt; left.errors.as_slice(), told.as_bytes(), "at {k}");
         calls.begin(u64::MAX);
         let left = call_over(&rt, &files, &["forth83", "run", "A"], BOTH.as_bytes());
         let is_so = left.output.as_slice() == BLANK.as_bytes()
@@ -266,23 +284,44 @@ fn imports_whose_calls_fail(rt: HostRuntime) -> Result<(), Fail> {
     fs::write(&rt, "program_import", SEVENS_FILE)?;
     let words = ["forth83", "import", "A", "1", "program_import", "--check"].as_slice();
     let (import, _) = words.split_at(5);
-    assert_eq!(rt; import_fails(&rt, words, u64::MAX)?, (0, 0));
-    let (status, calls) = import_fails(&rt, import, u64::MAX)?;
-    assert_eq!(rt; status, 0);
-    for k in 0..calls {
-        let (status, _) = import_fails(&rt, import, k)?;
-        assert_eq!(rt; status, 3, "at {k}");
-    }
+    assert_eq!(rt; saving_fails(&rt, words, SEVENS, u64::MAX)?, 0);
+    each_call_of_a_save_fails(&rt, import, SEVENS)?;
     fs::remove_file(&rt, "program_import")?;
     Ok(())
 }
 
-/// Imports two blocks, where the call of this number fails, and gives the status and how many calls there were.
-fn import_fails(
+/// And so does each call of a `put`, of one block.
+#[test]
+fn puts_whose_calls_fail(rt: HostRuntime) -> Result<(), Fail> {
+    fs::write(&rt, "program_put_fails", b"\x07\x00")?;
+    let words = ["forth83", "put", "A", "1", "program_put_fails"];
+    each_call_of_a_save_fails(&rt, &words, "7 8224  ok\n")?;
+    fs::remove_file(&rt, "program_put_fails")?;
+    Ok(())
+}
+
+/// Each call of a command that saves fails once.
+fn each_call_of_a_save_fails(
     rt: &(impl Files<File = File> + AllocGlobal + Abort),
     words: &[&str],
+    saved: &str,
+) -> Result<(), Fail> {
+    let calls = saving_fails(rt, words, saved, u64::MAX)?;
+    assert!(rt; calls > OPENING, "{calls}");
+    for k in 0..calls {
+        let _ = saving_fails(rt, words, saved, k)?;
+    }
+    Ok(())
+}
+
+/// Saves blocks, where the call of this number fails, which is told. Both blocks are blank then, or as saved. Gives how many calls there
+/// were.
+fn saving_fails(
+    rt: &(impl Files<File = File> + AllocGlobal + Abort),
+    words: &[&str],
+    saved: &str,
     fails_at: u64,
-) -> Result<(u8, u64), Fail> {
+) -> Result<u64, Fail> {
     let file = empty(rt)?;
     let calls = Calls::new();
     let files = OneFile {
@@ -292,19 +331,28 @@ fn import_fails(
     };
     make_over(rt, &files);
     calls.begin(fails_at);
-    let Left { status, output, .. } = call_over(rt, &files, words, b"");
+    let left = call_over(rt, &files, words, b"");
     assert_eq!(rt;
-        (output.len(), calls.openings.get()),
+        (left.output.len(), calls.openings.get()),
         (0, 1),
         "at {fails_at}"
     );
+    if fails_at == u64::MAX {
+        assert_eq!(rt; left.status, 0);
+    } else {
+        assert_eq!(rt;
+            (left.status, left.errors.as_slice()),
+            (3, DEVICE_FAULT.as_bytes()),
+            "at {fails_at}"
+        );
+    }
     let made = calls.made.get();
     calls.begin(u64::MAX);
     let left = call_over(rt, &files, &["forth83", "run", "A"], BOTH.as_bytes());
     let is_blank = left.output.as_slice() == BLANK.as_bytes();
-    let is_imported = left.output.as_slice() == SEVENS.as_bytes();
-    assert!(rt; is_blank || is_imported, "at {fails_at}");
-    Ok((status, made))
+    let is_saved = left.output.as_slice() == saved.as_bytes();
+    assert!(rt; is_blank || is_saved, "at {fails_at}");
+    Ok(made)
 }
 
 /// Each sixteenth call of `new` fails once, the last one too, and the one that makes the name stay: it is told, and the file stays.
@@ -318,15 +366,20 @@ fn images_whose_making_fails(rt: HostRuntime) -> Result<(), Fail> {
         is_there: Cell::new(false),
     };
     make_over(&rt, &files);
+    let named = calls.named.get();
     for k in (0..calls.made.get()).rev().step_by(16) {
-        making_fails(&rt, k)?;
+        making_fails(&rt, k, named)?;
     }
-    assert!(rt; calls.named.get() != 0);
-    making_fails(&rt, calls.named.get())
+    assert!(rt; named != 0);
+    making_fails(&rt, named, named)
 }
 
-/// Makes an image, of which the call of this number fails.
-fn making_fails(rt: &(impl Files<File = File> + AllocGlobal + Abort), k: u64) -> Result<(), Fail> {
+/// Makes an image, of which the call of this number fails; the call `named` makes its name stay.
+fn making_fails(
+    rt: &(impl Files<File = File> + AllocGlobal + Abort),
+    k: u64,
+    named: u64,
+) -> Result<(), Fail> {
     let file = empty(rt)?;
     let calls = Calls::new();
     let files = OneFile {
@@ -338,6 +391,11 @@ fn making_fails(rt: &(impl Files<File = File> + AllocGlobal + Abort), k: u64) ->
     let words = ["forth83", "new", "A", "--blocks", "32"].as_slice();
     let left = call_over(rt, &files, words, b"");
     assert_eq!(rt; (left.status, left.output.is_empty()), (3, true), "at {k}");
+    assert_eq!(rt;
+        left.errors.as_slice(),
+        told_of_making(k, named).as_bytes(),
+        "at {k}"
+    );
     let left = call_over(rt, &files, words, b"");
     assert_eq!(rt;
         (left.status, left.errors.as_slice()),
@@ -414,8 +472,7 @@ fn checks_whose_calls_fail(rt: HostRuntime) -> Result<(), Fail> {
         calls.begin(k);
         let left = call_over(&rt, &files, CHECK.as_slice(), b"");
         assert_eq!(rt; (left.status, left.output.is_empty()), (3, true), "at {k}");
-        let text = b"forth83: image: device fault\n".as_slice();
-        assert_eq!(rt; left.errors.as_slice(), text, "at {k}");
+        assert_eq!(rt; left.errors.as_slice(), DEVICE_FAULT.as_bytes(), "at {k}");
         assert_eq!(rt; calls.writes.get(), 0, "at {k}");
     }
     Ok(())
@@ -435,8 +492,7 @@ fn check_each_call(
         files.calls.begin(k);
         let left = call_over(rt, files, words, b"");
         assert_eq!(rt; (left.status, left.output.is_empty()), (3, true), "at {k}");
-        let text = b"forth83: image: device fault\n".as_slice();
-        assert_eq!(rt; left.errors.as_slice(), text, "at {k}");
+        assert_eq!(rt; left.errors.as_slice(), DEVICE_FAULT.as_bytes(), "at {k}");
         assert_eq!(rt; files.calls.writes.get(), 0, "at {k}");
     }
     Ok(())
