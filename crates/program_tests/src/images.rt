@@ -277,19 +277,24 @@ pub(crate) fn overwrite(bytes: &mut [u8], at: usize, patch: &[u8]) {
     }
 }
 
+/// Makes of the bytes of an image of blank blocks those of one of layout 1, of which a save is under way: its gate is open over blocks 1 and 2,
+/// which begin with these bytes there.
+pub(crate) fn make_old(image: &mut [u8], first: u8, second: u8) {
+    overwrite(image, 0, layout::label_1(32).as_slice());
+    overwrite(image, 512, b"COMMIT83");
+    overwrite(image, 1024, &[6]);
+    for (block, byte) in [(1, first), (2, second)] {
+        let at = 512 * layout::slot_sector(block) as usize;
+        overwrite(image, at, &[byte]);
+    }
+}
+
 #[test]
 fn images_are_upgraded(rt: HostRuntime) -> Result<(), Fail> {
     with_image(&rt, "program_upgraded")?;
     let (old, new) = ("program_upgraded/A", "program_upgraded/NEW");
-    // An image of layout 1: blocks 1 and 2 are saved under an open gate, and their homes are blank.
     let mut bytes = fs::read(&rt, old)?;
-    overwrite(bytes.as_mut_slice(), 0, layout::label_1(32).as_slice());
-    overwrite(bytes.as_mut_slice(), 512, b"COMMIT83");
-    overwrite(bytes.as_mut_slice(), 1024, &[6]);
-    for (block, first) in [(1, b'A'), (2, b'B')] {
-        let at = 512 * layout::slot_sector(block) as usize;
-        overwrite(bytes.as_mut_slice(), at, &[first]);
-    }
+    make_old(bytes.as_mut_slice(), b'A', b'B');
     fs::write(&rt, old, bytes.as_slice())?;
     let script = "\
 3 image: cannot open : upgrade @/none @/NEW

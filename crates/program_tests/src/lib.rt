@@ -21,3 +21,5 @@ mod systems;
 mod traces;
 #[cfg(test)]
 mod transferring;
+#[cfg(test)]
+mod upgrades;

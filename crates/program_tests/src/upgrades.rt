@@ -1,0 +1,176 @@
+//! Upgrades whose calls fail or are stopped, over an old image of which a save is under way: what is told, and what stays of both images.
+use super::images::{make_old, overwrite};
+use super::stopping::{Disk, FATES, Fate, NAMED, OneDisk, Opened};
+use super::support::{DEVICE_FAULT, call_over, told_of_making};
+use super::systems::{BOTH, SEVENS};
+use sector_disk::{FileFault, HostFault, HostFiles};
+use std::fs::File;
+use std::process::Abort;
+use std::rt::Files;
+use std::test::Fail;
+
+const UPGRADE: [&str; 4] = ["forth83", "upgrade", "OLD", "NEW"];
+
+/// A system of two files: `OLD`, and `NEW`, which is there once it was made.
+#[derive(Drop)]
+struct TwoDisks<'a> {
+    old: OneDisk<'a>,
+    new: OneDisk<'a>,
+}
+
+impl<'a> TwoDisks<'a> {
+    fn of(old: &'a Disk, new: &'a Disk) -> TwoDisks<'a> {
+        TwoDisks {
+            old: OneDisk::new(old),
+            new: OneDisk::new(new),
+        }
+    }
+}
+
+impl<'a> HostFiles<Opened<'a>> for TwoDisks<'a> {
+    ghost opens = { λ files path file. Unit {0} };
+
+    ghost makes = { λ files path file. Unit {0} };
+
+    fn open(&self, path: &str) -> Result<Opened<'a>, FileFault> {
+        match path {
+            "OLD" => self.old.open("A"),
+            "NEW" => self.new.open("A"),
+            _ => Err(FileFault::Cannot),
+        }
+    }
+
+    fn make(&self, path: &str) -> Result<Opened<'a>, FileFault> {
+        match path {
+            "OLD" => self.old.make("A"),
+            "NEW" => self.new.make("A"),
+            _ => Err(FileFault::Cannot),
+        }
+    }
+
+    fn keep_name(&self, path: &str) -> Result<(), HostFault> {
+        self.new.keep_name(path)
+    }
+}
+
+/// An image of layout 1 of which a save is under way: its gate is open over two blocks that begin with 7, and their homes are blank.
+fn old_image(rt: &impl AllocGlobal) -> Result<Disk, Fail> {
+    let disk = Disk::new(rt)?;
+    let _ = OneDisk::new(&disk).make("A");
+    let mut bytes = disk.copy(rt)?;
+    for home in 67..131_usize {
+        overwrite(bytes.as_mut_slice(), 512 * home, &[b' '; 512]);
+    }
+    make_old(bytes.as_mut_slice(), 7, 7);
+    disk.set(bytes.as_slice());
+    Ok(disk)
+}
+
+/// How many calls of the old image an upgrade makes, and how many of the new one.
+fn calls_of_both(rt: &(impl Files<File = File> + AllocGlobal + Abort)) -> Result<(u64, u64), Fail> {
+    let (old, new) = (old_image(rt)?, Disk::new(rt)?);
+    old.begin(u64::MAX);
+    let left = call_over(rt, &TwoDisks::of(&old, &new), UPGRADE.as_slice(), b"");
+    assert_eq!(rt; left.status, 0);
+    Ok((old.calls(), new.calls()))
+}
+
+/// Upgrades the old image, and finds its blocks in the new one.
+fn check_upgrade(rt: &(impl Files<File = File> + AllocGlobal + Abort), files: &TwoDisks<'_>) {
+    let left = call_over(rt, files, UPGRADE.as_slice(), b"");
+    assert_eq!(rt; (left.status, left.output.is_empty()), (0, true));
+    assert!(rt; left.errors.is_empty());
+    assert!(rt; is_whole(rt, files));
+}
+
+/// Whether the new file is the whole image; else it is none.
+fn is_whole(rt: &(impl Files<File = File> + AllocGlobal + Abort), files: &TwoDisks<'_>) -> bool {
+    let left = call_over(rt, files, &["forth83", "run", "NEW"], BOTH.as_bytes());
+    if left.status == 0 {
+        assert_eq!(rt; left.output.as_slice(), SEVENS.as_bytes());
+        return true;
+    }
+    assert_eq!(rt;
+        (left.status, left.errors.as_slice()),
+        (3, b"forth83: image: no label\n".as_slice())
+    );
+    false
+}
+
+/// Where the calls of either image fail from these on, that is told, nothing is printed, and what has the new name stays from then on. The
+/// power comes back: the old image still has its blocks. Gives whether the new one is whole; else it is none.
+fn upgrade_fails(
+    rt: &(impl Files<File = File> + AllocGlobal + Abort),
+    at: (u64, u64),
+    fate: Fate,
+    told: &str,
+) -> Result<bool, Fail> {
+    let (old, new) = (old_image(rt)?, Disk::new(rt)?);
+    let files = TwoDisks::of(&old, &new);
+    old.begin(at.0);
+    new.begin(at.1);
+    let left = call_over(rt, &files, UPGRADE.as_slice(), b"");
+    assert_eq!(rt; (left.status, left.output.is_empty()), (3, true), "{at:?}");
+    assert_eq!(rt; left.errors.as_slice(), told.as_bytes(), "{at:?}");
+    old.restart(fate);
+    new.restart(fate);
+    new_file_stays(rt, &files, &old, &new)?;
+    let whole = is_whole(rt, &files);
+    let again = Disk::new(rt)?;
+    check_upgrade(rt, &TwoDisks::of(&old, &again));
+    Ok(whole)
+}
+
+/// A second upgrade to the new name is refused, with no call of either image.
+fn new_file_stays(
+    rt: &(impl Files<File = File> + AllocGlobal + Abort),
+    files: &TwoDisks<'_>,
+    old: &Disk,
+    new: &Disk,
+) -> Result<(), Fail> {
+    let before = new.copy(rt)?;
+    let left = call_over(rt, files, UPGRADE.as_slice(), b"");
+    assert_eq!(rt;
+        (left.status, left.errors.as_slice()),
+        (3, b"forth83: image: exists\n".as_slice())
+    );
+    assert_eq!(rt; (old.calls(), new.calls()), (0, 0));
+    assert!(rt; new.copy(rt)? == before);
+    Ok(())
+}
+
+/// Each call of the old image fails, with one fate after another of what wasn't synced: the new file is no image.
+#[test]
+fn upgrades_whose_old_image_fails(rt: HostRuntime) -> Result<(), Fail> {
+    let (calls, _) = calls_of_both(&rt)?;
+    // A recovery of two blocks, and then both sectors of each home.
+    assert_eq!(rt; calls, 15 + 64);
+    for (k, fate) in (0..calls).zip(FATES.iter().cycle()) {
+        let whole = upgrade_fails(&rt, (k, u64::MAX), *fate, DEVICE_FAULT)?;
+        assert!(rt; !whole, "at {k}");
+    }
+    Ok(())
+}
+
+/// Each call of the new one fails, the last ones with each fate: it is no image before the label is written, and then none or the whole one.
+#[test]
+fn upgrades_whose_new_image_fails(rt: HostRuntime) -> Result<(), Fail> {
+    let (_, calls) = calls_of_both(&rt)?;
+    assert_eq!(rt; calls, 4 + 71);
+    let label = calls.saturating_sub(2);
+    for (k, fate) in (0..label).zip(FATES.iter().cycle()) {
+        let whole = upgrade_fails(&rt, (u64::MAX, k), *fate, told_of_making(k, NAMED))?;
+        assert!(rt; !whole, "at {k}");
+    }
+    for k in label..calls {
+        for fate in FATES {
+            let whole = upgrade_fails(&rt, (u64::MAX, k), fate, DEVICE_FAULT)?;
+            assert_eq!(rt;
+                whole,
+                fate == Fate::Kept || fate == Fate::EvenKept,
+                "{fate:?} at {k}"
+            );
+        }
+    }
+    Ok(())
+}
