@@ -7,8 +7,9 @@ use Rattle.sector_disk.specs.Moments.{Elapses}
 use Rattle.sector_disk.specs.declared.device.SectorDevice.{Ghosts}
 use Rattle.journal.proofs.Calls.{Widens}
 use Rattle.journal.proofs.Calls as journal
+use Rattle.journal.specs.Calls as journal_calls
 use Rattle.journal.proofs.Units.{wrote, synced_or_not}
-use Rattle.shadow.specs.Calls.{Passes}
+use Rattle.shadow.specs.Calls.{Passes, Proceeds}
 use Rattle.shadow.specs.Pages.{KeepsPages}
 
 not_both : {T E : Type 0} (result : Result T E) → IsOk result → IsErr result → ⊥
@@ -62,20 +63,50 @@ module _ {D : Type 0} (device : Ghosts D) where
     };
   }
 
-  -- Units stay what they are.
-  pub keeps_on : {T E : Type 0} {result : Result T E} (a b : D) → KeepsPages device a → Passes device a b result → KeepsPages device b
-  keeps_on a b keeps passes = record {
-    model = subst IsTrue (sym passes.model) keeps.model;
-    paged = λ j k same. keeps.paged j k (sym (ap (λ f. f j) (passes.unit keeps.model)) ∙ same ∙ ap (λ f. f k) (passes.unit keeps.model));
+  -- whatever the calls answered
+  pub proceeds : {T E : Type 0} {result : Result T E} (a b : D) → Passes device a b result → Proceeds device a b
+  proceeds a b passes = record {
+    sectors = passes.sectors;
+    model = passes.model;
+    unit = passes.unit;
+    time = passes.time;
+    failures = passes.failures.never_falls;
   }
 
-  pub kept_before : {T E : Type 0} {result : Result T E} (a b : D) → KeepsPages device b → Passes device a b result → KeepsPages device a
-  kept_before a b keeps passes =
-      let honest : IsTrue (device.keeps_model a) = subst IsTrue passes.model keeps.model in
+  pub proceeds_then : (a b d : D) → Widens device → Proceeds device a b → Proceeds device b d → Proceeds device a d
+  proceeds_then a b d widens one two =
+      let both = journal.proceeds_then device a b d widens (without_units a b one) (without_units b d two) in
+      record {
+        sectors = both.sectors;
+        model = both.model;
+        unit = λ keeps. two.unit (subst IsTrue (sym one.model) keeps) ∙ one.unit keeps;
+        time = both.time;
+        failures = both.failures;
+      }
+    where
+      without_units : (a b : D) → Proceeds device a b → journal_calls.Proceeds device a b
+      without_units a b run = record { sectors = run.sectors; model = run.model; time = run.time; failures = run.failures }
+
+  -- Units stay what they are.
+  pub keeps_by : (a b : D) → KeepsPages device a → Proceeds device a b → KeepsPages device b
+  keeps_by a b keeps run = record {
+    model = subst IsTrue (sym run.model) keeps.model;
+    paged = λ j k same. keeps.paged j k (sym (ap (λ f. f j) (run.unit keeps.model)) ∙ same ∙ ap (λ f. f k) (run.unit keeps.model));
+  }
+
+  pub keeps_on : {T E : Type 0} {result : Result T E} (a b : D) → KeepsPages device a → Passes device a b result → KeepsPages device b
+  keeps_on a b keeps passes = keeps_by a b keeps (proceeds a b passes)
+
+  pub kept_by : (a b : D) → KeepsPages device b → Proceeds device a b → KeepsPages device a
+  kept_by a b keeps run =
+      let honest : IsTrue (device.keeps_model a) = subst IsTrue run.model keeps.model in
       record {
         model = honest;
-        paged = λ j k same. keeps.paged j k (ap (λ f. f j) (passes.unit honest) ∙ same ∙ sym (ap (λ f. f k) (passes.unit honest)));
+        paged = λ j k same. keeps.paged j k (ap (λ f. f j) (run.unit honest) ∙ same ∙ sym (ap (λ f. f k) (run.unit honest)));
       }
+
+  pub kept_before : {T E : Type 0} {result : Result T E} (a b : D) → KeepsPages device b → Passes device a b result → KeepsPages device a
+  kept_before a b keeps passes = kept_by a b keeps (proceeds a b passes)
 
 -- the units after a write and after a sync
 pub unit_written : {T E : Type 0} (result : Result T E) (old new : Disk) (k : ℕ) (bytes : List ℕ)

@@ -15,7 +15,7 @@ use Rattle.journal.proofs.Signing.{listed_same}
 use Rattle.recovery.specs.Formatted.{blank_blocks}
 use Rattle.recovery.proofs.Formats.{same_or_not}
 use Rattle.shadow.specs.Clean.{IsClean}
-use Rattle.shadow.specs.Formatted.{InUnit, MayLeaveAround, MakingLeaves, HasFirst, IsFilled, IsLeft, IsPrepared, IsMade, TakenAway, Sealed, placed}
+use Rattle.shadow.specs.Formatted.{InUnit, MayLeaveAround, MakingLeaves, HasFirst, IsFilled, IsLeft, IsUnlabelled, IsPrepared, IsMade, TakenAway, Sealed, PastLabel, placed}
 use Rattle.shadow.specs.Images.{record_of, block_of, Means, meaning}
 use Rattle.shadow.specs.Layout.{HasGoodLabel, label_of, gate_at, record_at, place_at, tag_in}
 use Rattle.shadow.specs.Pages.{InPage, IsPaged}
@@ -107,12 +107,12 @@ first_kept b bytes i j same has = record {
 }
 
 -- one block more
-pub firsts_more : (n : ℕ) (bytes : List ℕ) (i j : Image) → ((k : ℕ) → k < 32 + 16 * n → j k ≡ i k) → HasFirst n bytes j
-    → ((b : ℕ) → b < n → HasFirst b bytes i) → (b : ℕ) → b < n + 1 → HasFirst b bytes j
+pub firsts_more : (n : ℕ) (bytes : ℕ → List ℕ) (i j : Image) → ((k : ℕ) → k < 32 + 16 * n → j k ≡ i k) → HasFirst n (bytes n) j
+    → ((b : ℕ) → b < n → HasFirst b (bytes b) i) → (b : ℕ) → b < n + 1 → HasFirst b (bytes b) j
 firsts_more n bytes i j same here before b below = elim (cases_eq b n) [
-  | inl is ↦ subst (λ a. HasFirst a bytes j) (sym is) here
+  | inl is ↦ subst (λ a. HasFirst a (bytes a) j) (sym is) here
   | inr other ↦
-      first_kept b bytes i j
+      first_kept b (bytes b) i j
       (λ k high low. same k (omega (arith, low, below, other)))
       (before b (omega (arith, below, other)))
 ]
@@ -196,6 +196,13 @@ module _ (n : ℕ) (many : fewest_blocks ≤ n) (few : n ≤ most_blocks) (bytes
   -- The label is written over it.
   pub sealed_means : (blocks : List (List ℕ)) → AreBlocks n bytes blocks → (disk : Disk) (c : Image) → Sealed n image c → MakingLeaves n blocks disk c
   sealed_means blocks are disk c = ⊎_elim (λ bad. inl (unlabelled n c bad)) (λ good. inr (inl (filled_means c good.0 good.1 blocks are)))
+
+pub not_past : ¬ PastLabel 0
+not_past past = absurd (omega (arith, past))
+
+-- Past the label no write puts the good one there, and no stop does.
+pub bad_left : (n : ℕ) (d : Disk) → MayLeave d d.content → IsUnlabelled n d → (c : Image) → IsAsSynced PastLabel d c → c 0 ≢ label_of n
+bad_left n d present bad c is good = bad.label (present 0 (bad.synced 0) ∙ sym (is 0 not_past (bad.synced 0)) ∙ good)
 
 -- The label is being written.
 pub sealed : (n : ℕ) (disk : Disk) → MayLeave disk disk.content → ((k : ℕ) → disk.unsynced k ≡ false) → (c : Image) → IsAsSynced (InPage 0) disk c → Sealed n disk.content c

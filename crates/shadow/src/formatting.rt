@@ -72,7 +72,7 @@ fn write_places<D: SectorDevice>(
 }
 
 // Writes block `b` to its first place, with its tag, and clears the tag of its second one. The tag is put into a sum.
-fn write_block<D: SectorDevice>(
+pub(crate) fn write_block<D: SectorDevice>(
     device: &mut D,
     b: u16,
     bytes: &[u8; 1024],
@@ -128,7 +128,10 @@ fn blanks() -> [u8; 1024]
 }
 
 // Closes the gate, clears the record that it doesn't name, and writes the other one.
-fn fill_head<D: SectorDevice>(device: &mut D, listing: &[u8; 512]) -> Result<(), DeviceFault>
+pub(crate) fn fill_head<D: SectorDevice>(
+    device: &mut D,
+    listing: &[u8; 512],
+) -> Result<(), DeviceFault>
     requires { 32 ≤ D.sector_count device.old }
     ensures ok { KeepsPages D.SectorDevice device.old → OnOk result (D.disk device.new
         ≡ written (written (written (D.disk device.old) gate_at (replicate 512 0)) (record_at true) (replicate 512 0)) (record_at false) listing.now) }
@@ -170,7 +173,10 @@ fn clear_label<D: SectorDevice>(device: &mut D) -> Result<(), DeviceFault>
 }
 
 // Makes what is there stay, and takes a good label away, if one stands there.
-fn unlabel<D: SectorDevice>(device: &mut D, blocks: BlockCount) -> Result<(), DeviceFault>
+pub(crate) fn unlabel<D: SectorDevice>(
+    device: &mut D,
+    blocks: BlockCount,
+) -> Result<(), DeviceFault>
     requires size { D.sector_count device.old ≡ sectors_for blocks.number }
     ensures ok { KeepsPages D.SectorDevice device.old → OnOk result (IsUnlabelled blocks.number (D.disk device.new)) }
     ensures rest { KeepsPages D.SectorDevice device.old
@@ -235,7 +241,7 @@ fn prepare<D: SectorDevice>(
 }
 
 // Writes the label over an image whose other sectors are synced.
-fn seal<D: SectorDevice>(device: &mut D, blocks: BlockCount) -> Result<(), DeviceFault>
+pub(crate) fn seal<D: SectorDevice>(device: &mut D, blocks: BlockCount) -> Result<(), DeviceFault>
     requires size { D.sector_count device.old ≡ sectors_for blocks.number }
     requires synced { KeepsPages D.SectorDevice device.old → (k : ℕ) → (D.disk device.old).unsynced k ≡ false }
     ensures ok { KeepsPages D.SectorDevice device.old

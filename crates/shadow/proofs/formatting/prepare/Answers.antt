@@ -1,21 +1,15 @@
-use Rattle.std.proofs.Common.{◌≢◌, ◌∙◌, ℕ, replicate, refl, sym, ap, subst, arith}
+use Rattle.std.proofs.Common.{◌≢◌, ◌∙◌, replicate, refl, sym, ap, subst}
 use Rattle.std.proofs.lemmas.Result.{on_ok_weaker}
-use Rattle.sector_disk.specs.Disk.{Disk, Image, MayLeave, MayLeaveEither}
+use Rattle.sector_disk.specs.Disk.{Disk, MayLeaveEither}
 use Rattle.sector_disk.proofs.Moments.{leaves_then}
 use Rattle.journal.proofs.Units.{synced_or_not, sync_left}
-use Rattle.shadow.specs.Formatted.{IsUnlabelled, IsPrepared, PastLabel}
+use Rattle.shadow.specs.Formatted.{IsPrepared, PastLabel}
 use Rattle.shadow.specs.Layout.{label_of}
 use Rattle.shadow.specs.Steps.{IsAsSynced}
+use Rattle.shadow.proofs.Formats.{not_past, bad_left}
 use Rattle.shadow.proofs.Calls.{keeps_on, passes_then, passes_by, unit_synced}
 use Rattle.shadow.proofs.Pages.{now_left}
 use Rattle.shadow.proofs.formatting.prepare.Goals as goal
-
-not_past : ¬ PastLabel 0
-not_past past = absurd (omega (arith, past))
-
--- No stop puts the good label there.
-bad_left : (n : ℕ) (d : Disk) → MayLeave d d.content → IsUnlabelled n d → (c : Image) → IsAsSynced PastLabel d c → c 0 ≢ label_of n
-bad_left n d present bad c is good = bad.label (present 0 (bad.synced 0) ∙ sym (is 0 not_past (bad.synced 0)) ∙ good)
 
 pub returns-clause-ok : goal.returns-clause-ok
 returns-clause-ok g c = λ keeps.
