@@ -1,4 +1,4 @@
-//! Tests of layout 3 by its public calls alone: bytes, tags, sums, and how many calls a save makes. The digests are Python's.
+//! Tests of layout 3 by its public calls alone: bytes, tags, sums, how many calls a save makes, and what a stop leaves. The digests are Python's.
 #![tactic(auto)]
 
 #[cfg(test)]
@@ -11,3 +11,5 @@ mod openings;
 mod saves;
 #[cfg(test)]
 mod tags;
+#[cfg(test)]
+mod upgrades;
