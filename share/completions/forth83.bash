@@ -1,21 +1,18 @@
-# Completions of forth83 for bash: source this file.
+# Completions of forth83 for bash: source this file. What the commands and their options are, the program's help says.
 _forth83() {
-    local word=${COMP_WORDS[COMP_CWORD]}
+    local word=${COMP_WORDS[COMP_CWORD]} program=${COMP_WORDS[0]/#\~/$HOME} command=${COMP_WORDS[1]} offered
+    local commands='/^Commands:/,/^$/s/^  \([a-z]*\) .*/\1/p'
+    local options='/^Options:/,/^$/s/^ *\(-[a-zA-Z], \)\{0,1\}\(--[a-z-]*\).*/\2/p'
     if [ "$COMP_CWORD" -eq 1 ]; then
-        COMPREPLY=($(compgen -W 'new run list put export import check upgrade copy salvage help --help -h --version -V' -- "$word"))
+        offered=$("$program" --help 2>/dev/null | sed -n -e "$commands" -e "$options")
+    elif [ "$command" = help ]; then
+        [ "$COMP_CWORD" -gt 2 ] || offered=$("$program" --help 2>/dev/null | sed -n -e "$commands")
+    elif [ "${word:0:1}" = - ]; then
+        offered=$("$program" "$command" --help 2>/dev/null | sed -n -e "$options")
+    else
+        COMPREPLY=($(compgen -f -- "$word"))
         return
     fi
-    case ${COMP_WORDS[1]},$word in
-        help,*) [ "$COMP_CWORD" -gt 2 ] || COMPREPLY=($(compgen -W 'new run list put export import check upgrade copy salvage' -- "$word")) ;;
-        *,-*)
-            case ${COMP_WORDS[1]} in
-                new | copy | salvage) COMPREPLY=($(compgen -W '--blocks --help' -- "$word")) ;;
-                export) COMPREPLY=($(compgen -W '--raw --help' -- "$word")) ;;
-                import) COMPREPLY=($(compgen -W '--raw --check --help' -- "$word")) ;;
-                run) COMPREPLY=($(compgen -W '--steps --trace --help' -- "$word")) ;;
-                *) COMPREPLY=($(compgen -W '--help' -- "$word")) ;;
-            esac ;;
-        *) COMPREPLY=($(compgen -f -- "$word")) ;;
-    esac
+    COMPREPLY=($(compgen -W "$offered" -- "$word"))
 }
 complete -o filenames -F _forth83 forth83
