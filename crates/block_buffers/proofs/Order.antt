@@ -6,7 +6,7 @@ use Rattle.std.specs.List.{All}
 use Rattle.std.specs.Map.{lookup, lookup_entry, remove_entry}
 use Rattle.std.specs.Option.{option_map_or}
 use Rattle.lru.specs.LruCache.{promoted, last_entry}
-use Rattle.block_buffers.specs.declared.Assigned.{Assigned}
+use Rattle.block_buffers.specs.declared.buffers.Assigned.{Assigned}
 use Rattle.block_buffers.specs.Buffers.{Buffers, assigned, slot_in, without, touched, touched_if, after_touch, oldest, slot_for, placed, marked, with_mark, cleared, unmarked, IsApart, AreApart, SlotsBelow, IsValid}
 use Rattle.block_buffers.specs.Seen.{assigned_at, seen}
 

@@ -1,6 +1,6 @@
 -- The definitions computed on small sessions. A buffer's address is 61,440 and 1,024 for each slot.
 use Rattle.std.proofs.Common.{◌≡◌, ℕ, true, List, [], ◌∷◌, Option, Some, None, refl}
-use Rattle.block_buffers.specs.declared.Assigned.{Assigned}
+use Rattle.block_buffers.specs.declared.buffers.Assigned.{Assigned}
 use Rattle.block_buffers.specs.Buffers.{Buffers, none_assigned, assigned, slot_of, touched, oldest, placed, after_mark, updated_ones, unmarked}
 
 abbrev used_if : Option Assigned → Buffers → ℕ → Buffers

@@ -1,6 +1,6 @@
 -- At most four assigned buffers, the most recently used first, and the current one.
 use Rattle.std.specs.Prelude.{◌≡◌, ◌≢◌, ℕ, ◌<◌, ◌≤◌, true, false, not, ◌==◌, if◌then◌else◌, List, [], ◌∷◌, length, map, filter, take, Option, Some, None}
-use Rattle.block_buffers.specs.declared.Assigned.{Assigned}
+use Rattle.block_buffers.specs.declared.buffers.Assigned.{Assigned}
 
 pub record Buffers : Type 0 where
   pub list : List Assigned

@@ -1,6 +1,6 @@
 -- How what is kept is seen: a cache from blocks to slots, the most recently used first, and a mark for each slot.
 use Rattle.std.specs.Prelude.{ℕ, Bool, false, List, map, slice_index_or}
-use Rattle.block_buffers.specs.declared.Assigned.{Assigned}
+use Rattle.block_buffers.specs.declared.buffers.Assigned.{Assigned}
 use Rattle.block_buffers.specs.Buffers.{Buffers, first_block}
 
 abbrev pub assigned_at : List Bool → ℕ × ℕ → Assigned

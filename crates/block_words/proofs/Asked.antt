@@ -5,9 +5,9 @@ use Rattle.sector_disk.specs.Disk.{Image, MayLeave}
 use Rattle.sector_disk.specs.declared.device.SectorDevice.{Ghosts}
 use Rattle.sector_disk.proofs.Moments.{elapses_refl}
 use Rattle.block_buffers.specs.Buffers.{slot_of}
-use Rattle.block_words.specs.declared.BlockFault.{BlockFault}
-use Rattle.block_words.specs.declared.BlockFault.TheVariants.{NoBlock, NoBuffer, Device, Closed, Memory}
-use Rattle.block_words.specs.declared.Blocks.{Blocks}
+use Rattle.block_words.specs.declared.buffered_blocks.BlockFault.{BlockFault}
+use Rattle.block_words.specs.declared.buffered_blocks.BlockFault.TheVariants.{NoBlock, NoBuffer, Device, Closed, Memory}
+use Rattle.block_words.specs.declared.buffered_blocks.Blocks.{Blocks}
 use Rattle.journal.specs.declared.store.Store.{Store}
 use Rattle.block_words.specs.Promises.{TellsFailures, AsksFor}
 use Rattle.block_words.proofs.Lists.{none_past}

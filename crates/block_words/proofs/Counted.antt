@@ -1,8 +1,8 @@
 -- A count of failures that goes up by what is told, call by call.
 use Rattle.std.proofs.Common.{◌≡◌, ℕ, zero, suc, ◌+◌, Result, Ok, Err, ◌∙◌, ap, arith, add-one}
 use Rattle.sector_disk.specs.Counting.{count_up, count_up_by}
-use Rattle.block_words.specs.declared.BlockFault.{BlockFault}
-use Rattle.block_words.specs.declared.BlockFault.TheVariants.{NoBlock, NoBuffer, Device, Closed, Memory}
+use Rattle.block_words.specs.declared.buffered_blocks.BlockFault.{BlockFault}
+use Rattle.block_words.specs.declared.buffered_blocks.BlockFault.TheVariants.{NoBlock, NoBuffer, Device, Closed, Memory}
 use Rattle.block_words.specs.Calls.{failures_after, counted_after}
 
 -- what was told before a call and by it is what is told after it

@@ -11,10 +11,10 @@ use Rattle.journal.specs.declared.store.StoreFault.TheVariants.{Device as Device
 use Rattle.journal.specs.Images.{Means}
 use Rattle.data_space.specs.Space.{buffer_at, buffer_bytes, with_bytes}
 use Rattle.journal.specs.Maps.{Maps, contents, shut}
-use Rattle.block_buffers.specs.declared.Assigned.{Assigned}
+use Rattle.block_buffers.specs.declared.buffers.Assigned.{Assigned}
 use Rattle.block_buffers.specs.Buffers.{Buffers, assigned, oldest, slot_for, placed, slot_in, touched_if}
-use Rattle.block_words.specs.declared.BlockFault.{BlockFault}
-use Rattle.block_words.specs.declared.BlockFault.TheVariants.{NoBlock, Device, Closed, Memory}
+use Rattle.block_words.specs.declared.buffered_blocks.BlockFault.{BlockFault}
+use Rattle.block_words.specs.declared.buffered_blocks.BlockFault.TheVariants.{NoBlock, Device, Closed, Memory}
 use Rattle.block_words.specs.Words.{Answer, Well, Failed, Save, Wear, no_wear, add_wear, worn, read_wear, spill_wear, Blocks, BlockOutcome, Gives, Fails, spill_if, spill_oldest, open_store, device_call, answered, first_answer, give_buffer, assign, block, buffer, source}
 use Rattle.block_words.specs.Rooms.{spilled_if, room_made, is_updated, room_wear}
 use Rattle.block_words.specs.Faults.{of_store}

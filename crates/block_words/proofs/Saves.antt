@@ -16,10 +16,10 @@ use Rattle.journal.specs.Store.{Continues, StandsFor, KeepsSaved, SavesAllOrNone
 use Rattle.block_words.specs.Parts.{ChangesAllOrNone}
 use Rattle.block_words.specs.Uses.{is_among, is_changed, changed_count}
 use Rattle.data_space.specs.Space.{buffer_bytes}
-use Rattle.block_buffers.specs.declared.Assigned.{Assigned}
+use Rattle.block_buffers.specs.declared.buffers.Assigned.{Assigned}
 use Rattle.block_buffers.specs.Buffers.{Buffers, updated_ones}
-use Rattle.block_words.specs.declared.BlockFault.{BlockFault}
-use Rattle.block_words.specs.declared.BlockFault.TheVariants.{Device}
+use Rattle.block_words.specs.declared.buffered_blocks.BlockFault.{BlockFault}
+use Rattle.block_words.specs.declared.buffered_blocks.BlockFault.TheVariants.{Device}
 use Rattle.block_words.specs.Words.{Answer, Well, Failed, Save, Wear, no_wear, add_wear, spill_wear, commit_wear, pending_number, Blocks, BlockOutcome, Gives, Fails, spill_each, open_store, commit, returned, all_spilled, next_map, save_and}
 use Rattle.block_words.specs.Calls.{state, ended, failures_after, WordRuns, WearsAtMost, CallKeeps, save_begun}
 use Rattle.block_words.proofs.Runs.{saved_then}

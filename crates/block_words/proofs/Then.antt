@@ -9,7 +9,7 @@ use Rattle.journal.specs.Images.{Means}
 use Rattle.journal.specs.Maps.{Maps}
 use Rattle.journal.specs.Store.{Continues}
 use Rattle.block_buffers.specs.Buffers.{Buffers}
-use Rattle.block_words.specs.declared.BlockFault.{BlockFault}
+use Rattle.block_words.specs.declared.buffered_blocks.BlockFault.{BlockFault}
 use Rattle.block_words.specs.Words.{Save, Wear, add_wear, Blocks, BlockOutcome}
 use Rattle.block_words.specs.Kept.{KeptFrom, last_map}
 use Rattle.block_words.specs.Calls.{state, ended, failures_after, and_then, WordRuns, CallKeeps, CallRuns}

@@ -7,7 +7,7 @@ use Rattle.journal.specs.Images.{slot_of}
 use Rattle.journal.specs.Layout.{count_below}
 use Rattle.journal.specs.Maps.{Maps, any_pending}
 use Rattle.journal.specs.Store.{StandsFor, is_pending, pending_count}
-use Rattle.block_buffers.specs.declared.Assigned.{Assigned}
+use Rattle.block_buffers.specs.declared.buffers.Assigned.{Assigned}
 use Rattle.block_words.specs.Words.{Wear, no_wear, add_wear, spill_wear, commit_wear, pending_number}
 use Rattle.block_words.specs.Calls.{WearsAtMost}
 

@@ -10,8 +10,8 @@ use Rattle.journal.specs.Images.{Means}
 use Rattle.journal.specs.Maps.{Maps}
 use Rattle.journal.specs.Store.{StandsFor}
 use Rattle.block_buffers.specs.Buffers.{Buffers}
-use Rattle.block_words.specs.declared.BlockFault.{BlockFault}
-use Rattle.block_words.specs.declared.BlockFault.TheVariants.{Device}
+use Rattle.block_words.specs.declared.buffered_blocks.BlockFault.{BlockFault}
+use Rattle.block_words.specs.declared.buffered_blocks.BlockFault.TheVariants.{Device}
 use Rattle.block_words.specs.Words.{Answer, Save, Wear, add_wear, Blocks, BlockOutcome, Gives, Fails}
 use Rattle.block_words.specs.Kept.{KeptFrom, last_map}
 

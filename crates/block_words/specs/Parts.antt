@@ -8,7 +8,7 @@ use Rattle.journal.specs.Images.{Means}
 use Rattle.journal.specs.Maps.{Maps}
 use Rattle.journal.specs.Store.{StandsFor, blocks_of}
 use Rattle.block_buffers.specs.Buffers.{Buffers, slot_of, updated_ones, IsValid}
-use Rattle.block_words.specs.declared.Blocks.{Blocks}
+use Rattle.block_words.specs.declared.buffered_blocks.Blocks.{Blocks}
 use Rattle.block_words.specs.Words.{next_map}
 use Rattle.block_words.specs.Uses.{changed_count}
 

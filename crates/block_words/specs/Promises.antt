@@ -4,9 +4,9 @@ use Rattle.sector_disk.specs.declared.device.SectorDevice.{Ghosts}
 use Rattle.journal.specs.declared.store.Store.{Store}
 use Rattle.journal.specs.Store.{Continues, DeviceBegins, DeviceReads, KeepsSaved, blocks_of, is_pending, pending_count}
 use Rattle.block_buffers.specs.Buffers.{Buffers, slot_of, updated_ones}
-use Rattle.block_words.specs.declared.BlockFault.{BlockFault}
-use Rattle.block_words.specs.declared.BlockFault.TheVariants.{NoBlock, NoBuffer, Device, Closed}
-use Rattle.block_words.specs.declared.Blocks.{Blocks}
+use Rattle.block_words.specs.declared.buffered_blocks.BlockFault.{BlockFault}
+use Rattle.block_words.specs.declared.buffered_blocks.BlockFault.TheVariants.{NoBlock, NoBuffer, Device, Closed}
+use Rattle.block_words.specs.declared.buffered_blocks.Blocks.{Blocks}
 use Rattle.block_words.specs.Calls.{counted_after}
 use Rattle.block_words.specs.Parts.{HasNoBuffer, ChangesAllOrNone, LeavesChanged}
 use Rattle.block_words.specs.Uses.{changed_count}

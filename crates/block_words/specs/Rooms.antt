@@ -2,8 +2,8 @@
 use Rattle.std.specs.Prelude.{◌≡◌, ◌++◌, ◌+◌, ◌*◌, ℕ, length, Bool, true, false, ◌&&◌, List, [], ◌∷◌, Option, Some, None, nat_lt, Result, Ok, Err}
 use Rattle.data_space.specs.Space.{buffer_at, buffer_bytes, with_bytes}
 use Rattle.journal.specs.Maps.{Maps, spilled}
-use Rattle.block_buffers.specs.declared.Assigned.{Assigned}
-use Rattle.block_words.specs.declared.BlockFault.{BlockFault}
+use Rattle.block_buffers.specs.declared.buffers.Assigned.{Assigned}
+use Rattle.block_words.specs.declared.buffered_blocks.BlockFault.{BlockFault}
 use Rattle.block_words.specs.Words.{Wear, no_wear, spill_wear}
 
 abbrev pub spilled_if : Bool → Assigned → List ℕ → Maps → Maps

@@ -5,11 +5,11 @@ use Rattle.journal.specs.declared.store.Store.{Store}
 use Rattle.journal.specs.Layout.{count_below}
 use Rattle.journal.specs.Store.{blocks_of, is_pending, text_of}
 use Rattle.data_space.specs.Space.{buffer_at, buffer_bytes, with_bytes}
-use Rattle.block_buffers.specs.declared.Assigned.{Assigned}
+use Rattle.block_buffers.specs.declared.buffers.Assigned.{Assigned}
 use Rattle.block_buffers.specs.Buffers.{Buffers, assigned, slot_of, touched, oldest, slot_for, placed, updated_ones}
-use Rattle.block_words.specs.declared.BlockFault.{BlockFault}
-use Rattle.block_words.specs.declared.TextPlace.{TextPlace}
-use Rattle.block_words.specs.declared.TextPlace.TheVariants.{InBuffer, InStore}
+use Rattle.block_words.specs.declared.buffered_blocks.BlockFault.{BlockFault}
+use Rattle.block_words.specs.declared.buffered_blocks.TextPlace.{TextPlace}
+use Rattle.block_words.specs.declared.buffered_blocks.TextPlace.TheVariants.{InBuffer, InStore}
 
 abbrev pub used_if : Option Assigned → Buffers → ℕ → Buffers
 used_if (Some x) buffers u = touched buffers x

@@ -1,7 +1,7 @@
 -- That the list of buffers is valid has one proof at most, so a struct may hold it.
 use Rattle.std.specs.Prelude.{◌≡◌, ◌≢◌, ℕ, List, [], ◌∷◌}
 use Rattle.std.specs.Coded.{×_prop, →_prop, Unit-prop, le_prop}
-use Rattle.block_buffers.specs.declared.Assigned.{Assigned}
+use Rattle.block_buffers.specs.declared.buffers.Assigned.{Assigned}
 use Rattle.block_buffers.specs.Buffers.{IsApart, AreApart, SlotsBelow}
 
 differ-prop : (a b : ℕ) → IsProp (a ≢ b)

@@ -6,7 +6,7 @@ use Rattle.cell_machine.specs.Layout.{Means, Cell, IsIn, IsStill, Forward, Back,
 use Rattle.cell_machine.proofs.Laid.{means_more, at_once, stays, goes_on, hops_once}
 use Rattle.compiler.specs.declared.opens.Open.{Open}
 use Rattle.compiler.specs.declared.opens.Open.TheVariants as open_at
-use Rattle.compiler.specs.declared.Compiler.{Compiler}
+use Rattle.compiler.specs.declared.definition.Compiler.{Compiler}
 use Rattle.compiler.specs.Definition.{Begun, AfterIf, AfterElse, AfterBegin, AfterWhile, AfterDo, Definition, Adds, add_then, add_until, add_repeat, add_loop, then_of, until_of, repeat_of, loop_of}
 use Rattle.compiler.specs.Represents.{Waits, Within, Chain, Patched, Stands, Represents, Holds, IsSound}
 use Rattle.compiler.specs.Promise.{SameBelow, Added}

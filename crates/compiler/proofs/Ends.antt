@@ -4,7 +4,7 @@ use Rattle.std.specs.Prelude.{slice_index, OnOk, IsOk, Result, Ok, Err}
 use Rattle.cell_machine.specs.Tree.{Trees, End}
 use Rattle.cell_machine.specs.Layout.{Means, Cell, NoLeaves, Later, Body, does_cell, end_cell, most_cells}
 use Rattle.cell_machine.proofs.Laid.{means_more}
-use Rattle.compiler.specs.declared.Compiler.{Compiler}
+use Rattle.compiler.specs.declared.definition.Compiler.{Compiler}
 use Rattle.compiler.specs.Definition.{Definition, Adds, outside, with_cells, add_does, end_definition, body_of}
 use Rattle.compiler.specs.Represents.{Waits, Segment, Fixed, Stands, Ended, Represents, Holds, name_of, used}
 use Rattle.compiler.specs.Promise.{SameBelow, Added, Opened, Finished, on_open}

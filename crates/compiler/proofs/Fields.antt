@@ -2,7 +2,7 @@
 use Rattle.std.proofs.Common.{◌≡◌, ℕ, List, ◌∷◌, drop, ap, ◌∙◌, Option, Some}
 use Rattle.std.specs.Prelude.{unwrap_or}
 use Rattle.compiler.specs.declared.opens.Open.{Open}
-use Rattle.compiler.specs.declared.Compiler.{Compiler}
+use Rattle.compiler.specs.declared.definition.Compiler.{Compiler}
 
 after_closing : (s p : Compiler) (o : Open) (rest after : List Open) (here : ℕ) → p ≡ record s { here = here } → after ≡ drop 1 p.opens → s.opens ≡ o ∷ rest → after ≡ rest
 after_closing s p o rest after here e a is = a ∙ ap (λ (n : Compiler). drop 1 n.opens) e ∙ ap (drop 1) is

@@ -8,7 +8,7 @@ use Rattle.cell_machine.specs.Layout.{Means, Cell, IsIn, IsStill, test_cell, jum
 use Rattle.cell_machine.proofs.Laid.{means_more, stays}
 use Rattle.compiler.specs.declared.opens.Open.{Open}
 use Rattle.compiler.specs.declared.opens.Open.TheVariants as open_at
-use Rattle.compiler.specs.declared.Compiler.{Compiler}
+use Rattle.compiler.specs.declared.definition.Compiler.{Compiler}
 use Rattle.compiler.specs.Definition.{Begun, AfterIf, AfterElse, AfterBegin, AfterWhile, AfterDo, Definition, Adds, tested, with_cells, most_begun, begin, add_if, add_else, add_begin, add_while, add_do, else_of, while_of}
 use Rattle.compiler.specs.Represents.{Waits, Within, Segment, Fixed, Started, Stands, Represents, Holds}
 use Rattle.compiler.specs.Promise.{SameBelow, Added}

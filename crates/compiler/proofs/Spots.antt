@@ -3,7 +3,7 @@ use Rattle.std.proofs.Common.{◌≡◌, ℕ, ◌+◌, ◌≤◌, true, false, L
 use Rattle.cell_machine.specs.Layout.{most_cells}
 use Rattle.compiler.specs.declared.opens.Open.{Open}
 use Rattle.compiler.specs.declared.opens.Open.TheVariants as open_at
-use Rattle.compiler.specs.declared.Compiler.{Compiler}
+use Rattle.compiler.specs.declared.definition.Compiler.{Compiler}
 use Rattle.compiler.specs.Definition.{Begun, AfterIf, AfterElse, AfterWhile, AfterDo, Definition}
 use Rattle.compiler.specs.Represents.{Stands, Represents, IsSound}
 use Rattle.compiler.proofs.Grows.{stands_le, ended_le}

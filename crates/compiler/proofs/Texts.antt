@@ -5,7 +5,7 @@ use Rattle.cell_machine.specs.Tree.{End, Text, TextKind, Prints, AbortsWith}
 use Rattle.cell_machine.specs.Layout.{Cell, IsIn, TextAt, Bytes, Reaches, text_cells, text_length, text_cell, jump_cell, back_cell, most_cells}
 use Rattle.cell_machine.proofs.Laid.{at_once, stays}
 use Rattle.cell_machine.proofs.Texts.{cells_are}
-use Rattle.compiler.specs.declared.Compiler.{Compiler}
+use Rattle.compiler.specs.declared.definition.Compiler.{Compiler}
 use Rattle.compiler.specs.Definition.{Adds, with_tree, add, add_text}
 use Rattle.compiler.specs.Promise.{SameBelow, Added}
 use Rattle.compiler.proofs.Grows.{Lies}

@@ -3,13 +3,13 @@ use Rattle.std.specs.Prelude.{◌≡◌, ℕ, ◌+◌, ◌<◌, List, [], slice_
 use Rattle.cell_machine.specs.Fault.{Fault, NoDefinition, DefinitionOpen, Unbalanced, CodeFull}
 use Rattle.cell_machine.specs.Tree.{TextKind as Kind, Prints, AbortsWith, LoopKind, ByOne, ByTop}
 use Rattle.cell_machine.specs.Layout.{Cell, Body}
-use Rattle.compiler.specs.declared.Refusal.{Refusal}
-use Rattle.compiler.specs.declared.Refusal.TheVariants as refusal
-use Rattle.compiler.specs.declared.LoopEnd.{LoopEnd}
-use Rattle.compiler.specs.declared.LoopEnd.TheVariants as loop_end
-use Rattle.compiler.specs.declared.TextKind.{TextKind}
-use Rattle.compiler.specs.declared.TextKind.TheVariants as text_kind
-use Rattle.compiler.specs.declared.Compiler.{Compiler}
+use Rattle.compiler.specs.declared.definition.Refusal.{Refusal}
+use Rattle.compiler.specs.declared.definition.Refusal.TheVariants as refusal
+use Rattle.compiler.specs.declared.structures.LoopEnd.{LoopEnd}
+use Rattle.compiler.specs.declared.structures.LoopEnd.TheVariants as loop_end
+use Rattle.compiler.specs.declared.definition.TextKind.{TextKind}
+use Rattle.compiler.specs.declared.definition.TextKind.TheVariants as text_kind
+use Rattle.compiler.specs.declared.definition.Compiler.{Compiler}
 use Rattle.compiler.specs.Definition.{Definition, Adding, Adds, Refuses, opened, end_definition, body_of}
 use Rattle.compiler.specs.Represents.{IsClosed, Holds, used}
 

@@ -5,7 +5,7 @@ use Rattle.cell_machine.specs.Tree.{Trees, End}
 use Rattle.cell_machine.specs.Layout.{Means, Cell, IsIn, IsStill, NoLeaves, test_cell, jump_cell, do_cell, does_cell, most_cells}
 use Rattle.compiler.specs.declared.opens.Open.{Open}
 use Rattle.compiler.specs.declared.opens.Open.TheVariants as open_at
-use Rattle.compiler.specs.declared.Compiler.{Compiler}
+use Rattle.compiler.specs.declared.definition.Compiler.{Compiler}
 use Rattle.compiler.specs.Definition.{Begun, AfterIf, AfterElse, AfterBegin, AfterWhile, AfterDo, Definition}
 
 -- a cell in which a LEAVE will say where it goes

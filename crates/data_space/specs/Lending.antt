@@ -3,7 +3,7 @@ use Rattle.std.specs.Prelude.{ℕ, List, length}
 use Rattle.std.specs.List.{refill}
 use Rattle.std.specs.Borrow.{Lends, MutBor, Fml, Array, u8}
 use Rattle.data_space.specs.Space.{with_bytes, buffer_at}
-use Rattle.data_space.specs.contracts.DataSpace.{the_row}
+use Rattle.data_space.specs.contracts.space.DataSpace.{the_row}
 
 -- the bytes that the loan left
 abbrev pub LendsBytes : MutBor (List ℕ) → MutBor (List ℕ) → Fml

@@ -4,7 +4,7 @@
 ghost use Rattle.std.specs.Prelude.{◌≡◌, ◌+◌, ◌≤◌, ◌↔◌, if◌then◌else◌, length, IsTrue, IsSome, IfSome};
 ghost use Rattle.data_space.specs.Space.{Fits, byte_at, with_byte, cell_at, with_cell, bytes_at, moved_up, moved_down, filled};
 
-use super::SIZE;
+use crate::SIZE;
 use crate::moves::{copy_down, copy_up};
 use byteorder::{ByteOrder, LittleEndian};
 

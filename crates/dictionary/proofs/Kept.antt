@@ -5,7 +5,7 @@ use Rattle.std.specs.Option.{option_map}
 use Rattle.std.proofs.lemmas.Bool.Decides.{nat_tests}
 use Rattle.std.proofs.lemmas.Grind.{common_steps}
 use Rattle.dictionary.specs.declared.chains.Header.{Header}
-use Rattle.dictionary.specs.declared.Kind.TheVariants as Kind
+use Rattle.dictionary.specs.declared.words.Kind.TheVariants as Kind
 use Rattle.std.proofs.lemmas.Option.{slice_get_past}
 use Rattle.dictionary.specs.Words.{same_text, find_in, entry}
 use Rattle.dictionary.specs.Dictionary.{Named, kind_of, body_of, cell_of}

@@ -1,7 +1,7 @@
 -- The definitions computed on small sessions.
 use Rattle.std.proofs.Common.{◌≡◌, ℕ, true, false, List, [], length, codes, Some, None, refl}
-use Rattle.dictionary.specs.declared.Kind.TheVariants as given
-use Rattle.dictionary.specs.declared.DictionaryFault.TheVariants.{Protected, NotCreated, NameLength}
+use Rattle.dictionary.specs.declared.words.Kind.TheVariants as given
+use Rattle.dictionary.specs.declared.words.DictionaryFault.TheVariants.{Protected, NotCreated, NameLength}
 use Rattle.dictionary.specs.Words.{find, forth_token, system_count}
 use Rattle.dictionary.specs.System.{compile_only_token}
 use Rattle.dictionary.specs.Dictionary.{Dictionary, first_dictionary, with_word, add_refusal, immediate_refusal, does_refusal, forget_refusal, forgotten}

@@ -1,10 +1,10 @@
 -- What a contract sees of a dictionary, and what each call changes.
 use Rattle.std.specs.Prelude.{ℕ, ◌<◌, ◌≤◌, Bool, false, not, nat_le, nat_lt, ◌==◌, ◌||◌, ◌&&◌, if◌then◌else◌, List, [], ◌∷◌, ◌++◌, length, Option, Some, None}
-use Rattle.dictionary.specs.declared.Word.{Word as GivenWord}
-use Rattle.dictionary.specs.declared.Kind.{Kind as GivenKind}
-use Rattle.dictionary.specs.declared.Kind.TheVariants as given
-use Rattle.dictionary.specs.declared.DictionaryFault.{DictionaryFault}
-use Rattle.dictionary.specs.declared.DictionaryFault.TheVariants.{NameLength, Full, Protected, NotCreated}
+use Rattle.dictionary.specs.declared.words.Word.{Word as GivenWord}
+use Rattle.dictionary.specs.declared.words.Kind.{Kind as GivenKind}
+use Rattle.dictionary.specs.declared.words.Kind.TheVariants as given
+use Rattle.dictionary.specs.declared.words.DictionaryFault.{DictionaryFault}
+use Rattle.dictionary.specs.declared.words.DictionaryFault.TheVariants.{NameLength, Full, Protected, NotCreated}
 use Rattle.dictionary.specs.Words.{Kind, Word, Primitive, Colon, Created, Constant, Vocabulary, is_name, most_words, system_count, forth_token, older, kept, with_part}
 use Rattle.dictionary.specs.System.{first_words}
 

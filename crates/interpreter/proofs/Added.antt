@@ -7,8 +7,8 @@ use Rattle.cell_machine.specs.Frames.{Core}
 use Rattle.cell_machine.specs.Value.{Outcome, Ends}
 use Rattle.dictionary.specs.Words.{is_name, most_words}
 use Rattle.compiler.specs.Definition.{Definition, Adding, Adds, Refuses}
-use Rattle.lexicon.specs.declared.Lexicon.{Lexicon}
-use Rattle.lexicon.specs.declared.Refusal.{Refusal}
+use Rattle.lexicon.specs.declared.language.Lexicon.{Lexicon}
+use Rattle.lexicon.specs.declared.language.Refusal.{Refusal}
 use Rattle.lexicon.specs.Adding.{MayBeAdded}
 use Rattle.lexicon.specs.Stands.{Stands as Means}
 use Rattle.lexicon.specs.Promise.{Goes, Stops, Becomes, fault_of}

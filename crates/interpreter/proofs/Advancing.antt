@@ -6,7 +6,7 @@ use Rattle.std.proofs.KnownBytes.{Consumes-nil, Appends-nil}
 use Rattle.sector_disk.specs.declared.device.SectorDevice.{Ghosts}
 use Rattle.block_words.specs.Words.{Wear, Answer, Save}
 use Rattle.block_words.specs.Parts.{store_of}
-use Rattle.block_words.specs.declared.Blocks.{Blocks}
+use Rattle.block_words.specs.declared.buffered_blocks.Blocks.{Blocks}
 use Rattle.journal.specs.Store.{device_of}
 use Rattle.stacks.specs.declared.return_stack.Entry.{Entry}
 use Rattle.stacks.specs.declared.return_stack.Entry.TheVariants.{Load as LoadOf}
@@ -15,7 +15,7 @@ use Rattle.cell_machine.specs.Events.{Doing}
 use Rattle.cell_machine.specs.Frames.{Core, Level, Frame, Once, Load}
 use Rattle.cell_machine.specs.Levels.{Left, LevelsAt}
 use Rattle.cell_machine.specs.Value.{Outcome}
-use Rattle.lexicon.specs.declared.Lexicon.{Lexicon}
+use Rattle.lexicon.specs.declared.language.Lexicon.{Lexicon}
 use Rattle.lexicon.specs.Language.{Language}
 use Rattle.lexicon.specs.Laws.{LoadsLeave}
 use Rattle.lexicon.specs.Stands.{IsLeft, owner_in}

@@ -6,8 +6,8 @@ use Rattle.cell_machine.specs.Value.{Outcome, Did, Ends, and_then}
 use Rattle.cell_machine.specs.Fault.{Faults}
 use Rattle.cell_machine.specs.Events.{Doing}
 use Rattle.stacks.specs.declared.return_stack.Entry.{Entry}
-use Rattle.block_words.specs.declared.Blocks.{Blocks}
-use Rattle.lexicon.specs.declared.Lexicon.{Lexicon}
+use Rattle.block_words.specs.declared.buffered_blocks.Blocks.{Blocks}
+use Rattle.lexicon.specs.declared.language.Lexicon.{Lexicon}
 use Rattle.interpreter.specs.declared.forth.Picture.{Picture}
 use Rattle.lexicon.specs.Language.{Language}
 use Rattle.lexicon.specs.Promise.{Becomes}

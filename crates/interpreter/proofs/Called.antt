@@ -5,9 +5,9 @@ use Rattle.sector_disk.specs.declared.device.SectorDevice.{Ghosts}
 use Rattle.journal.specs.Maps.{Maps}
 use Rattle.journal.specs.Store.{StandsFor, device_of}
 use Rattle.block_buffers.specs.Buffers.{Buffers}
-use Rattle.block_words.specs.declared.BlockFault.{BlockFault}
-use Rattle.block_words.specs.declared.BlockFault.TheVariants.{NoBlock, NoBuffer, Device, Closed, Memory}
-use Rattle.block_words.specs.declared.Blocks.{Blocks}
+use Rattle.block_words.specs.declared.buffered_blocks.BlockFault.{BlockFault}
+use Rattle.block_words.specs.declared.buffered_blocks.BlockFault.TheVariants.{NoBlock, NoBuffer, Device, Closed, Memory}
+use Rattle.block_words.specs.declared.buffered_blocks.Blocks.{Blocks}
 use Rattle.block_words.specs.Words as words
 use Rattle.block_words.specs.Words.{Wear, no_wear, add_wear, Answer, Save, BlockOutcome}
 use Rattle.block_words.specs.Parts.{store_of, buffers_of}
@@ -19,7 +19,7 @@ use Rattle.cell_machine.specs.Frames.{Core, Level}
 use Rattle.cell_machine.specs.Value.{Outcome, Did, Ends}
 use Rattle.cell_machine.specs.Events.{Doing}
 use Rattle.stacks.specs.declared.return_stack.Entry.{Entry}
-use Rattle.lexicon.specs.declared.Lexicon.{Lexicon}
+use Rattle.lexicon.specs.declared.language.Lexicon.{Lexicon}
 use Rattle.interpreter.specs.declared.forth.Picture.{Picture}
 use Rattle.interpreter.specs.State.{World, Run, with_run, block_state, blocks_done, fault_of}
 use Rattle.interpreter.specs.Deeds.{Deed, before, after, asking}

@@ -10,7 +10,7 @@ use Rattle.cell_machine.specs.Events.{Doing, Refused, Entered as EnteredIn}
 use Rattle.cell_machine.specs.Frames.{Core, Level, Once}
 use Rattle.cell_machine.specs.Value.{Outcome, Ends}
 use Rattle.interpreter.specs.declared.fault.Fault.{Fault}
-use Rattle.lexicon.specs.declared.Lexicon.{Lexicon}
+use Rattle.lexicon.specs.declared.language.Lexicon.{Lexicon}
 use Rattle.interpreter.specs.declared.forth.Forth.{Forth}
 use Rattle.lexicon.specs.Language.{Language}
 use Rattle.lexicon.specs.Stands.{IsLeft, owner_in}
@@ -21,7 +21,7 @@ use Rattle.interpreter.specs.State.{World, Run, with_run}
 use Rattle.std.proofs.KnownBytes.{Appends-nil}
 use Rattle.journal.specs.Store.{device_of}
 use Rattle.block_words.specs.Parts.{store_of}
-use Rattle.block_words.specs.declared.Blocks.{Blocks}
+use Rattle.block_words.specs.declared.buffered_blocks.Blocks.{Blocks}
 use Rattle.cell_machine.specs.Fault.{Faults}
 use Rattle.interpreter.specs.declared.terminal.Terminal.{Ghosts as TerminalGhosts}
 use Rattle.interpreter.specs.Deeds.{nothing}

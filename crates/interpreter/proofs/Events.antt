@@ -32,7 +32,7 @@ use Rattle.cell_machine.proofs.Same.{body_value-same}
 use Rattle.interpreter.specs.State.{World, Part, ForthWord, needing}
 use Rattle.interpreter.specs.Text.{serve, text, back, service_of, due_word, user_kind, user_word}
 use Rattle.interpreter.specs.Law.{left, next}
-use Rattle.lexicon.specs.declared.Lexicon.{Lexicon}
+use Rattle.lexicon.specs.declared.language.Lexicon.{Lexicon}
 use Rattle.lexicon.specs.Language.{Language}
 use Rattle.lexicon.specs.Stands.{Stands as Means}
 use Rattle.lexicon.specs.Laws.{ServicesAreOutside}

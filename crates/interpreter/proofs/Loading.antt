@@ -19,7 +19,7 @@ use Rattle.interpreter.specs.Text.{serve, text, back, load, on_service}
 use Rattle.interpreter.specs.Law.{left}
 use Rattle.interpreter.proofs.Enter.{enter_load}
 use Rattle.interpreter.proofs.Short.{popping-one, needing-no, needing-yes}
-use Rattle.lexicon.specs.declared.Lexicon.{Lexicon}
+use Rattle.lexicon.specs.declared.language.Lexicon.{Lexicon}
 use Rattle.lexicon.specs.Language.{Language}
 use Rattle.lexicon.specs.Stands.{IsLeft, owner_in}
 

@@ -2,9 +2,9 @@
 use Rattle.std.proofs.Common.{◌≡◌, ℕ, zero, suc, ◌-◌, Bool, true, false, ◌||◌, List, [], ◌∷◌, ◌++◌, length, drop, take, Option, Some, None, refl, sym, ap, subst, ◌∙◌}
 use Rattle.std.specs.Prelude.{nat_lt, ◌==◌, replicate}
 use Rattle.journal.specs.Maps.{any_pending, committed, contents, spilled}
-use Rattle.block_buffers.specs.declared.Assigned.{Assigned}
+use Rattle.block_buffers.specs.declared.buffers.Assigned.{Assigned}
 use Rattle.block_buffers.specs.Buffers.{Buffers, assigned, oldest, updated_ones, unmarked, none_assigned}
-use Rattle.block_words.specs.declared.BlockFault.TheVariants.{Memory}
+use Rattle.block_words.specs.declared.buffered_blocks.BlockFault.TheVariants.{Memory}
 use Rattle.block_words.specs.Words.{worn, read_wear, spill_wear, commit_wear, pending_number, Blocks as State, BlockOutcome, Gives, Fails, first_answer, later_answers, answered, bytes_of, spill, spill_if, spill_oldest, give_buffer, assign, open_store, with_buffer, if_block, is_block, block, buffer, mark_current, update, next_map, spill_each, commit, returned, save_and, save_buffers, flush, source_of, source}
 use Rattle.cell_machine.specs.Fault.{Faults, Breaks, EndOfInput}
 use Rattle.cell_machine.specs.Frames.{Core, Level}

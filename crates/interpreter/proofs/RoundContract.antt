@@ -18,7 +18,7 @@ use Rattle.interpreter.specs.Deeds.{Deed, nothing, then, before, after, Fits}
 use Rattle.interpreter.specs.Law.{left}
 use Rattle.interpreter.specs.State.{World, Run, with_run}
 use Rattle.cell_machine.specs.Fault.{Ending}
-use Rattle.block_words.specs.declared.Blocks.{Blocks}
+use Rattle.block_words.specs.declared.buffered_blocks.Blocks.{Blocks}
 use Rattle.journal.specs.Store.{device_of}
 use Rattle.interpreter.specs.Promise.{HasRisenBy}
 use Rattle.interpreter.specs.Representation.{core, device, RepresentsWorld, Represents}

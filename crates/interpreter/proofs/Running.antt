@@ -21,7 +21,7 @@ use Rattle.interpreter.specs.State.{World, Run, with_run}
 use Rattle.interpreter.specs.Stops.{fault_of}
 use Rattle.interpreter.specs.Representation.{core, device, RepresentsWorld, Represents, RepresentsAfter}
 use Rattle.interpreter.specs.ServiceContract.{Comes, Heard, Printed, KeepsAndWears, Gives, Altered, Ran, stopped, failed_calls}
-use Rattle.block_words.specs.declared.Blocks.{Blocks}
+use Rattle.block_words.specs.declared.buffered_blocks.Blocks.{Blocks}
 use Rattle.interpreter.specs.Promise.{HasRisenBy}
 use Rattle.interpreter.specs.Law.{run_after, Grows}
 use Rattle.interpreter.proofs.Deeds.{before-nothing, after-nothing}

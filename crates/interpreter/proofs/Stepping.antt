@@ -7,7 +7,7 @@ use Rattle.cell_machine.specs.Fault.{NoDefinition, DefinitionOpen, Faults}
 use Rattle.cell_machine.specs.Frames.{Core, Level}
 use Rattle.cell_machine.specs.Value.{Outcome, Did, Ends}
 use Rattle.compiler.specs.Definition.{Definition, Adding, Refuses}
-use Rattle.lexicon.specs.declared.Lexicon.{Lexicon}
+use Rattle.lexicon.specs.declared.language.Lexicon.{Lexicon}
 use Rattle.lexicon.specs.Language.{Language}
 use Rattle.lexicon.specs.Promise.{Goes, Stops, Gives}
 use Rattle.interpreter.specs.declared.fault.Fault.{Fault}

@@ -1,9 +1,9 @@
 -- Where the device is left to answer that all goes well, it never fails.
 use Rattle.std.proofs.Common.{◌≡◌, ℕ, ◌+◌, Bool, true, false, List, [], ◌∷◌, ◌++◌, Option, Some, None, refl, ap}
 use Rattle.journal.specs.Maps.{any_pending, committed, contents, spilled}
-use Rattle.block_buffers.specs.declared.Assigned.{Assigned}
+use Rattle.block_buffers.specs.declared.buffers.Assigned.{Assigned}
 use Rattle.block_buffers.specs.Buffers.{Buffers, assigned, oldest, updated_ones, unmarked, none_assigned}
-use Rattle.block_words.specs.declared.BlockFault.TheVariants.{Device, Memory}
+use Rattle.block_words.specs.declared.buffered_blocks.BlockFault.TheVariants.{Device, Memory}
 use Rattle.block_words.specs.Words.{Answer, worn, read_wear, spill_wear, commit_wear, pending_number, Blocks as State, BlockOutcome, Gives, Fails, first_answer, later_answers, answered, device_call, with_closed, bytes_of, spill, spill_if, spill_oldest, give_buffer, assign, open_store, with_buffer, if_block, is_block, block, buffer, mark_current, update, next_map, spill_each, commit, returned, save_and, save_buffers, flush, source_of, source}
 use Rattle.std.specs.Prelude.{replicate}
 use Rattle.cell_machine.specs.Frames.{Core}

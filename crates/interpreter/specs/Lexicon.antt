@@ -6,7 +6,7 @@ use Rattle.cell_machine.specs.Layout.{TextAt, IsAdded}
 use Rattle.cell_machine.specs.Calling.{Outside}
 use Rattle.cell_machine.specs.Tree.{Trees}
 use Rattle.cell_machine.specs.Frames.{Core, Due, Word, Print, AbortWith, Add, Give}
-use Rattle.lexicon.specs.declared.Lexicon.{Lexicon}
+use Rattle.lexicon.specs.declared.language.Lexicon.{Lexicon}
 use Rattle.lexicon.specs.Language.{Language}
 use Rattle.lexicon.specs.Stands.{IsPart}
 use Rattle.lexicon.specs.Running.{meanings}

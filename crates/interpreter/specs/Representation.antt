@@ -8,9 +8,9 @@ use Rattle.interpreter.specs.State.{World}
 use Rattle.lexicon.specs.Stands.{Stands as Means, IsLeft}
 use Rattle.interpreter.specs.Lexicon.{language_of}
 use Rattle.stacks.specs.declared.return_stack.Entry.{Entry}
-use Rattle.block_words.specs.declared.Blocks.{Blocks}
+use Rattle.block_words.specs.declared.buffered_blocks.Blocks.{Blocks}
 use Rattle.cell_machine.specs.Events.{Doing}
-use Rattle.lexicon.specs.declared.Lexicon.{Lexicon}
+use Rattle.lexicon.specs.declared.language.Lexicon.{Lexicon}
 use Rattle.interpreter.specs.declared.forth.Picture.{Picture}
 use Rattle.interpreter.specs.declared.forth.Forth.{Forth}
 

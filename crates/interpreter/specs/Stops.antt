@@ -1,8 +1,8 @@
 -- The stops of the code, as the endings of the definitions.
 use Rattle.std.specs.Prelude.{ℕ}
 use Rattle.sector_disk.specs.Counting.{count_up}
-use Rattle.block_words.specs.declared.BlockFault.{BlockFault}
-use Rattle.block_words.specs.declared.BlockFault.TheVariants as blocks
+use Rattle.block_words.specs.declared.buffered_blocks.BlockFault.{BlockFault}
+use Rattle.block_words.specs.declared.buffered_blocks.BlockFault.TheVariants as blocks
 use Rattle.cell_machine.specs.Fault as fault
 use Rattle.cell_machine.specs.Fault.{Ending, Faults, Quits, Aborts, Breaks}
 use Rattle.interpreter.specs.declared.fault.Fault.{Fault}

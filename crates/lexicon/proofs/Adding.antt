@@ -3,19 +3,19 @@ use Rattle.std.proofs.Common.{◌≡◌, ℕ, suc, ◌+◌, ◌<◌, ◌≤◌, 
 use Rattle.std.specs.Prelude.{OnOk, IfErr, IsTrue, not, is_some, nat_lt, nat_le, ◌==◌, ◌||◌, if◌then◌else◌}
 use Rattle.std.proofs.lemmas.Bool.Decides.{nat_tests}
 use Rattle.cell_machine.specs.Fault.{Fault, Name, DictionaryFull, Protected}
-use Rattle.dictionary.specs.declared.Kind.{Kind as GivenKind}
-use Rattle.dictionary.specs.declared.DictionaryFault.{DictionaryFault}
-use Rattle.dictionary.specs.declared.DictionaryFault.TheVariants as found
+use Rattle.dictionary.specs.declared.words.Kind.{Kind as GivenKind}
+use Rattle.dictionary.specs.declared.words.DictionaryFault.{DictionaryFault}
+use Rattle.dictionary.specs.declared.words.DictionaryFault.TheVariants as found
 use Rattle.dictionary.specs.Words.{Kind, is_name, most_words, system_count, forth_token, with_immediate}
 use Rattle.system_words.specs.Rows.{Row, rows}
 use Rattle.dictionary.specs.System.{system_word, first_words}
 use Rattle.dictionary.specs.Dictionary.{Dictionary, kind_of, add_refusal, immediate_refusal, with_word as dictionary_with, may_be_vocabulary, is_token, first_dictionary}
-use Rattle.compiler.specs.declared.Compiler.{Compiler}
-use Rattle.compiler.specs.declared.Refusal.{Refusal as CompileRefusal}
+use Rattle.compiler.specs.declared.definition.Compiler.{Compiler}
+use Rattle.compiler.specs.declared.definition.Refusal.{Refusal as CompileRefusal}
 use Rattle.compiler.specs.Definition.{Body, Adding, Adds, Refuses, opened}
 use Rattle.compiler.specs.Promise.{on_closed, Opened, NotOpened}
 use Rattle.compiler.specs.Represents.{Holds, used, IsClosed}
-use Rattle.lexicon.specs.declared.Lexicon.{Lexicon}
+use Rattle.lexicon.specs.declared.language.Lexicon.{Lexicon}
 use Rattle.lexicon.specs.Language.{Part, ForthWord, Language, used_cells, with_new_name, with_word, adding_word, beginning, marking, new_language}
 use Rattle.lexicon.specs.Stands.{owner_in, Stands, IsBegun, IsHere, IsWord, WordStands, WordsStand}
 use Rattle.lexicon.specs.Promise.{Gives}

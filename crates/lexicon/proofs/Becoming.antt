@@ -7,7 +7,7 @@ use Rattle.std.proofs.lemmas.Bool.Decides.{nat_tests}
 use Rattle.cell_machine.specs.Frames.{around_of}
 use Rattle.cell_machine.specs.Staying.{IsBefore, Stays}
 use Rattle.cell_machine.proofs.Staying.{left_stays}
-use Rattle.lexicon.specs.declared.Lexicon.{Lexicon}
+use Rattle.lexicon.specs.declared.language.Lexicon.{Lexicon}
 use Rattle.lexicon.specs.Language.{ForthWord, Language, used_cells, all_below}
 use Rattle.lexicon.specs.Stands.{owner_in, Stands}
 use Rattle.lexicon.specs.Promise.{Becomes}

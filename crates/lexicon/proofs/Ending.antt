@@ -4,16 +4,16 @@ use Rattle.std.specs.Prelude.{OnOk, not, nat_le, ◌==◌, if◌then◌else◌, 
 use Rattle.std.specs.Result.{result_err}
 use Rattle.std.proofs.lemmas.Bool.Decides.{nat_tests}
 use Rattle.cell_machine.specs.Events.{BodyAt}
-use Rattle.dictionary.specs.declared.Kind.TheVariants as given
-use Rattle.dictionary.specs.declared.DictionaryFault.{DictionaryFault}
-use Rattle.dictionary.specs.declared.DictionaryFault.TheVariants.{NameLength, Full}
+use Rattle.dictionary.specs.declared.words.Kind.TheVariants as given
+use Rattle.dictionary.specs.declared.words.DictionaryFault.{DictionaryFault}
+use Rattle.dictionary.specs.declared.words.DictionaryFault.TheVariants.{NameLength, Full}
 use Rattle.dictionary.specs.Words.{Colon, is_name, most_words, system_count}
 use Rattle.dictionary.specs.Dictionary.{Dictionary, add_refusal, with_word}
-use Rattle.compiler.specs.declared.Compiler.{Compiler}
+use Rattle.compiler.specs.declared.definition.Compiler.{Compiler}
 use Rattle.compiler.specs.Definition.{Definition, Adds, end_definition, body_of}
 use Rattle.compiler.specs.Promise.{on_open, SameBelow, Finished}
 use Rattle.compiler.specs.Represents.{Holds, used, name_of}
-use Rattle.lexicon.specs.declared.Lexicon.{Lexicon}
+use Rattle.lexicon.specs.declared.language.Lexicon.{Lexicon}
 use Rattle.lexicon.specs.Language.{ForthWord, Language, used_cells, ending, ended_or, with_ended}
 use Rattle.lexicon.specs.Stands.{owner_in, IsBegun, IsHere, WordStands, WordsStand}
 use Rattle.lexicon.specs.Promise.{Goes}

@@ -14,12 +14,12 @@ use Rattle.cell_machine.specs.Levels.{Left}
 use Rattle.cell_machine.specs.Staying.{RunsBefore}
 use Rattle.cell_machine.proofs.Staying.{left_stays}
 use Rattle.dictionary.specs.Words.{entry, system_count, kept}
-use Rattle.dictionary.specs.declared.DictionaryFault.TheVariants as found
+use Rattle.dictionary.specs.declared.words.DictionaryFault.TheVariants as found
 use Rattle.dictionary.specs.Dictionary.{Dictionary, Named, body_of_word, is_token, forget_refusal, forgotten as dictionary_after}
-use Rattle.compiler.specs.declared.Compiler.{Compiler}
+use Rattle.compiler.specs.declared.definition.Compiler.{Compiler}
 use Rattle.compiler.specs.Definition.{Definition, Adding, Adds, Refuses}
 use Rattle.compiler.specs.Represents.{used, IsClosed, Holds}
-use Rattle.lexicon.specs.declared.Lexicon.{Lexicon}
+use Rattle.lexicon.specs.declared.language.Lexicon.{Lexicon}
 use Rattle.lexicon.specs.Language.{ForthWord, Language, used_cells, all_below, none_open, forgetting, forgotten}
 use Rattle.lexicon.specs.Stands.{owner_in, Stands, IsLeft, IsHere, IsBegun, IsWord, WordsStand}
 use Rattle.lexicon.proofs.Places.{runs_below_is}

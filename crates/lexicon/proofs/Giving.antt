@@ -2,11 +2,11 @@
 use Rattle.std.proofs.Common.{◌≡◌, ℕ, suc, false, List, length, refl, sym, ◌∙◌, ap, subst, arith, Option, Some, None}
 use Rattle.std.specs.Prelude.{is_some}
 use Rattle.cell_machine.specs.Fault.{Token}
-use Rattle.dictionary.specs.declared.DictionaryFault.{DictionaryFault}
+use Rattle.dictionary.specs.declared.words.DictionaryFault.{DictionaryFault}
 use Rattle.dictionary.specs.Words.{with_part}
 use Rattle.dictionary.specs.Dictionary.{Dictionary, Named, does_refusal, not_created}
 use Rattle.compiler.specs.Definition.{Refuses}
-use Rattle.lexicon.specs.declared.Lexicon.{Lexicon}
+use Rattle.lexicon.specs.declared.language.Lexicon.{Lexicon}
 use Rattle.lexicon.specs.Language.{Part, ForthWord, Language, giving, given_or}
 use Rattle.lexicon.specs.Stands.{owner_in, Stands, IsBegun, IsPart, WordsStand}
 use Rattle.lexicon.specs.Promise.{Gives}

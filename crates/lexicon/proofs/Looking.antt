@@ -5,7 +5,7 @@ use Rattle.std.proofs.lemmas.Bool.Decides.{nat_tests}
 use Rattle.dictionary.specs.Words.{Kind, Primitive, Colon, Created, Constant, Vocabulary, find, find_in, entry, forth_token}
 use Rattle.dictionary.specs.Dictionary.{Named, is_token}
 use Rattle.compiler.specs.Definition.{Body}
-use Rattle.lexicon.specs.declared.Lexicon.{Lexicon}
+use Rattle.lexicon.specs.declared.language.Lexicon.{Lexicon}
 use Rattle.lexicon.specs.Language.{Part, ForthWord, Language, used_cells}
 use Rattle.lexicon.specs.Stands.{owner_in, KindStands, Stands, IsWord}
 use Rattle.lexicon.specs.Kinds.{is_immediate, is_vocabulary, makes_vocabulary, data_address, data_field}

@@ -3,11 +3,11 @@ use Rattle.std.specs.Prelude.{◌≡◌, ℕ, false, List, None}
 use Rattle.cell_machine.specs.Fault.{Fault, Name, DictionaryFull}
 use Rattle.dictionary.specs.Words.{Kind}
 use Rattle.dictionary.specs.Dictionary.{kind_of, add_refusal}
-use Rattle.dictionary.specs.declared.Kind.{Kind as GivenKind}
-use Rattle.dictionary.specs.declared.DictionaryFault.{DictionaryFault}
-use Rattle.dictionary.specs.declared.DictionaryFault.TheVariants as found
+use Rattle.dictionary.specs.declared.words.Kind.{Kind as GivenKind}
+use Rattle.dictionary.specs.declared.words.DictionaryFault.{DictionaryFault}
+use Rattle.dictionary.specs.declared.words.DictionaryFault.TheVariants as found
 use Rattle.compiler.specs.Definition.{Body, Adding, Refuses}
-use Rattle.lexicon.specs.declared.Lexicon.{Lexicon}
+use Rattle.lexicon.specs.declared.language.Lexicon.{Lexicon}
 use Rattle.lexicon.specs.Language.{Part, Language, cells_of, with_new_name, adding_word}
 use Rattle.lexicon.specs.Stands.{Stands, KindStands, is_primitive}
 use Rattle.lexicon.specs.Promise.{Gives}

@@ -9,7 +9,7 @@ use Rattle.system_words.specs.Rows.{meaning_of}
 use Rattle.cell_machine.specs.Calling.{Outside}
 use Rattle.cell_machine.specs.Frames.{Level, Once, Load}
 use Rattle.cell_machine.specs.Events.{Doing, Entered}
-use Rattle.lexicon.specs.declared.Lexicon.{Lexicon}
+use Rattle.lexicon.specs.declared.language.Lexicon.{Lexicon}
 use Rattle.lexicon.specs.Language.{Language}
 use Rattle.lexicon.specs.Stands.{Stands, IsLeft}
 use Rattle.lexicon.specs.Running.{meanings}

@@ -7,9 +7,9 @@ use Rattle.cell_machine.specs.Events.{Doing}
 use Rattle.cell_machine.specs.Tree.{Trees}
 use Rattle.cell_machine.specs.Frames.{Level, around_of}
 use Rattle.compiler.specs.Definition.{Adding, Adds, Refuses}
-use Rattle.lexicon.specs.declared.Lexicon.{Lexicon}
-use Rattle.lexicon.specs.declared.Refusal.{Refusal}
-use Rattle.lexicon.specs.declared.Refusal.TheVariants as refusal
+use Rattle.lexicon.specs.declared.language.Lexicon.{Lexicon}
+use Rattle.lexicon.specs.declared.language.Refusal.{Refusal}
+use Rattle.lexicon.specs.declared.language.Refusal.TheVariants as refusal
 use Rattle.lexicon.specs.Language.{Language, forgetting, giving}
 use Rattle.lexicon.specs.Stands.{Stands, IsLeft, IsPart}
 

@@ -10,7 +10,7 @@ use Rattle.dictionary.specs.Words.{Kind, Primitive, Colon, Created, Constant, Vo
 use Rattle.dictionary.specs.Dictionary.{Named}
 use Rattle.compiler.specs.Definition.{Body, Definition}
 use Rattle.compiler.specs.Represents.{Holds, used}
-use Rattle.lexicon.specs.declared.Lexicon.{Lexicon}
+use Rattle.lexicon.specs.declared.language.Lexicon.{Lexicon}
 use Rattle.lexicon.specs.Language.{Part, ForthWord, Language, cells_of, used_cells, first_here, last_here}
 
 -- Bodies lie one after another in the order of their words. Which word's body has cell y, where the body of the first of

@@ -1,8 +1,8 @@
 -- After a call the fields and the cells stand for a definition again, or for none.
 use Rattle.std.proofs.Common.{◌≡◌, sym, subst, List, ℕ, Some, None}
 use Rattle.std.specs.Prelude.{Result, Ok, Err, OnOk, IfOk, IfErr}
-use Rattle.compiler.specs.declared.Compiler.{Compiler}
-use Rattle.compiler.specs.declared.Refusal.{Refusal}
+use Rattle.compiler.specs.declared.definition.Compiler.{Compiler}
+use Rattle.compiler.specs.declared.definition.Refusal.{Refusal}
 use Rattle.compiler.specs.Definition.{Definition, Adding, opened}
 use Rattle.compiler.specs.Represents.{IsSound}
 use Rattle.compiler.specs.Promise.{Added, Refused, Opened, NotOpened, Finished}

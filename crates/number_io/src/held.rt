@@ -3,7 +3,7 @@ ghost use Rattle.std.specs.Prelude.{◌≡◌, ◌/◌, ◌%◌, ◌<◌, ◌≤
 ghost use Rattle.number_io.specs.Digits.{digit_char};
 ghost use Rattle.number_io.specs.Writing.{IsWritten, digits_of, number_text, held_of};
 
-use super::digit_char;
+use crate::digit_char;
 use std::marker::Model;
 
 /// How many bytes are held at most, by this project's profile.

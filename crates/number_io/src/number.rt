@@ -5,7 +5,7 @@ ghost use Rattle.number_io.specs.Digits.{is_digit};
 ghost use Rattle.std.specs.List.{list_all};
 ghost use Rattle.std.specs.Io.BufRead.{ends_with_byte, strip_last};
 
-use super::{digit_value, digits_value};
+use crate::digits::{digit_value, digits_value};
 
 /// A number of one cell or of two, a negative one in two's complement.
 #[derive(Clone, Copy, Debug, PartialEq, Eq)]

@@ -5,7 +5,7 @@ use Rattle.stacks.specs.declared.return_stack.Entry.{Entry}
 use Rattle.cell_machine.specs.Fault.{Fault}
 use Rattle.cell_machine.specs.Events.{Doing}
 use Rattle.compiler.specs.Definition.{Adding}
-use Rattle.lexicon.specs.declared.Lexicon.{Lexicon}
+use Rattle.lexicon.specs.declared.language.Lexicon.{Lexicon}
 use Rattle.lexicon.specs.Language.{Language}
 use Rattle.lexicon.specs.Promise.{Goes, Stops}
 use Rattle.lexicon.specs.Running.{IsReady, Runs, AsksFor}

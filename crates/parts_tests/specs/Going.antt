@@ -9,7 +9,7 @@ use Rattle.cell_machine.specs.Tree.{Trees}
 use Rattle.cell_machine.specs.Layout.{TextAt}
 use Rattle.cell_machine.specs.Frames.{Level}
 use Rattle.cell_machine.specs.Events.{Doing}
-use Rattle.lexicon.specs.declared.Lexicon.{Lexicon}
+use Rattle.lexicon.specs.declared.language.Lexicon.{Lexicon}
 use Rattle.lexicon.specs.Language.{Language}
 use Rattle.lexicon.specs.Stands.{Stands, IsLeft, IsPart}
 use Rattle.lexicon.specs.Running.{IsReady}

@@ -6,7 +6,7 @@ ghost use Rattle.stacks.specs.Stacks.{rolled};
 ghost use Rattle.stacks.specs.Places.{stack_in};
 ghost use Rattle.stacks.specs.Lending.{LendsPlaces};
 
-use super::StackFault;
+use crate::StackFault;
 use arrayvec::ArrayVec;
 use std::marker::Model;
 

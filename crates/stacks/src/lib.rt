@@ -3,17 +3,10 @@
 #![tactic(auto)]
 
 pub use data_stack::{DataStack, roll_in};
+pub use fault::StackFault;
 pub use return_stack::{Entry, ReturnStack};
 
 mod data_stack;
+mod fault;
 pub mod laws;
 mod return_stack;
-
-/// Why a call of a stack was refused. The stack is then as it was.
-#[derive(Clone, Copy, Debug, PartialEq, Eq)]
-pub enum StackFault {
-    /// There is no room left.
-    Full,
-    /// There is no such cell, or no such entry.
-    Empty,
-}

@@ -3,7 +3,7 @@ ghost use Rattle.std.specs.Prelude.{◌≡◌, ◌≢◌, ◌+◌, ◌<◌, ◌�
 ghost use Rattle.stacks.specs.Entries.{is_loop, indexed};
 ghost use Rattle.stacks.specs.Stacks.{units, entry_units, has_loop, with_index, top_or_load, calls_below, loads};
 
-use super::StackFault;
+use crate::StackFault;
 use std::marker::Model;
 
 /// How many units the return stack holds at most, by this project's profile.

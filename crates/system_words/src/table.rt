@@ -3,8 +3,6 @@
 ghost use Rattle.std.specs.Prelude.{◌≡◌, map, length};
 ghost use Rattle.system_words.specs.Rows.{row_of, rows, count};
 
-use crate::COUNT;
-use crate::Row;
 use crate::words::Binary::Add;
 use crate::words::Binary::And;
 use crate::words::Binary::Equal;
@@ -40,10 +38,12 @@ use crate::words::LexiconWord::Here;
 use crate::words::LexiconWord::MakeImmediate;
 use crate::words::LexiconWord::Pad;
 use crate::words::LexiconWord::ToBody;
+use crate::words::Mark;
 use crate::words::Mark::CompileOnly;
 use crate::words::Mark::Immediate;
 use crate::words::Mark::ImmediateOnly;
 use crate::words::Mark::Plain;
+use crate::words::Meaning;
 use crate::words::Meaning::Asks;
 use crate::words::Meaning::Exits;
 use crate::words::Meaning::Marks;
@@ -150,6 +150,12 @@ use crate::words::Wide::WideAdd;
 use crate::words::Wide::WideLess;
 use crate::words::Wide::WideNegate;
 use crate::words::Wide::WideProduct;
+
+/// A word's name, how the text interpreter may use it, and what it does.
+pub type Row = (&'static [u8], Mark, Meaning);
+
+/// How many system words there are, which is the token of the last one.
+pub const COUNT: u16 = 132;
 
 /// All words, in the order of their tokens, which count from 1.
 #[inline]

@@ -1,4 +1,6 @@
 //! What the system words do: families, each of words that are about one thing and reach the same.
+ghost use Rattle.std.specs.Prelude.{◌≡◌};
+ghost use Rattle.system_words.specs.Rows.{is_immediate, is_compile_only};
 
 /// How the text interpreter may use a system word.
 #[derive(Clone, Copy)]
@@ -10,6 +12,28 @@ pub enum Mark {
     CompileOnly,
     /// Both.
     ImmediateOnly,
+}
+
+impl Mark {
+    /// Whether the text interpreter runs the word even while a body is compiled.
+    pub fn is_immediate(self) -> bool
+        ensures { result ≡ is_immediate self }
+    {
+        match self {
+            Mark::Immediate | Mark::ImmediateOnly => true,
+            Mark::Plain | Mark::CompileOnly => false,
+        }
+    }
+
+    /// Whether the word makes sense only while a body is compiled.
+    pub fn is_compile_only(self) -> bool
+        ensures { result ≡ is_compile_only self }
+    {
+        match self {
+            Mark::CompileOnly | Mark::ImmediateOnly => true,
+            Mark::Plain | Mark::Immediate => false,
+        }
+    }
 }
 
 /// What a system word does.

@@ -1,7 +1,7 @@
 use Rattle.std.proofs.Common.{◌≡◌, true, false, suc, sym, ◌∙◌, ap, subst, take, drop, arith, add-one, Err, rules}
 use Rattle.std.proofs.lemmas.List.{length-take}
 use Rattle.std.specs.Prelude.{slice_index_or, ◌==◌, ◌||◌}
-use Rattle.block_buffers.specs.declared.Assigned.{Assigned}
+use Rattle.block_buffers.specs.declared.buffers.Assigned.{Assigned}
 use Rattle.block_buffers.specs.Buffers.{updated_ones}
 use Rattle.journal.specs.Maps.{spilled}
 use Rattle.journal.specs.Store.{StandsFor, is_pending}

@@ -1,6 +1,6 @@
 use Rattle.std.proofs.Common.{◌≡◌, ℕ, ◌-◌, ◌<◌, List, length, map, Option, Some, None, refl, sym, ◌∙◌, ap, subst, arith, get_or, set, false}
 use Rattle.std.specs.Option.{is_some}
-use Rattle.dictionary.specs.declared.Kind.TheVariants as Kind
+use Rattle.dictionary.specs.declared.words.Kind.TheVariants as Kind
 use Rattle.dictionary.specs.declared.chains.Header.{Header}
 use Rattle.dictionary.specs.Words.{Created, with_part}
 use Rattle.dictionary.specs.Dictionary.{Named, kind_of, body_of}

@@ -2,7 +2,7 @@ use Rattle.std.proofs.Common.{◌≡◌, true, false, take, sym, ap, subst, ◌�
 use Rattle.std.specs.Prelude.{is_some}
 use Rattle.cell_machine.specs.Fault.{Faults}
 use Rattle.cell_machine.specs.Value.{Ends}
-use Rattle.lexicon.specs.declared.Lexicon.{Lexicon}
+use Rattle.lexicon.specs.declared.language.Lexicon.{Lexicon}
 use Rattle.lexicon.specs.Stands.{Stands as Means}
 use Rattle.interpreter.specs.State.{with_run}
 use Rattle.interpreter.specs.Lexicon.{language_of}

@@ -1,5 +1,5 @@
 use Rattle.std.proofs.Common.{◌≡◌, [], Ok, Err, refl, ap, arith}
-use Rattle.block_words.specs.declared.BlockFault.TheVariants.{NoBuffer}
+use Rattle.block_words.specs.declared.buffered_blocks.BlockFault.TheVariants.{NoBuffer}
 use Rattle.block_words.specs.Words.{update}
 use Rattle.journal.specs.declared.store.Store.{Store}
 use Rattle.journal.specs.Store.{device_of}

@@ -1,0 +1,103 @@
+//! The definition that is open, and what is added to it.
+ghost use Rattle.std.specs.Prelude.{◌≤◌, ◌<◌, IfErr, OnOk, length};
+ghost use Rattle.cell_machine.specs.Layout.{most_tokens};
+ghost use Rattle.compiler.specs.Definition.{add_literal, add_text, add_word};
+ghost use Rattle.compiler.specs.Promise.{kind_of, fault_of as compile_fault};
+ghost use Rattle.lexicon.specs.Language.{Language, beginning, changing, ending, dropped};
+ghost use Rattle.lexicon.specs.Stands.{Stands, IsSound};
+ghost use Rattle.lexicon.specs.Promise.{fault_of, Becomes, Goes, Stops};
+ghost use Rattle.lexicon.specs.Structures.{adding};
+
+use crate::language::{Lexicon, Refusal, Token};
+use crate::structure;
+use compiler::{Refusal as CompileRefusal, TextKind};
+use dictionary::Kind;
+use system_words::words::Structure;
+
+impl Lexicon {
+    /// `:` begins a definition of this name, and makes the compilation vocabulary the first one.
+    pub fn begin(&mut self, name: &[u8]) -> Result<(), Refusal>
+        requires { IsSound self.old }
+        ensures begun { OnOk result (Goes self.old self.new (beginning name.now)) }
+        ensures refused { IfErr result (λ e. Stops self.old self.new (beginning name.now) (fault_of e)) }
+    {
+        // Name and room are looked at now, though `;` adds the word.
+        match self.check_new(name) {
+            Ok(()) => {
+                // None is open, as the check found.
+                let _ = self.compiler.begin(name);
+                self.begun_at = self.here;
+                self.dictionary.set_context(self.dictionary.current());
+                Ok(())
+            }
+            Err(refusal) => Err(refusal),
+        }
+    }
+
+    /// `;` ends the definition, and adds its word.
+    pub fn finish(&mut self) -> Result<(), CompileRefusal>
+        requires { IsSound self.old }
+        ensures ended { OnOk result (Goes self.old self.new ending) }
+        ensures refused { IfErr result (λ e. Stops self.old self.new ending (compile_fault e)) }
+    {
+        match self.compiler.finish(&mut self.code) {
+            Ok(place) => {
+                // `:` looked at the name, and no word was added since.
+                let _ = self
+                    .dictionary
+                    .add(self.compiler.name(), Kind::Colon(place), self.begun_at);
+                Ok(())
+            }
+            Err(refusal) => Err(refusal),
+        }
+    }
+
+    /// The open definition is dropped, if there is one.
+    pub fn abandon(&mut self)
+        ensures { (x : Language) → Stands self.old x → Becomes self.old self.new x (dropped x) }
+    {
+        self.compiler.abandon();
+    }
+
+    /// Adds a literal to the open definition.
+    pub fn literal(&mut self, cell: u16) -> Result<(), CompileRefusal>
+        requires { IsSound self.old }
+        ensures added { OnOk result (Goes self.old self.new (changing (λ used. add_literal used cell))) }
+        ensures refused { IfErr result
+            (λ e. Stops self.old self.new (changing (λ used. add_literal used cell)) (compile_fault e)) }
+    {
+        self.compiler.literal(&mut self.code, cell)
+    }
+
+    /// Adds a word, with a token of 1 to 4,096, to the open definition, or after `COMPILE` one that the body adds when it
+    /// runs.
+    pub fn compile(&mut self, token: Token) -> Result<(), CompileRefusal>
+        requires sound { IsSound self.old }
+        requires from { 0 < token }
+        requires most { token ≤ most_tokens }
+        ensures added { OnOk result (Goes self.old self.new (changing (λ used. add_word used token))) }
+        ensures refused { IfErr result (λ e. Stops self.old self.new (changing (λ used. add_word used token)) (compile_fault e)) }
+    {
+        self.compiler.call(&mut self.code, token)
+    }
+
+    /// Adds a text of at most 1,024 bytes to the open definition.
+    pub fn add_text(&mut self, kind: TextKind, bytes: &[u8]) -> Result<(), CompileRefusal>
+        requires sound { IsSound self.old }
+        requires most { length bytes.now ≤ 1024 }
+        ensures added { OnOk result (Goes self.old self.new (changing (λ used. add_text used (kind_of kind) bytes.now))) }
+        ensures refused { IfErr result
+            (λ e. Stops self.old self.new (changing (λ used. add_text used (kind_of kind) bytes.now)) (compile_fault e)) }
+    {
+        self.compiler.text(&mut self.code, kind, bytes)
+    }
+
+    /// Begins, goes on with or ends a structure of the open definition.
+    pub fn add_structure(&mut self, structure: Structure) -> Result<(), CompileRefusal>
+        requires { IsSound self.old }
+        ensures added { OnOk result (Goes self.old self.new (changing (adding structure))) }
+        ensures refused { IfErr result (λ e. Stops self.old self.new (changing (adding structure)) (compile_fault e)) }
+    {
+        structure::add_to(&mut self.compiler, &mut self.code, structure)
+    }
+}
