@@ -3,7 +3,7 @@ ghost use Rattle.std.specs.Prelude.{◌≡◌, ◌≢◌, ◌<◌, ◌≤◌, �
 ghost use Rattle.sector_disk.specs.Disk.{written};
 ghost use Rattle.journal.specs.Calls.{StopsLeave, BeginsAtMost, ReadsAtMost, Passes, Proceeds};
 ghost use Rattle.journal.specs.Images.{pair_at, home_of};
-ghost use Rattle.journal.specs.Layout.{fewest_blocks, most_blocks, sectors_for, label_of, InPair};
+ghost use Rattle.journal.specs.Layout.{sectors_for, label_of, InPair};
 ghost use Rattle.journal.specs.Steps.{WritesOnly, IsAsSynced};
 ghost use Rattle.recovery.specs.Formatted.{MakingLeaves, KeepsSlots};
 ghost use Rattle.recovery.specs.Steps.{IsUnlabelled, OnlyRead, WentWell, TellsFault};
@@ -82,36 +82,34 @@ fn carry_block<A: SectorDevice, B: SectorDevice>(
 fn carry_blocks<A: SectorDevice, B: SectorDevice>(
     source: &mut A,
     target: &mut B,
-    blocks: u16,
+    blocks: BlockCount,
     listing: &Option<[u8; 512]>,
-    new_blocks: u16,
+    new_blocks: BlockCount,
 ) -> Result<(), UpgradeFault>
-    requires many { fewest_blocks ≤ blocks }
-    requires grows { blocks ≤ new_blocks }
-    requires few { new_blocks ≤ most_blocks }
-    requires from { A.sector_count source.old ≡ sectors_for blocks }
-    requires to { B.sector_count target.old ≡ sectors_for new_blocks }
+    requires grows { blocks.number ≤ new_blocks.number }
+    requires from { A.sector_count source.old ≡ sectors_for blocks.number }
+    requires to { B.sector_count target.old ≡ sectors_for new_blocks.number }
     ensures ok { IsTrue (A.keeps_model source.old) → IsTrue (B.keeps_model target.old)
-        → OnOk result ((b : ℕ) → b < blocks
-        → home_of new_blocks (B.disk target.new).content b ≡ found_in blocks listing.now (A.disk source.old).content b) }
+        → OnOk result ((b : ℕ) → b < blocks.number
+        → home_of new_blocks.number (B.disk target.new).content b ≡ found_in blocks.number listing.now (A.disk source.old).content b) }
     ensures only { IsTrue (B.keeps_model target.old)
-        → WritesOnly (λ k. 3 + 2 * new_blocks ≤ k) (B.disk target.old) (B.disk target.new) }
+        → WritesOnly (λ k. 3 + 2 * new_blocks.number ≤ k) (B.disk target.old) (B.disk target.new) }
     ensures stops { IsTrue (B.keeps_model target.old)
-        → StopsLeave B.SectorDevice target.old target.new (IsAsSynced (λ k. 3 + 2 * new_blocks ≤ k) (B.disk target.old)) }
+        → StopsLeave B.SectorDevice target.old target.new (IsAsSynced (λ k. 3 + 2 * new_blocks.number ≤ k) (B.disk target.old)) }
     ensures faults { IfErr result (TellsFault A.SectorDevice B.SectorDevice source.old source.new target.old target.new) }
     ensures well { OnOk result (WentWell A.SectorDevice B.SectorDevice source.old source.new target.old target.new) }
     ensures source { OnlyRead A.SectorDevice source.old source.new }
     ensures passes { Proceeds B.SectorDevice target.old target.new }
-    ensures begins { BeginsAtMost B.SectorDevice target.old target.new (2 * blocks) 0 }
-    ensures reads { ReadsAtMost A.SectorDevice source.old source.new (2 * blocks) }
+    ensures begins { BeginsAtMost B.SectorDevice target.old target.new (2 * blocks.number) 0 }
+    ensures reads { ReadsAtMost A.SectorDevice source.old source.new (2 * blocks.number) }
     ensures target_reads { ReadsAtMost B.SectorDevice target.old target.new 0 }
 {
-    for b in 0..blocks {
+    for b in 0..blocks.number {
         carry_block(
             source,
             target,
             place_of(blocks, listing, b),
-            home_sector(BlockCount { number: new_blocks }, b),
+            home_sector(new_blocks, b),
         )?;
     }
     Ok(())
@@ -120,28 +118,26 @@ fn carry_blocks<A: SectorDevice, B: SectorDevice>(
 // Fills the homes above the first so many with blanks.
 fn fill_rest<D: SectorDevice>(
     device: &mut D,
-    blocks: u16,
-    new_blocks: u16,
+    blocks: BlockCount,
+    new_blocks: BlockCount,
 ) -> Result<(), DeviceFault>
-    requires many { fewest_blocks ≤ blocks }
-    requires grows { blocks ≤ new_blocks }
-    requires few { new_blocks ≤ most_blocks }
-    requires size { D.sector_count device.old ≡ sectors_for new_blocks }
+    requires grows { blocks.number ≤ new_blocks.number }
+    requires size { D.sector_count device.old ≡ sectors_for new_blocks.number }
     ensures ok { IsTrue (D.keeps_model device.old)
-        → OnOk result ((k : ℕ) → 3 + 2 * new_blocks + 2 * blocks ≤ k → k < 3 + 4 * new_blocks
+        → OnOk result ((k : ℕ) → 3 + 2 * new_blocks.number + 2 * blocks.number ≤ k → k < 3 + 4 * new_blocks.number
         → (D.disk device.new).content k ≡ replicate 512 32) }
     ensures only { IsTrue (D.keeps_model device.old)
-        → WritesOnly (λ k. 3 + 2 * new_blocks + 2 * blocks ≤ k) (D.disk device.old) (D.disk device.new) }
+        → WritesOnly (λ k. 3 + 2 * new_blocks.number + 2 * blocks.number ≤ k) (D.disk device.old) (D.disk device.new) }
     ensures stops { IsTrue (D.keeps_model device.old)
-        → StopsLeave D.SectorDevice device.old device.new (IsAsSynced (λ k. 3 + 2 * new_blocks + 2 * blocks ≤ k) (D.disk device.old)) }
+        → StopsLeave D.SectorDevice device.old device.new (IsAsSynced (λ k. 3 + 2 * new_blocks.number + 2 * blocks.number ≤ k) (D.disk device.old)) }
     ensures passes { Passes D.SectorDevice device.old device.new result }
-    ensures begins { BeginsAtMost D.SectorDevice device.old device.new (2 * (new_blocks - blocks)) 0 }
+    ensures begins { BeginsAtMost D.SectorDevice device.old device.new (2 * (new_blocks.number - blocks.number)) 0 }
     ensures reads { ReadsAtMost D.SectorDevice device.old device.new 0 }
 {
     let blank = [b' '; 512];
-    let homes = 3 + 2 * new_blocks as u32;
-    let first = homes + 2 * blocks as u32;
-    for k in first..homes + 2 * new_blocks as u32 {
+    let homes = 3 + 2 * new_blocks.number as u32;
+    let first = homes + 2 * blocks.number as u32;
+    for k in first..homes + 2 * new_blocks.number as u32 {
         device.write(k, &blank)?;
     }
     Ok(())
@@ -151,27 +147,25 @@ fn fill_rest<D: SectorDevice>(
 fn fill_homes<A: SectorDevice, B: SectorDevice>(
     source: &mut A,
     target: &mut B,
-    blocks: u16,
+    blocks: BlockCount,
     listing: &Option<[u8; 512]>,
-    new_blocks: u16,
+    new_blocks: BlockCount,
 ) -> Result<(), UpgradeFault>
-    requires many { fewest_blocks ≤ blocks }
-    requires grows { blocks ≤ new_blocks }
-    requires few { new_blocks ≤ most_blocks }
-    requires from { A.sector_count source.old ≡ sectors_for blocks }
-    requires to { B.sector_count target.old ≡ sectors_for new_blocks }
+    requires grows { blocks.number ≤ new_blocks.number }
+    requires from { A.sector_count source.old ≡ sectors_for blocks.number }
+    requires to { B.sector_count target.old ≡ sectors_for new_blocks.number }
     ensures ok { IsTrue (A.keeps_model source.old) → IsTrue (B.keeps_model target.old)
-        → OnOk result (HasCarried blocks new_blocks (found_in blocks listing.now (A.disk source.old).content) (B.disk target.new).content) }
+        → OnOk result (HasCarried blocks.number new_blocks.number (found_in blocks.number listing.now (A.disk source.old).content) (B.disk target.new).content) }
     ensures only { IsTrue (B.keeps_model target.old)
-        → WritesOnly (λ k. 3 + 2 * new_blocks ≤ k) (B.disk target.old) (B.disk target.new) }
+        → WritesOnly (λ k. 3 + 2 * new_blocks.number ≤ k) (B.disk target.old) (B.disk target.new) }
     ensures stops { IsTrue (B.keeps_model target.old)
-        → StopsLeave B.SectorDevice target.old target.new (IsAsSynced (λ k. 3 + 2 * new_blocks ≤ k) (B.disk target.old)) }
+        → StopsLeave B.SectorDevice target.old target.new (IsAsSynced (λ k. 3 + 2 * new_blocks.number ≤ k) (B.disk target.old)) }
     ensures faults { IfErr result (TellsFault A.SectorDevice B.SectorDevice source.old source.new target.old target.new) }
     ensures well { OnOk result (WentWell A.SectorDevice B.SectorDevice source.old source.new target.old target.new) }
     ensures source { OnlyRead A.SectorDevice source.old source.new }
     ensures passes { Proceeds B.SectorDevice target.old target.new }
-    ensures begins { BeginsAtMost B.SectorDevice target.old target.new (2 * new_blocks) 0 }
-    ensures reads { ReadsAtMost A.SectorDevice source.old source.new (2 * blocks) }
+    ensures begins { BeginsAtMost B.SectorDevice target.old target.new (2 * new_blocks.number) 0 }
+    ensures reads { ReadsAtMost A.SectorDevice source.old source.new (2 * blocks.number) }
     ensures target_reads { ReadsAtMost B.SectorDevice target.old target.new 0 }
 {
     carry_blocks(source, target, blocks, listing, new_blocks)?;
@@ -185,20 +179,18 @@ fn fill_homes<A: SectorDevice, B: SectorDevice>(
 fn fill<A: SectorDevice, B: SectorDevice>(
     source: &mut A,
     target: &mut B,
-    blocks: u16,
+    blocks: BlockCount,
     listing: &Option<[u8; 512]>,
-    new_blocks: u16,
+    new_blocks: BlockCount,
 ) -> Result<(), UpgradeFault>
-    requires many { fewest_blocks ≤ blocks }
-    requires grows { blocks ≤ new_blocks }
-    requires few { new_blocks ≤ most_blocks }
-    requires from { A.sector_count source.old ≡ sectors_for blocks }
-    requires to { B.sector_count target.old ≡ sectors_for new_blocks }
+    requires grows { blocks.number ≤ new_blocks.number }
+    requires from { A.sector_count source.old ≡ sectors_for blocks.number }
+    requires to { B.sector_count target.old ≡ sectors_for new_blocks.number }
     ensures ok { IsTrue (A.keeps_model source.old) → IsTrue (B.keeps_model target.old)
-        → OnOk result (HoldsBlocks new_blocks (carried_blocks blocks new_blocks listing.now (A.disk source.old).content)
+        → OnOk result (HoldsBlocks new_blocks.number (carried_blocks blocks.number new_blocks.number listing.now (A.disk source.old).content)
         (B.disk target.new).content) }
     ensures slots { IsTrue (B.keeps_model target.old)
-        → OnOk result (KeepsSlots new_blocks (B.disk target.old).content (B.disk target.new).content) }
+        → OnOk result (KeepsSlots new_blocks.number (B.disk target.old).content (B.disk target.new).content) }
     ensures only { IsTrue (B.keeps_model target.old)
         → WritesOnly (λ k. k ≢ 0) (B.disk target.old) (B.disk target.new) }
     ensures stops { IsTrue (B.keeps_model target.old)
@@ -207,8 +199,8 @@ fn fill<A: SectorDevice, B: SectorDevice>(
     ensures well { OnOk result (WentWell A.SectorDevice B.SectorDevice source.old source.new target.old target.new) }
     ensures source { OnlyRead A.SectorDevice source.old source.new }
     ensures passes { Proceeds B.SectorDevice target.old target.new }
-    ensures begins { BeginsAtMost B.SectorDevice target.old target.new (2 * new_blocks + 2) 0 }
-    ensures reads { ReadsAtMost A.SectorDevice source.old source.new (2 * blocks) }
+    ensures begins { BeginsAtMost B.SectorDevice target.old target.new (2 * new_blocks.number + 2) 0 }
+    ensures reads { ReadsAtMost A.SectorDevice source.old source.new (2 * blocks.number) }
     ensures target_reads { ReadsAtMost B.SectorDevice target.old target.new 0 }
 {
     match fill_head(target) {
@@ -221,31 +213,29 @@ fn fill<A: SectorDevice, B: SectorDevice>(
 fn prepare<A: SectorDevice, B: SectorDevice>(
     source: &mut A,
     target: &mut B,
-    blocks: u16,
+    blocks: BlockCount,
     listing: &Option<[u8; 512]>,
-    new_blocks: u16,
+    new_blocks: BlockCount,
 ) -> Result<(), UpgradeFault>
-    requires many { fewest_blocks ≤ blocks }
-    requires grows { blocks ≤ new_blocks }
-    requires few { new_blocks ≤ most_blocks }
-    requires from { A.sector_count source.old ≡ sectors_for blocks }
-    requires to { B.sector_count target.old ≡ sectors_for new_blocks }
-    requires unlabelled { IsTrue (B.keeps_model target.old) → IsUnlabelled new_blocks (B.disk target.old) }
+    requires grows { blocks.number ≤ new_blocks.number }
+    requires from { A.sector_count source.old ≡ sectors_for blocks.number }
+    requires to { B.sector_count target.old ≡ sectors_for new_blocks.number }
+    requires unlabelled { IsTrue (B.keeps_model target.old) → IsUnlabelled new_blocks.number (B.disk target.old) }
     ensures ok { IsTrue (A.keeps_model source.old) → IsTrue (B.keeps_model target.old)
-        → OnOk result (IsReady new_blocks (carried_blocks blocks new_blocks listing.now (A.disk source.old).content)
+        → OnOk result (IsReady new_blocks.number (carried_blocks blocks.number new_blocks.number listing.now (A.disk source.old).content)
         (B.disk target.new)) }
     ensures slots { IsTrue (B.keeps_model target.old)
-        → OnOk result (KeepsSlots new_blocks (B.disk target.old).content (B.disk target.new).content) }
+        → OnOk result (KeepsSlots new_blocks.number (B.disk target.old).content (B.disk target.new).content) }
     ensures synced { IsTrue (B.keeps_model target.old)
         → OnOk result ((k : ℕ) → (B.disk target.new).unsynced k ≡ false) }
     ensures stops { IsTrue (B.keeps_model target.old)
-        → StopsLeave B.SectorDevice target.old target.new (λ c. c 0 ≢ label_of new_blocks) }
+        → StopsLeave B.SectorDevice target.old target.new (λ c. c 0 ≢ label_of new_blocks.number) }
     ensures faults { IfErr result (TellsFault A.SectorDevice B.SectorDevice source.old source.new target.old target.new) }
     ensures well { OnOk result (WentWell A.SectorDevice B.SectorDevice source.old source.new target.old target.new) }
     ensures source { OnlyRead A.SectorDevice source.old source.new }
     ensures passes { Proceeds B.SectorDevice target.old target.new }
-    ensures begins { BeginsAtMost B.SectorDevice target.old target.new (2 * new_blocks + 2) 1 }
-    ensures reads { ReadsAtMost A.SectorDevice source.old source.new (2 * blocks) }
+    ensures begins { BeginsAtMost B.SectorDevice target.old target.new (2 * new_blocks.number + 2) 1 }
+    ensures reads { ReadsAtMost A.SectorDevice source.old source.new (2 * blocks.number) }
     ensures target_reads { ReadsAtMost B.SectorDevice target.old target.new 0 }
 {
     fill(source, target, blocks, listing, new_blocks)?;
@@ -259,34 +249,32 @@ fn prepare<A: SectorDevice, B: SectorDevice>(
 fn write_image<A: SectorDevice, B: SectorDevice>(
     source: &mut A,
     target: &mut B,
-    blocks: u16,
+    blocks: BlockCount,
     listing: &Option<[u8; 512]>,
-    new_blocks: u16,
+    new_blocks: BlockCount,
 ) -> Result<(), UpgradeFault>
-    requires many { fewest_blocks ≤ blocks }
-    requires grows { blocks ≤ new_blocks }
-    requires few { new_blocks ≤ most_blocks }
-    requires from { A.sector_count source.old ≡ sectors_for blocks }
-    requires to { B.sector_count target.old ≡ sectors_for new_blocks }
-    requires unlabelled { IsTrue (B.keeps_model target.old) → IsUnlabelled new_blocks (B.disk target.old) }
+    requires grows { blocks.number ≤ new_blocks.number }
+    requires from { A.sector_count source.old ≡ sectors_for blocks.number }
+    requires to { B.sector_count target.old ≡ sectors_for new_blocks.number }
+    requires unlabelled { IsTrue (B.keeps_model target.old) → IsUnlabelled new_blocks.number (B.disk target.old) }
     ensures ok { IsTrue (A.keeps_model source.old) → IsTrue (B.keeps_model target.old)
-        → OnOk result (IsWhole new_blocks (carried_blocks blocks new_blocks listing.now (A.disk source.old).content)
+        → OnOk result (IsWhole new_blocks.number (carried_blocks blocks.number new_blocks.number listing.now (A.disk source.old).content)
         (B.disk target.new)) }
     ensures slots { IsTrue (B.keeps_model target.old)
-        → OnOk result (KeepsSlots new_blocks (B.disk target.old).content (B.disk target.new).content) }
+        → OnOk result (KeepsSlots new_blocks.number (B.disk target.old).content (B.disk target.new).content) }
     ensures stops { IsTrue (A.keeps_model source.old) → IsTrue (B.keeps_model target.old)
         → StopsLeave B.SectorDevice target.old target.new
-        (WrittenLeaves new_blocks (carried_blocks blocks new_blocks listing.now (A.disk source.old).content)) }
+        (WrittenLeaves new_blocks.number (carried_blocks blocks.number new_blocks.number listing.now (A.disk source.old).content)) }
     ensures faults { IfErr result (TellsFault A.SectorDevice B.SectorDevice source.old source.new target.old target.new) }
     ensures well { OnOk result (WentWell A.SectorDevice B.SectorDevice source.old source.new target.old target.new) }
     ensures source { OnlyRead A.SectorDevice source.old source.new }
     ensures passes { Proceeds B.SectorDevice target.old target.new }
-    ensures begins { BeginsAtMost B.SectorDevice target.old target.new (2 * new_blocks + 3) 2 }
-    ensures reads { ReadsAtMost A.SectorDevice source.old source.new (2 * blocks) }
+    ensures begins { BeginsAtMost B.SectorDevice target.old target.new (2 * new_blocks.number + 3) 2 }
+    ensures reads { ReadsAtMost A.SectorDevice source.old source.new (2 * blocks.number) }
     ensures target_reads { ReadsAtMost B.SectorDevice target.old target.new 0 }
 {
     prepare(source, target, blocks, listing, new_blocks)?;
-    match seal(target, BlockCount { number: new_blocks }) {
+    match seal(target, new_blocks) {
         Ok(()) => Ok(()),
         Err(_) => Err(UpgradeFault::New(OpenFault::Device)),
     }
@@ -297,32 +285,30 @@ fn write_image<A: SectorDevice, B: SectorDevice>(
 pub(crate) fn carry<A: SectorDevice, B: SectorDevice>(
     source: &mut A,
     target: &mut B,
-    blocks: u16,
+    blocks: BlockCount,
     listing: &Option<[u8; 512]>,
-    new_blocks: u16,
+    new_blocks: BlockCount,
 ) -> Result<(), UpgradeFault>
-    requires many { fewest_blocks ≤ blocks }
-    requires grows { blocks ≤ new_blocks }
-    requires few { new_blocks ≤ most_blocks }
-    requires from { A.sector_count source.old ≡ sectors_for blocks }
-    requires to { B.sector_count target.old ≡ sectors_for new_blocks }
+    requires grows { blocks.number ≤ new_blocks.number }
+    requires from { A.sector_count source.old ≡ sectors_for blocks.number }
+    requires to { B.sector_count target.old ≡ sectors_for new_blocks.number }
     ensures ok { IsTrue (A.keeps_model source.old) → IsTrue (B.keeps_model target.old)
-        → OnOk result (IsWhole new_blocks (carried_blocks blocks new_blocks listing.now (A.disk source.old).content)
+        → OnOk result (IsWhole new_blocks.number (carried_blocks blocks.number new_blocks.number listing.now (A.disk source.old).content)
         (B.disk target.new)) }
     ensures slots { IsTrue (B.keeps_model target.old)
-        → OnOk result (KeepsSlots new_blocks (B.disk target.old).content (B.disk target.new).content) }
+        → OnOk result (KeepsSlots new_blocks.number (B.disk target.old).content (B.disk target.new).content) }
     ensures stops { IsTrue (A.keeps_model source.old) → IsTrue (B.keeps_model target.old)
         → StopsLeave B.SectorDevice target.old target.new
-        (MakingLeaves new_blocks (carried_blocks blocks new_blocks listing.now (A.disk source.old).content) (B.disk target.old)) }
+        (MakingLeaves new_blocks.number (carried_blocks blocks.number new_blocks.number listing.now (A.disk source.old).content) (B.disk target.old)) }
     ensures faults { IfErr result (TellsFault A.SectorDevice B.SectorDevice source.old source.new target.old target.new) }
     ensures well { OnOk result (WentWell A.SectorDevice B.SectorDevice source.old source.new target.old target.new) }
     ensures source { OnlyRead A.SectorDevice source.old source.new }
     ensures passes { Proceeds B.SectorDevice target.old target.new }
-    ensures begins { BeginsAtMost B.SectorDevice target.old target.new (2 * new_blocks + 4) 4 }
-    ensures reads { ReadsAtMost A.SectorDevice source.old source.new (2 * blocks) }
+    ensures begins { BeginsAtMost B.SectorDevice target.old target.new (2 * new_blocks.number + 4) 4 }
+    ensures reads { ReadsAtMost A.SectorDevice source.old source.new (2 * blocks.number) }
     ensures target_reads { ReadsAtMost B.SectorDevice target.old target.new 1 }
 {
-    match unlabel(target, BlockCount { number: new_blocks }) {
+    match unlabel(target, new_blocks) {
         Ok(()) => write_image(source, target, blocks, listing, new_blocks),
         Err(_) => Err(UpgradeFault::New(OpenFault::Device)),
     }

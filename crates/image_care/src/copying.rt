@@ -4,7 +4,7 @@ ghost use Rattle.sector_disk.specs.Counting.{count_up};
 ghost use Rattle.sector_disk.specs.Disk.{Image, MayLeave};
 ghost use Rattle.journal.specs.Calls.{StopsLeave, BeginsAtMost, ReadsAtMost, Proceeds};
 ghost use Rattle.journal.specs.Images.{meaning, Means};
-ghost use Rattle.journal.specs.Layout.{fewest_blocks, most_blocks, sectors_for};
+ghost use Rattle.journal.specs.Layout.{sectors_for};
 ghost use Rattle.recovery.specs.Formatted.{MakingLeaves, KeepsSlots};
 ghost use Rattle.recovery.specs.Label.{label_refusal};
 ghost use Rattle.recovery.specs.Opened.{first_of, damage_refusal};
@@ -18,24 +18,22 @@ ghost use Rattle.image_care.specs.Examined.{record_in, reads_to_list};
 
 use crate::carrying::carry;
 use crate::listing::{read_label, read_listing};
-use journal::layout::{MOST_BLOCKS, VERSION};
+use journal::layout::{BlockCount, MOST_BLOCKS, VERSION};
 use recovery::{OpenFault, UpgradeFault, blocks_of_size};
 use sector_disk::SectorDevice;
 
 // How many blocks both images have.
 #[derive(Clone, Copy)]
 struct Sizes {
-    old: u16,
-    new: u16,
+    old: BlockCount,
+    new: BlockCount,
 }
 
 fn sizes_of(old: u32, new: u32) -> Result<Sizes, UpgradeFault>
     ensures exact { MatchResult result (λ _. copy_size_refusal old new ≡ None) (λ e. copy_size_refusal old new ≡ Some e) }
-    ensures old { IfOk result (λ sizes. old ≡ sectors_for sizes.old) }
-    ensures new { IfOk result (λ sizes. new ≡ sectors_for sizes.new) }
-    ensures many { IfOk result (λ sizes. fewest_blocks ≤ sizes.old) }
-    ensures grows { IfOk result (λ sizes. sizes.old ≤ sizes.new) }
-    ensures few { IfOk result (λ sizes. sizes.new ≤ most_blocks) }
+    ensures old { IfOk result (λ sizes. old ≡ sectors_for sizes.old.number) }
+    ensures new { IfOk result (λ sizes. new ≡ sectors_for sizes.new.number) }
+    ensures grows { IfOk result (λ sizes. sizes.old.number ≤ sizes.new.number) }
     ensures told { IfErr result (λ e. (e ≡ Old BadSize) ⊎ (e ≡ New BadSize)) }
 {
     let Some(blocks) = blocks_of_size(old, MOST_BLOCKS) else {
@@ -48,31 +46,29 @@ fn sizes_of(old: u32, new: u32) -> Result<Sizes, UpgradeFault>
         return Err(UpgradeFault::New(OpenFault::BadSize));
     }
     Ok(Sizes {
-        old: blocks,
-        new: new_blocks,
+        old: BlockCount { number: blocks },
+        new: BlockCount { number: new_blocks },
     })
 }
 
 // Reads the label of an image, and the record of the save that is under way.
-fn find<D: SectorDevice>(device: &mut D, blocks: u16) -> Result<Option<[u8; 512]>, OpenFault>
-    requires many { fewest_blocks ≤ blocks }
-    requires few { blocks ≤ most_blocks }
-    requires size { D.sector_count device.old ≡ sectors_for blocks }
+fn find<D: SectorDevice>(device: &mut D, blocks: BlockCount) -> Result<Option<[u8; 512]>, OpenFault>
+    requires size { D.sector_count device.old ≡ sectors_for blocks.number }
     ensures ok { IsTrue (D.keeps_model device.old)
         → IfOk result (λ listing. listing ≡ record_in (D.disk device.old).content) }
     ensures exact { IsTrue (D.keeps_model device.old) → MatchResult result
-        (λ _. first_of (label_refusal blocks ((D.disk device.old).content 0)) (damage_refusal blocks (D.disk device.old).content) ≡ None)
+        (λ _. first_of (label_refusal blocks.number ((D.disk device.old).content 0)) (damage_refusal blocks.number (D.disk device.old).content) ≡ None)
         (λ e. (e ≡ Device)
-        ⊎ (first_of (label_refusal blocks ((D.disk device.old).content 0)) (damage_refusal blocks (D.disk device.old).content) ≡ Some e)) }
+        ⊎ (first_of (label_refusal blocks.number ((D.disk device.old).content 0)) (damage_refusal blocks.number (D.disk device.old).content) ≡ Some e)) }
     ensures sized { IfErr result (λ e. e ≢ BadSize) }
     ensures device { IfErr result (λ e. e ≡ Device → D.failures device.new ≡ count_up (D.failures device.old)) }
     ensures refused { IfErr result (λ e. e ≢ Device → D.failures device.new ≡ D.failures device.old) }
     ensures well { OnOk result (D.failures device.new ≡ D.failures device.old) }
     ensures only_read { OnlyRead D.SectorDevice device.old device.new }
     ensures reads { IsTrue (D.keeps_model device.old)
-        → ReadsAtMost D.SectorDevice device.old device.new (reads_to_list blocks (D.disk device.old).content + 1) }
+        → ReadsAtMost D.SectorDevice device.old device.new (reads_to_list blocks.number (D.disk device.old).content + 1) }
 {
-    read_label(device, VERSION, blocks)?;
+    read_label(device, VERSION, blocks.number)?;
     read_listing(device, blocks)
 }
 

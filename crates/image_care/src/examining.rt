@@ -1,5 +1,5 @@
 // An image is examined: what it holds is found by reads alone.
-ghost use Rattle.std.specs.Prelude.{◌≡◌, ◌≢◌, ◌⊎◌, ◌≤◌, ◌+◌, ◌*◌, ℕ, true, None, Some, IsTrue, OnOk, IfOk, IfErr, MatchBool, MatchResult};
+ghost use Rattle.std.specs.Prelude.{◌≡◌, ◌≢◌, ◌⊎◌, ◌+◌, ◌*◌, ℕ, true, None, Some, IsTrue, OnOk, IfOk, IfErr, MatchBool, MatchResult};
 ghost use Rattle.std.specs.List.{concat};
 ghost use Rattle.sha2.specs.Sha256.{sha256};
 ghost use Rattle.sector_disk.specs.Counting.{count_up};
@@ -7,7 +7,7 @@ ghost use Rattle.sector_disk.specs.Disk.{MayLeave};
 ghost use Rattle.journal.specs.Calls.{StopsLeave, BeginsAtMost, ReadsAtMost, Proceeds};
 ghost use Rattle.journal.specs.Chain.{HasMeaning};
 ghost use Rattle.journal.specs.Images.{meaning};
-ghost use Rattle.journal.specs.Layout.{fewest_blocks, most_blocks, sectors_for, count_listed};
+ghost use Rattle.journal.specs.Layout.{sectors_for, count_listed};
 ghost use Rattle.recovery.specs.Label.{is_size};
 ghost use Rattle.recovery.specs.Opened.{damage_refusal, image_refusal};
 ghost use Rattle.recovery.specs.declared.fault.OpenFault.{OpenFault};
@@ -16,7 +16,7 @@ ghost use Rattle.image_care.specs.Examined.{record_in, count_in, found_in, joine
 
 use crate::blocks::digest_of_blocks;
 use crate::listing::{read_label, read_listing};
-use journal::layout::{MOST_BLOCKS, VERSION, is_listed};
+use journal::layout::{BlockCount, MOST_BLOCKS, VERSION, is_listed};
 use recovery::{OpenFault, blocks_of_size};
 use sector_disk::SectorDevice;
 
@@ -72,26 +72,24 @@ pub fn examine<D: SectorDevice>(device: &mut D) -> Result<Examined, OpenFault>
     ensures reads { IsTrue (D.keeps_model device.old) → (n : ℕ) → D.sector_count device.old ≡ sectors_for n
         → ReadsAtMost D.SectorDevice device.old device.new (reads_to_list n (D.disk device.old).content + 2 * n + 1) }
 {
-    let Some(blocks) = blocks_of_size(device.sectors(), MOST_BLOCKS) else {
+    let Some(number) = blocks_of_size(device.sectors(), MOST_BLOCKS) else {
         return Err(OpenFault::BadSize);
     };
-    read_label(device, VERSION, blocks)?;
-    look(device, blocks)
+    read_label(device, VERSION, number)?;
+    look(device, BlockCount { number })
 }
 
 // What an image with a good label holds.
-fn look<D: SectorDevice>(device: &mut D, blocks: u16) -> Result<Examined, OpenFault>
-    requires many { fewest_blocks ≤ blocks }
-    requires few { blocks ≤ most_blocks }
-    requires size { D.sector_count device.old ≡ sectors_for blocks }
-    ensures blocks { IfOk result (λ found. found.blocks ≡ blocks) }
+fn look<D: SectorDevice>(device: &mut D, blocks: BlockCount) -> Result<Examined, OpenFault>
+    requires size { D.sector_count device.old ≡ sectors_for blocks.number }
+    ensures blocks { IfOk result (λ found. found.blocks ≡ blocks.number) }
     ensures under_way { IsTrue (D.keeps_model device.old) → IfOk result (λ found.
-        found.under_way ≡ count_in blocks (record_in (D.disk device.old).content)) }
+        found.under_way ≡ count_in blocks.number (record_in (D.disk device.old).content)) }
     ensures digest { IsTrue (D.keeps_model device.old) → IfOk result (λ found.
-        found.digest ≡ sha256 (concat (meaning blocks (D.disk device.old).content))) }
+        found.digest ≡ sha256 (concat (meaning blocks.number (D.disk device.old).content))) }
     ensures exact { IsTrue (D.keeps_model device.old) → MatchResult result
-        (λ _. damage_refusal blocks (D.disk device.old).content ≡ None)
-        (λ e. (e ≡ Device) ⊎ (damage_refusal blocks (D.disk device.old).content ≡ Some e)) }
+        (λ _. damage_refusal blocks.number (D.disk device.old).content ≡ None)
+        (λ e. (e ≡ Device) ⊎ (damage_refusal blocks.number (D.disk device.old).content ≡ Some e)) }
     ensures sized { IfErr result (λ e. e ≢ BadSize) }
     ensures device { IfErr result (λ e. e ≡ Device → D.failures device.new ≡ count_up (D.failures device.old)) }
     ensures refused { IfErr result (λ e. e ≢ Device → D.failures device.new ≡ D.failures device.old) }
@@ -102,7 +100,7 @@ fn look<D: SectorDevice>(device: &mut D, blocks: u16) -> Result<Examined, OpenFa
     ensures passes { Proceeds D.SectorDevice device.old device.new }
     ensures begins { BeginsAtMost D.SectorDevice device.old device.new 0 0 }
     ensures reads { IsTrue (D.keeps_model device.old)
-        → ReadsAtMost D.SectorDevice device.old device.new (reads_to_list blocks (D.disk device.old).content + 2 * blocks) }
+        → ReadsAtMost D.SectorDevice device.old device.new (reads_to_list blocks.number (D.disk device.old).content + 2 * blocks.number) }
 {
     let listing = read_listing(device, blocks)?;
     add_up(device, blocks, &listing)
@@ -111,16 +109,14 @@ fn look<D: SectorDevice>(device: &mut D, blocks: u16) -> Result<Examined, OpenFa
 // What an image holds, of which the record is read.
 fn add_up<D: SectorDevice>(
     device: &mut D,
-    blocks: u16,
+    blocks: BlockCount,
     listing: &Option<[u8; 512]>,
 ) -> Result<Examined, OpenFault>
-    requires many { fewest_blocks ≤ blocks }
-    requires few { blocks ≤ most_blocks }
-    requires size { D.sector_count device.old ≡ sectors_for blocks }
-    ensures blocks { IfOk result (λ found. found.blocks ≡ blocks) }
-    ensures under_way { IfOk result (λ found. found.under_way ≡ count_in blocks listing.now) }
+    requires size { D.sector_count device.old ≡ sectors_for blocks.number }
+    ensures blocks { IfOk result (λ found. found.blocks ≡ blocks.number) }
+    ensures under_way { IfOk result (λ found. found.under_way ≡ count_in blocks.number listing.now) }
     ensures digest { IsTrue (D.keeps_model device.old) → IfOk result (λ found.
-        found.digest ≡ sha256 (joined_below (found_in blocks listing.now (D.disk device.old).content) blocks)) }
+        found.digest ≡ sha256 (joined_below (found_in blocks.number listing.now (D.disk device.old).content) blocks.number)) }
     ensures fault { IfErr result (λ e. e ≡ Device) }
     ensures device { IfErr result (λ _. D.failures device.new ≡ count_up (D.failures device.old)) }
     ensures well { OnOk result (D.failures device.new ≡ D.failures device.old) }
@@ -129,11 +125,11 @@ fn add_up<D: SectorDevice>(
         → StopsLeave D.SectorDevice device.old device.new (MayLeave (D.disk device.old)) }
     ensures passes { Proceeds D.SectorDevice device.old device.new }
     ensures begins { BeginsAtMost D.SectorDevice device.old device.new 0 0 }
-    ensures reads { ReadsAtMost D.SectorDevice device.old device.new (2 * blocks) }
+    ensures reads { ReadsAtMost D.SectorDevice device.old device.new (2 * blocks.number) }
 {
     match digest_of_blocks(device, blocks, listing) {
         Ok(digest) => Ok(Examined {
-            blocks,
+            blocks: blocks.number,
             under_way: count(listing, blocks),
             digest,
         }),
@@ -142,9 +138,8 @@ fn add_up<D: SectorDevice>(
 }
 
 // How many of the first blocks a record lists, where there is one.
-fn count(listing: &Option<[u8; 512]>, blocks: u16) -> Option<u16>
-    requires { blocks ≤ most_blocks }
-    ensures { result ≡ count_in blocks listing.now }
+fn count(listing: &Option<[u8; 512]>, blocks: BlockCount) -> Option<u16>
+    ensures { result ≡ count_in blocks.number listing.now }
 {
     match listing {
         Some(bytes) => Some(count_blocks(bytes, blocks)),
@@ -152,12 +147,11 @@ fn count(listing: &Option<[u8; 512]>, blocks: u16) -> Option<u16>
     }
 }
 
-fn count_blocks(bytes: &[u8; 512], blocks: u16) -> u16
-    requires { blocks ≤ most_blocks }
-    ensures { result ≡ count_listed bytes.now blocks }
+fn count_blocks(bytes: &[u8; 512], blocks: BlockCount) -> u16
+    ensures { result ≡ count_listed bytes.now blocks.number }
 {
     let mut count = 0;
-    for b in 0..blocks {
+    for b in 0..blocks.number {
         if is_listed(bytes, b) {
             count += 1;
         }

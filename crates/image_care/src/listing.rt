@@ -1,19 +1,18 @@
 // What stands before the blocks of an image: its label, and the record of the save that is under way.
-ghost use Rattle.std.specs.Prelude.{◌≡◌, ◌≢◌, ◌⊎◌, ◌≤◌, ◌+◌, ◌*◌, true, false, None, Some, IsTrue, OnOk, IfOk, IfErr, MatchResult};
+ghost use Rattle.std.specs.Prelude.{◌≡◌, ◌≢◌, ◌⊎◌, ◌≤◌, ◌+◌, ◌*◌, true, None, Some, IsTrue, OnOk, IfOk, IfErr, MatchResult};
 ghost use Rattle.sector_disk.specs.Counting.{count_up};
 ghost use Rattle.sector_disk.specs.Disk.{MayLeave};
-ghost use Rattle.journal.specs.Calls.{StopsLeave, BeginsAtMost, ReadsAtMost, Passes, Proceeds};
-ghost use Rattle.journal.specs.Images.{is_true_record};
-ghost use Rattle.journal.specs.Layout.{fewest_blocks, most_blocks, sectors_for, label_by, gate_open, count_listed};
+ghost use Rattle.journal.specs.Calls.{StopsLeave, BeginsAtMost, ReadsAtMost, Proceeds};
+ghost use Rattle.journal.specs.Layout.{sectors_for, label_by, gate_open, count_listed};
 ghost use Rattle.recovery.specs.Label.{label_refusal_by};
 ghost use Rattle.recovery.specs.Opened.{damage_refusal};
 ghost use Rattle.recovery.specs.declared.fault.OpenFault.{OpenFault};
-ghost use Rattle.recovery.specs.declared.fault.OpenFault.TheVariants.{BadSize, Device, Damaged};
+ghost use Rattle.recovery.specs.declared.fault.OpenFault.TheVariants.{BadSize, Device};
 ghost use Rattle.image_care.specs.Examined.{record_in, reads_to_list};
 
 use journal::layout::{BlockCount, GATE, LABEL, VERSION, gate_is_open};
 use recovery::{OpenFault, check_label, read_record};
-use sector_disk::{DeviceFault, SectorDevice};
+use sector_disk::SectorDevice;
 
 // Reads the label, and looks at it.
 pub(crate) fn read_label<D: SectorDevice>(
@@ -44,16 +43,17 @@ pub(crate) fn read_label<D: SectorDevice>(
 }
 
 // The record under an open gate.
-fn take_record<D: SectorDevice>(device: &mut D, blocks: u16) -> Result<Option<[u8; 512]>, OpenFault>
-    requires many { fewest_blocks ≤ blocks }
-    requires few { blocks ≤ most_blocks }
-    requires size { D.sector_count device.old ≡ sectors_for blocks }
+fn take_record<D: SectorDevice>(
+    device: &mut D,
+    blocks: BlockCount,
+) -> Result<Option<[u8; 512]>, OpenFault>
+    requires size { D.sector_count device.old ≡ sectors_for blocks.number }
     requires gate { IsTrue (D.keeps_model device.old) → gate_open ((D.disk device.old).content 1) ≡ true }
     ensures ok { IsTrue (D.keeps_model device.old)
         → IfOk result (λ listing. listing ≡ Some ((D.disk device.old).content 2)) }
     ensures exact { IsTrue (D.keeps_model device.old) → MatchResult result
-        (λ _. damage_refusal blocks (D.disk device.old).content ≡ None)
-        (λ e. (e ≡ Device) ⊎ (damage_refusal blocks (D.disk device.old).content ≡ Some e)) }
+        (λ _. damage_refusal blocks.number (D.disk device.old).content ≡ None)
+        (λ e. (e ≡ Device) ⊎ (damage_refusal blocks.number (D.disk device.old).content ≡ Some e)) }
     ensures sized { IfErr result (λ e. e ≢ BadSize) }
     ensures device { IfErr result (λ e. e ≡ Device → D.failures device.new ≡ count_up (D.failures device.old)) }
     ensures refused { IfErr result (λ e. e ≢ Device → D.failures device.new ≡ D.failures device.old) }
@@ -64,26 +64,24 @@ fn take_record<D: SectorDevice>(device: &mut D, blocks: u16) -> Result<Option<[u
     ensures passes { Proceeds D.SectorDevice device.old device.new }
     ensures begins { BeginsAtMost D.SectorDevice device.old device.new 0 0 }
     ensures reads { IsTrue (D.keeps_model device.old)
-        → ReadsAtMost D.SectorDevice device.old device.new (2 * count_listed ((D.disk device.old).content 2) blocks + 1) }
+        → ReadsAtMost D.SectorDevice device.old device.new (2 * count_listed ((D.disk device.old).content 2) blocks.number + 1) }
 {
     let mut record = [0; 512];
-    read_record(device, VERSION, BlockCount { number: blocks }, &mut record)?;
+    read_record(device, VERSION, blocks, &mut record)?;
     Ok(Some(record))
 }
 
 // The record of the save that is under way, where the gate tells of one.
 pub(crate) fn read_listing<D: SectorDevice>(
     device: &mut D,
-    blocks: u16,
+    blocks: BlockCount,
 ) -> Result<Option<[u8; 512]>, OpenFault>
-    requires many { fewest_blocks ≤ blocks }
-    requires few { blocks ≤ most_blocks }
-    requires size { D.sector_count device.old ≡ sectors_for blocks }
+    requires size { D.sector_count device.old ≡ sectors_for blocks.number }
     ensures ok { IsTrue (D.keeps_model device.old)
         → IfOk result (λ listing. listing ≡ record_in (D.disk device.old).content) }
     ensures exact { IsTrue (D.keeps_model device.old) → MatchResult result
-        (λ _. damage_refusal blocks (D.disk device.old).content ≡ None)
-        (λ e. (e ≡ Device) ⊎ (damage_refusal blocks (D.disk device.old).content ≡ Some e)) }
+        (λ _. damage_refusal blocks.number (D.disk device.old).content ≡ None)
+        (λ e. (e ≡ Device) ⊎ (damage_refusal blocks.number (D.disk device.old).content ≡ Some e)) }
     ensures sized { IfErr result (λ e. e ≢ BadSize) }
     ensures device { IfErr result (λ e. e ≡ Device → D.failures device.new ≡ count_up (D.failures device.old)) }
     ensures refused { IfErr result (λ e. e ≢ Device → D.failures device.new ≡ D.failures device.old) }
@@ -94,7 +92,7 @@ pub(crate) fn read_listing<D: SectorDevice>(
     ensures passes { Proceeds D.SectorDevice device.old device.new }
     ensures begins { BeginsAtMost D.SectorDevice device.old device.new 0 0 }
     ensures reads { IsTrue (D.keeps_model device.old)
-        → ReadsAtMost D.SectorDevice device.old device.new (reads_to_list blocks (D.disk device.old).content) }
+        → ReadsAtMost D.SectorDevice device.old device.new (reads_to_list blocks.number (D.disk device.old).content) }
 {
     let mut gate = [0; 512];
     device.read(GATE, &mut gate)?;

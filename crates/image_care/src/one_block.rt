@@ -5,7 +5,7 @@ ghost use Rattle.sector_disk.specs.Disk.{MayLeave};
 ghost use Rattle.journal.specs.Calls.{StopsLeave, BeginsAtMost, ReadsAtMost, Passes, Proceeds};
 ghost use Rattle.journal.specs.Chain.{HasMeaning};
 ghost use Rattle.journal.specs.Images.{block_of};
-ghost use Rattle.journal.specs.Layout.{fewest_blocks, most_blocks, sectors_for};
+ghost use Rattle.journal.specs.Layout.{sectors_for};
 ghost use Rattle.recovery.specs.Label.{blocks_in, is_size};
 ghost use Rattle.recovery.specs.Opened.{damage_refusal, image_refusal};
 ghost use Rattle.recovery.specs.declared.fault.OpenFault.{OpenFault};
@@ -14,7 +14,7 @@ ghost use Rattle.image_care.specs.Examined.{found_in, reads_to_list};
 
 use crate::blocks::place_of;
 use crate::listing::{read_label, read_listing};
-use journal::layout::{MOST_BLOCKS, VERSION};
+use journal::layout::{BlockCount, MOST_BLOCKS, VERSION};
 use journal::read_pair;
 use recovery::{OpenFault, blocks_of_size};
 use sector_disk::{DeviceFault, SectorDevice};
@@ -63,28 +63,26 @@ pub fn read_block<D: SectorDevice>(
     ensures reads { IsTrue (D.keeps_model device.old) → ReadsAtMost D.SectorDevice device.old device.new
         (reads_to_list (blocks_in (D.sector_count device.old)) (D.disk device.old).content + 3) }
 {
-    let Some(blocks) = blocks_of_size(device.sectors(), MOST_BLOCKS) else {
+    let Some(number) = blocks_of_size(device.sectors(), MOST_BLOCKS) else {
         return Err(OpenFault::BadSize);
     };
-    read_label(device, VERSION, blocks)?;
-    look_up(device, blocks, block)
+    read_label(device, VERSION, number)?;
+    look_up(device, BlockCount { number }, block)
 }
 
 // A block of an image with a good label.
 fn look_up<D: SectorDevice>(
     device: &mut D,
-    blocks: u16,
+    blocks: BlockCount,
     b: u16,
 ) -> Result<Option<[u8; 1024]>, OpenFault>
-    requires many { fewest_blocks ≤ blocks }
-    requires few { blocks ≤ most_blocks }
-    requires size { D.sector_count device.old ≡ sectors_for blocks }
-    ensures there { IfOk result (λ found. MatchOption found (blocks ≤ b) (λ _. b < blocks)) }
+    requires size { D.sector_count device.old ≡ sectors_for blocks.number }
+    ensures there { IfOk result (λ found. MatchOption found (blocks.number ≤ b) (λ _. b < blocks.number)) }
     ensures bytes { IsTrue (D.keeps_model device.old) → IfOk result (λ found. IfSome found (λ bytes.
-        bytes ≡ block_of blocks (D.disk device.old).content b)) }
+        bytes ≡ block_of blocks.number (D.disk device.old).content b)) }
     ensures exact { IsTrue (D.keeps_model device.old) → MatchResult result
-        (λ _. damage_refusal blocks (D.disk device.old).content ≡ None)
-        (λ e. (e ≡ Device) ⊎ (damage_refusal blocks (D.disk device.old).content ≡ Some e)) }
+        (λ _. damage_refusal blocks.number (D.disk device.old).content ≡ None)
+        (λ e. (e ≡ Device) ⊎ (damage_refusal blocks.number (D.disk device.old).content ≡ Some e)) }
     ensures sized { IfErr result (λ e. e ≢ BadSize) }
     ensures device { IfErr result (λ e. e ≡ Device → D.failures device.new ≡ count_up (D.failures device.old)) }
     ensures refused { IfErr result (λ e. e ≢ Device → D.failures device.new ≡ D.failures device.old) }
@@ -95,7 +93,7 @@ fn look_up<D: SectorDevice>(
     ensures passes { Proceeds D.SectorDevice device.old device.new }
     ensures begins { BeginsAtMost D.SectorDevice device.old device.new 0 0 }
     ensures reads { IsTrue (D.keeps_model device.old)
-        → ReadsAtMost D.SectorDevice device.old device.new (reads_to_list blocks (D.disk device.old).content + 2) }
+        → ReadsAtMost D.SectorDevice device.old device.new (reads_to_list blocks.number (D.disk device.old).content + 2) }
 {
     let listing = read_listing(device, blocks)?;
     take_block(device, blocks, &listing, b)
@@ -104,16 +102,14 @@ fn look_up<D: SectorDevice>(
 // A block of an image of which the record is read, where the image has it.
 fn take_block<D: SectorDevice>(
     device: &mut D,
-    blocks: u16,
+    blocks: BlockCount,
     listing: &Option<[u8; 512]>,
     b: u16,
 ) -> Result<Option<[u8; 1024]>, OpenFault>
-    requires many { fewest_blocks ≤ blocks }
-    requires few { blocks ≤ most_blocks }
-    requires size { D.sector_count device.old ≡ sectors_for blocks }
-    ensures there { IfOk result (λ found. MatchOption found (blocks ≤ b) (λ _. b < blocks)) }
+    requires size { D.sector_count device.old ≡ sectors_for blocks.number }
+    ensures there { IfOk result (λ found. MatchOption found (blocks.number ≤ b) (λ _. b < blocks.number)) }
     ensures bytes { IsTrue (D.keeps_model device.old) → IfOk result (λ found. IfSome found (λ bytes.
-        bytes ≡ found_in blocks listing.now (D.disk device.old).content b)) }
+        bytes ≡ found_in blocks.number listing.now (D.disk device.old).content b)) }
     ensures fault { IfErr result (λ e. e ≡ Device) }
     ensures device { IfErr result (λ _. D.failures device.new ≡ count_up (D.failures device.old)) }
     ensures well { OnOk result (D.failures device.new ≡ D.failures device.old) }
@@ -124,7 +120,7 @@ fn take_block<D: SectorDevice>(
     ensures begins { BeginsAtMost D.SectorDevice device.old device.new 0 0 }
     ensures reads { ReadsAtMost D.SectorDevice device.old device.new 2 }
 {
-    if b >= blocks {
+    if b >= blocks.number {
         return Ok(None);
     }
     match read_found(device, blocks, listing, b) {
@@ -136,16 +132,14 @@ fn take_block<D: SectorDevice>(
 // A block that is there, read where it stands.
 fn read_found<D: SectorDevice>(
     device: &mut D,
-    blocks: u16,
+    blocks: BlockCount,
     listing: &Option<[u8; 512]>,
     b: u16,
 ) -> Result<[u8; 1024], DeviceFault>
-    requires many { fewest_blocks ≤ blocks }
-    requires few { blocks ≤ most_blocks }
-    requires size { D.sector_count device.old ≡ sectors_for blocks }
-    requires below { b < blocks }
+    requires size { D.sector_count device.old ≡ sectors_for blocks.number }
+    requires below { b < blocks.number }
     ensures bytes { IsTrue (D.keeps_model device.old)
-        → IfOk result (λ bytes. bytes ≡ found_in blocks listing.now (D.disk device.old).content b) }
+        → IfOk result (λ bytes. bytes ≡ found_in blocks.number listing.now (D.disk device.old).content b) }
     ensures disk { IsTrue (D.keeps_model device.old) → D.disk device.new ≡ D.disk device.old }
     ensures stops { IsTrue (D.keeps_model device.old)
         → StopsLeave D.SectorDevice device.old device.new (MayLeave (D.disk device.old)) }

@@ -1,10 +1,10 @@
 // What can be had of a damaged image is put into a new one.
-ghost use Rattle.std.specs.Prelude.{◌≡◌, ◌≢◌, ◌⊎◌, ◌≤◌, ◌+◌, ◌*◌, ℕ, false, None, Some, IsTrue, OnOk, IfOk, IfErr, MatchResult};
+ghost use Rattle.std.specs.Prelude.{◌≡◌, ◌≢◌, ◌⊎◌, ◌+◌, ◌*◌, ℕ, false, None, Some, IsTrue, OnOk, IfOk, IfErr, MatchResult};
 ghost use Rattle.sector_disk.specs.Counting.{count_up};
 ghost use Rattle.sector_disk.specs.Disk.{Image, MayLeave};
 ghost use Rattle.journal.specs.Calls.{StopsLeave, BeginsAtMost, ReadsAtMost, Proceeds};
 ghost use Rattle.journal.specs.Images.{meaning, is_damaged, Means};
-ghost use Rattle.journal.specs.Layout.{fewest_blocks, most_blocks, sectors_for};
+ghost use Rattle.journal.specs.Layout.{sectors_for};
 ghost use Rattle.recovery.specs.Formatted.{MakingLeaves, KeepsSlots};
 ghost use Rattle.recovery.specs.Steps.{OnlyRead, WentWell};
 ghost use Rattle.recovery.specs.declared.fault.OpenFault.{OpenFault};
@@ -17,41 +17,40 @@ ghost use Rattle.image_care.specs.Examined.{reads_to_list};
 
 use crate::carrying::carry;
 use crate::listing::read_listing;
-use journal::layout::MOST_BLOCKS;
+use journal::layout::{BlockCount, MOST_BLOCKS};
 use recovery::{OpenFault, UpgradeFault, blocks_of_size};
 use sector_disk::SectorDevice;
 
 // How many blocks both images have.
-fn blocks_of_both(old: u32, new: u32) -> Result<u16, UpgradeFault>
+fn blocks_of_both(old: u32, new: u32) -> Result<BlockCount, UpgradeFault>
     ensures exact { MatchResult result (λ _. salvage_refusal old new ≡ None) (λ e. salvage_refusal old new ≡ Some e) }
-    ensures old { IfOk result (λ n. old ≡ sectors_for n) }
-    ensures new { IfOk result (λ n. new ≡ sectors_for n) }
-    ensures many { IfOk result (λ n. fewest_blocks ≤ n) }
-    ensures few { IfOk result (λ n. n ≤ most_blocks) }
+    ensures old { IfOk result (λ n. old ≡ sectors_for n.number) }
+    ensures new { IfOk result (λ n. new ≡ sectors_for n.number) }
     ensures told { IfErr result (λ e. (e ≡ Old BadSize) ⊎ (e ≡ New BadSize)) }
 {
-    let Some(blocks) = blocks_of_size(old, MOST_BLOCKS) else {
+    let Some(number) = blocks_of_size(old, MOST_BLOCKS) else {
         return Err(UpgradeFault::Old(OpenFault::BadSize));
     };
     if new != old {
         return Err(UpgradeFault::New(OpenFault::BadSize));
     }
-    Ok(blocks)
+    Ok(BlockCount { number })
 }
 
 // The record under an open gate, where its digest is true. One whose digest isn't is as none.
-fn find_true<D: SectorDevice>(device: &mut D, blocks: u16) -> Result<Option<[u8; 512]>, OpenFault>
-    requires many { fewest_blocks ≤ blocks }
-    requires few { blocks ≤ most_blocks }
-    requires size { D.sector_count device.old ≡ sectors_for blocks }
+fn find_true<D: SectorDevice>(
+    device: &mut D,
+    blocks: BlockCount,
+) -> Result<Option<[u8; 512]>, OpenFault>
+    requires size { D.sector_count device.old ≡ sectors_for blocks.number }
     ensures ok { IsTrue (D.keeps_model device.old)
-        → IfOk result (λ listing. listing ≡ true_record_in blocks (D.disk device.old).content) }
+        → IfOk result (λ listing. listing ≡ true_record_in blocks.number (D.disk device.old).content) }
     ensures fault { IfErr result (λ e. e ≡ Device) }
     ensures device { IfErr result (λ _. D.failures device.new ≡ count_up (D.failures device.old)) }
     ensures well { OnOk result (D.failures device.new ≡ D.failures device.old) }
     ensures only_read { OnlyRead D.SectorDevice device.old device.new }
     ensures reads { IsTrue (D.keeps_model device.old)
-        → ReadsAtMost D.SectorDevice device.old device.new (reads_to_list blocks (D.disk device.old).content) }
+        → ReadsAtMost D.SectorDevice device.old device.new (reads_to_list blocks.number (D.disk device.old).content) }
 {
     match read_listing(device, blocks) {
         Ok(listing) => Ok(listing),

@@ -13,7 +13,7 @@ invariant-loop-b g l =
     let now = l.device in
     record {
       added : IsTrue (D.keeps_model old) → (m : List ℕ) → Holds256 l.initial.hasher m
-          → Holds256 l.hasher (m ++ joined_below (found_in l.blocks l.listing (D.disk old).content) l.b);
+          → Holds256 l.hasher (m ++ joined_below (found_in l.blocks.number l.listing (D.disk old).content) l.b);
       disk : IsTrue (D.keeps_model old) → D.disk now ≡ D.disk old;
       stops : IsTrue (D.keeps_model old) → StopsLeave D old now (MayLeave (D.disk old));
       begins : BeginsAtMost D old now 0 0;

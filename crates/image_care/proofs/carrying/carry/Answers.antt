@@ -10,9 +10,9 @@ use Rattle.image_care.proofs.carrying.carry.Goals as goal
 pub returns-in-Ok-clause-stops : goal.returns-in-Ok-clause-stops
 returns-in-Ok-clause-stops g c = λ source target.
     let B = g.B.SectorDevice in
-    let m = c.args.new_blocks in
+    let m = c.args.new_blocks.number in
     let d = B.disk c.args.target.now in
-    let blocks = carried_blocks c.args.blocks m c.args.listing.now (g.A.SectorDevice.disk c.args.source.now).content in
+    let blocks = carried_blocks c.args.blocks.number m c.args.listing.now (g.A.SectorDevice.disk c.args.source.now).content in
     let mid = c.unlabel.new.device in
     let honest : IsTrue (B.keeps_model mid) = subst IsTrue (sym c.unlabel.ensures.passes.model) target in
     leaves_then B.time B.left_since c.args.target.now mid c.write_image.new.target
@@ -22,6 +22,6 @@ returns-in-Ok-clause-stops g c = λ source target.
 
 pub returns-in-Err-clause-stops : goal.returns-in-Err-clause-stops
 returns-in-Err-clause-stops g c = λ source target x since.
-    making c.args.new_blocks (g.B.SectorDevice.disk c.args.target.now)
-    (carried_blocks c.args.blocks c.args.new_blocks c.args.listing.now (g.A.SectorDevice.disk c.args.source.now).content) x
+    making c.args.new_blocks.number (g.B.SectorDevice.disk c.args.target.now)
+    (carried_blocks c.args.blocks.number c.args.new_blocks.number c.args.listing.now (g.A.SectorDevice.disk c.args.source.now).content) x
     (c.unlabel.ensures.stops target x since)

@@ -13,7 +13,7 @@ returns-in-Ok-clause-ok g c = λ source target.
     let honest : IsTrue (B.keeps_model mid) = subst IsTrue (sym c.fill_head.ensures.passes.model) target in
     let cleared = c.in-Ok.ensures.ok target in
     on_ok_weaker c.fill_homes.result
-    (filled_of c.args.blocks c.args.new_blocks c.requires.grows (found_in c.args.blocks c.args.listing.now (A.disk c.args.source.now).content)
+    (filled_of c.args.blocks.number c.args.new_blocks.number c.requires.grows (found_in c.args.blocks.number c.args.listing.now (A.disk c.args.source.now).content)
     (B.disk mid) (B.disk c.fill_homes.new.target)
     (ap (λ (d : Disk). d.content 1) cleared) (ap (λ (d : Disk). d.content 2) cleared) (c.fill_homes.ensures.only honest))
     (c.fill_homes.ensures.ok source honest)

@@ -11,8 +11,8 @@ use Rattle.image_care.proofs.carrying.write_image.Goals as goal
 pub returns-in-Ok-clause-ok : goal.returns-in-Ok-clause-ok
 returns-in-Ok-clause-ok g c = λ source target.
     let B = g.B.SectorDevice in
-    let m = c.args.new_blocks in
-    let blocks = carried_blocks c.args.blocks m c.args.listing.now (g.A.SectorDevice.disk c.args.source.now).content in
+    let m = c.args.new_blocks.number in
+    let blocks = carried_blocks c.args.blocks.number m c.args.listing.now (g.A.SectorDevice.disk c.args.source.now).content in
     let mid = c.prepare.new.target in
     let honest : IsTrue (B.keeps_model mid) = subst IsTrue (sym c.prepare.ensures.passes.model) target in
     subst (λ (d : Disk). IsWhole m blocks d) (sym (c.in-Ok.ensures.ok honest)) (whole_of m blocks (B.disk mid) (c.in_ok-prepare.ensures.ok source target))
@@ -20,8 +20,8 @@ returns-in-Ok-clause-ok g c = λ source target.
 pub returns-in-Ok-clause-stops : goal.returns-in-Ok-clause-stops
 returns-in-Ok-clause-stops g c = λ source target.
     let B = g.B.SectorDevice in
-    let n = c.args.blocks in
-    let m = c.args.new_blocks in
+    let n = c.args.blocks.number in
+    let m = c.args.new_blocks.number in
     let image = (g.A.SectorDevice.disk c.args.source.now).content in
     let blocks = carried_blocks n m c.args.listing.now image in
     let mid = c.prepare.new.target in
@@ -30,14 +30,14 @@ returns-in-Ok-clause-stops g c = λ source target.
     (λ x. x 0 ≢ label_of m) (Sealed m (B.disk mid).content) (WrittenLeaves m blocks)
     c.prepare.ensures.passes.time c.seal.ensures.passes.time (c.prepare.ensures.stops target) (c.seal.ensures.stops honest)
     (λ x bad. inl bad)
-    (sealed_leaves m (omega (arith, c.requires.many, c.requires.grows)) c.requires.few blocks
+    (sealed_leaves m (omega (arith, c.args.blocks.many, c.requires.grows)) c.args.new_blocks.few blocks
     (length-grown n m c.requires.grows (found_in n c.args.listing.now image)) (B.disk mid) (c.in_ok-prepare.ensures.ok source target))
 
 pub returns-in-Err-clause-stops : goal.returns-in-Err-clause-stops
 returns-in-Err-clause-stops g c = λ source target.
     let B = g.B.SectorDevice in
-    let n = c.args.blocks in
-    let m = c.args.new_blocks in
+    let n = c.args.blocks.number in
+    let m = c.args.new_blocks.number in
     let image = (g.A.SectorDevice.disk c.args.source.now).content in
     let blocks = carried_blocks n m c.args.listing.now image in
     let mid = c.prepare.new.target in
@@ -46,5 +46,5 @@ returns-in-Err-clause-stops g c = λ source target.
     (λ x. x 0 ≢ label_of m) (Sealed m (B.disk mid).content) (WrittenLeaves m blocks)
     c.prepare.ensures.passes.time c.seal.ensures.passes.time (c.prepare.ensures.stops target) (c.seal.ensures.stops honest)
     (λ x bad. inl bad)
-    (sealed_leaves m (omega (arith, c.requires.many, c.requires.grows)) c.requires.few blocks
+    (sealed_leaves m (omega (arith, c.args.blocks.many, c.requires.grows)) c.args.new_blocks.few blocks
     (length-grown n m c.requires.grows (found_in n c.args.listing.now image)) (B.disk mid) (c.in_ok-prepare.ensures.ok source target))

@@ -27,8 +27,8 @@ returns-in-Ok-clause-new_stops g c = λ source keeps n m from to x since.
     let A = g.A.SectorDevice in
     let d = A.disk c.args.old.now in
     let e = g.B.SectorDevice.disk c.args.new.now in
-    let a = c.in_ok-sizes.sizes.old in
-    let b = c.in_ok-sizes.sizes.new in
+    let a = c.in_ok-sizes.sizes.old.number in
+    let b = c.in_ok-sizes.sizes.new.number in
     let one : a ≡ n = omega (arith, from, c.in_ok-sizes.ensures.old, c.sectors.ensures) in
     let two : b ≡ m = omega (arith, to, c.in_ok-sizes.ensures.new, c.sectors-2.ensures) in
     let honest : IsTrue (A.keeps_model c.find.new.device) = subst IsTrue (sym c.find.ensures.only_read.passes.model) source in
@@ -41,8 +41,8 @@ returns-in-Ok-clause-after g c = λ source keeps.
     let A = g.A.SectorDevice in
     let B = g.B.SectorDevice in
     let d = A.disk c.args.old.now in
-    let a = c.in_ok-sizes.sizes.old in
-    let b = c.in_ok-sizes.sizes.new in
+    let a = c.in_ok-sizes.sizes.old.number in
+    let b = c.in_ok-sizes.sizes.new.number in
     let mid = c.find.new.device in
     let now = c.carry.new.target in
     let honest : IsTrue (A.keeps_model mid) = subst IsTrue (sym c.find.ensures.only_read.passes.model) source in
@@ -53,7 +53,7 @@ returns-in-Ok-clause-after g c = λ source keeps.
     let two : b ≡ m = omega (arith, to, c.in_ok-sizes.ensures.new, c.sectors-2.ensures) in
     subst (λ k. Means (grown k (meaning n d.content)) x) two
     (subst (λ l. Means l x) (carried_copy a b n c.in-Ok.listing d (A.disk mid) one (c.find.ensures.only_read.disk source) (c.in-Ok.ensures.ok source))
-    (whole_means b (omega (arith, c.in_ok-sizes.ensures.many, c.in_ok-sizes.ensures.grows)) c.in_ok-sizes.ensures.few
+    (whole_means b c.in_ok-sizes.sizes.new.many c.in_ok-sizes.sizes.new.few
     (carried_blocks a b c.in-Ok.listing (A.disk mid).content)
     (length-grown a b c.in_ok-sizes.ensures.grows (found_in a c.in-Ok.listing (A.disk mid).content))
     (B.disk now) (g.met.B.SectorDevice.present now still) whole x may)))
@@ -64,8 +64,8 @@ returns-in-Ok-clause-filled g c = λ source keeps.
     let A = g.A.SectorDevice in
     let B = g.B.SectorDevice in
     let d = A.disk c.args.old.now in
-    let a = c.in_ok-sizes.sizes.old in
-    let b = c.in_ok-sizes.sizes.new in
+    let a = c.in_ok-sizes.sizes.old.number in
+    let b = c.in_ok-sizes.sizes.new.number in
     let mid = c.find.new.device in
     let now = c.carry.new.target in
     let honest : IsTrue (A.keeps_model mid) = subst IsTrue (sym c.find.ensures.only_read.passes.model) source in
@@ -81,7 +81,7 @@ returns-in-Ok-clause-filled g c = λ source keeps.
 pub returns-in-Ok-clause-exact : goal.returns-in-Ok-clause-exact
 returns-in-Ok-clause-exact g c = λ source.
     let image = (g.A.SectorDevice.disk c.args.old.now).content in
-    let a = c.in_ok-sizes.sizes.old in
+    let a = c.in_ok-sizes.sizes.old.number in
     let none : copy_refusal c.sectors.result c.sectors-2.result image ≡ None =
     copy_refused c.sectors.result c.sectors-2.result a image c.in_ok-sizes.ensures.old c.in_ok-sizes.ensures.exact ∙ ap of_old (c.in-Ok.ensures.exact source) in
     search rules
@@ -89,7 +89,7 @@ returns-in-Ok-clause-exact g c = λ source.
 pub returns-in-Err-clause-exact : goal.returns-in-Err-clause-exact
 returns-in-Err-clause-exact g c = λ source.
     let image = (g.A.SectorDevice.disk c.args.old.now).content in
-    let a = c.in_ok-sizes.sizes.old in
+    let a = c.in_ok-sizes.sizes.old.number in
     ⊎_elim
     (λ device. inl (ap Old device))
     (λ found. inr (inr (
@@ -107,7 +107,7 @@ pub returns-in-Ok-clause-old_reads : goal.returns-in-Ok-clause-old_reads
 returns-in-Ok-clause-old_reads g c = λ keeps n size.
     let A = g.A.SectorDevice in
     let old = c.args.old.now in
-    let one : c.in_ok-sizes.sizes.old ≡ n = omega (arith, size, c.in_ok-sizes.ensures.old, c.sectors.ensures) in
+    let one : c.in_ok-sizes.sizes.old.number ≡ n = omega (arith, size, c.in_ok-sizes.ensures.old, c.sectors.ensures) in
     subst (λ k. ReadsAtMost A old c.carry.new.source (reads_to_list k (A.disk old).content + 2 * k + 1)) one
     (omega (arith, c.find.ensures.reads keeps, c.carry.ensures.reads))
 
@@ -115,6 +115,6 @@ pub returns-in-Err-clause-old_reads : goal.returns-in-Err-clause-old_reads
 returns-in-Err-clause-old_reads g c = λ keeps n size.
     let A = g.A.SectorDevice in
     let old = c.args.old.now in
-    let one : c.in_ok-sizes.sizes.old ≡ n = omega (arith, size, c.in_ok-sizes.ensures.old, c.sectors.ensures) in
+    let one : c.in_ok-sizes.sizes.old.number ≡ n = omega (arith, size, c.in_ok-sizes.ensures.old, c.sectors.ensures) in
     subst (λ k. ReadsAtMost A old c.find.new.device (reads_to_list k (A.disk old).content + 2 * k + 1)) one
     (omega (arith, c.find.ensures.reads keeps))

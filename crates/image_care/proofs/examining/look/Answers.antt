@@ -11,7 +11,7 @@ use Rattle.image_care.proofs.examining.look.Goals as goal
 pub returns-clause-digest : goal.returns-clause-digest
 returns-clause-digest g c = λ keeps.
     let D = g.D.SectorDevice in
-    let n = c.args.blocks in
+    let n = c.args.blocks.number in
     let old = (D.disk c.args.device.now).content in
     let listing = c.in_ok-listing.listing in
     let honest : IsTrue (D.keeps_model c.read_listing.new.device) = subst IsTrue (sym c.read_listing.ensures.passes.model) keeps in

@@ -25,7 +25,7 @@ returns-in-Ok-clause-new_stops g c = λ source keeps n to x since.
     let A = g.A.SectorDevice in
     let d = A.disk c.args.old.now in
     let e = g.B.SectorDevice.disk c.args.new.now in
-    let a = c.in_ok-blocks.blocks in
+    let a = c.in_ok-blocks.blocks.number in
     let one : a ≡ n = omega (arith, to, c.in_ok-blocks.ensures.new, c.sectors-2.ensures) in
     let honest : IsTrue (A.keeps_model c.find_true.new.device) = subst IsTrue (sym c.find_true.ensures.only_read.passes.model) source in
     let same = carried_salvage a a c.in-Ok.listing d (A.disk c.find_true.new.device) refl (c.find_true.ensures.only_read.disk source) (c.in-Ok.ensures.ok source) in
@@ -37,7 +37,7 @@ returns-in-Ok-clause-after g c = λ source keeps.
     let A = g.A.SectorDevice in
     let B = g.B.SectorDevice in
     let d = A.disk c.args.old.now in
-    let a = c.in_ok-blocks.blocks in
+    let a = c.in_ok-blocks.blocks.number in
     let mid = c.find_true.new.device in
     let now = c.carry.new.target in
     let honest : IsTrue (A.keeps_model mid) = subst IsTrue (sym c.find_true.ensures.only_read.passes.model) source in
@@ -46,7 +46,7 @@ returns-in-Ok-clause-after g c = λ source keeps.
     (λ whole n to x may.
     let one : a ≡ n = omega (arith, to, c.in_ok-blocks.ensures.new, c.sectors-2.ensures) in
     subst (λ l. Means l x) (carried_salvage a n c.in-Ok.listing d (A.disk mid) one (c.find_true.ensures.only_read.disk source) (c.in-Ok.ensures.ok source))
-    (whole_means a c.in_ok-blocks.ensures.many c.in_ok-blocks.ensures.few
+    (whole_means a c.in_ok-blocks.blocks.many c.in_ok-blocks.blocks.few
     (carried_blocks a a c.in-Ok.listing (A.disk mid).content)
     (length-grown a a (omega arith) (found_in a c.in-Ok.listing (A.disk mid).content))
     (B.disk now) (g.met.B.SectorDevice.present now still) whole x may))
@@ -57,7 +57,7 @@ returns-in-Ok-clause-undamaged g c = λ source keeps.
     let A = g.A.SectorDevice in
     let B = g.B.SectorDevice in
     let d = A.disk c.args.old.now in
-    let a = c.in_ok-blocks.blocks in
+    let a = c.in_ok-blocks.blocks.number in
     let mid = c.find_true.new.device in
     let now = c.carry.new.target in
     let honest : IsTrue (A.keeps_model mid) = subst IsTrue (sym c.find_true.ensures.only_read.passes.model) source in
@@ -66,7 +66,7 @@ returns-in-Ok-clause-undamaged g c = λ source keeps.
     (λ whole n to clear x may.
     let one : a ≡ n = omega (arith, to, c.in_ok-blocks.ensures.new, c.sectors-2.ensures) in
     subst (λ l. Means l x) (carried_salvage a n c.in-Ok.listing d (A.disk mid) one (c.find_true.ensures.only_read.disk source) (c.in-Ok.ensures.ok source) ∙ salvaged_meaning n d.content clear)
-    (whole_means a c.in_ok-blocks.ensures.many c.in_ok-blocks.ensures.few
+    (whole_means a c.in_ok-blocks.blocks.many c.in_ok-blocks.blocks.few
     (carried_blocks a a c.in-Ok.listing (A.disk mid).content)
     (length-grown a a (omega arith) (found_in a c.in-Ok.listing (A.disk mid).content))
     (B.disk now) (g.met.B.SectorDevice.present now still) whole x may))
@@ -77,7 +77,7 @@ returns-in-Ok-clause-filled g c = λ source keeps.
     let A = g.A.SectorDevice in
     let B = g.B.SectorDevice in
     let d = A.disk c.args.old.now in
-    let a = c.in_ok-blocks.blocks in
+    let a = c.in_ok-blocks.blocks.number in
     let mid = c.find_true.new.device in
     let now = c.carry.new.target in
     let honest : IsTrue (A.keeps_model mid) = subst IsTrue (sym c.find_true.ensures.only_read.passes.model) source in
@@ -93,7 +93,7 @@ pub returns-in-Ok-clause-old_reads : goal.returns-in-Ok-clause-old_reads
 returns-in-Ok-clause-old_reads g c = λ keeps n size.
     let A = g.A.SectorDevice in
     let old = c.args.old.now in
-    let one : c.in_ok-blocks.blocks ≡ n = omega (arith, size, c.in_ok-blocks.ensures.old, c.sectors.ensures) in
+    let one : c.in_ok-blocks.blocks.number ≡ n = omega (arith, size, c.in_ok-blocks.ensures.old, c.sectors.ensures) in
     subst (λ k. ReadsAtMost A old c.carry.new.source (reads_to_list k (A.disk old).content + 2 * k)) one
     (omega (arith, c.find_true.ensures.reads keeps, c.carry.ensures.reads))
 
@@ -101,6 +101,6 @@ pub returns-in-Err-clause-old_reads : goal.returns-in-Err-clause-old_reads
 returns-in-Err-clause-old_reads g c = λ keeps n size.
     let A = g.A.SectorDevice in
     let old = c.args.old.now in
-    let one : c.in_ok-blocks.blocks ≡ n = omega (arith, size, c.in_ok-blocks.ensures.old, c.sectors.ensures) in
+    let one : c.in_ok-blocks.blocks.number ≡ n = omega (arith, size, c.in_ok-blocks.ensures.old, c.sectors.ensures) in
     subst (λ k. ReadsAtMost A old c.find_true.new.device (reads_to_list k (A.disk old).content + 2 * k)) one
     (omega (arith, c.find_true.ensures.reads keeps))
