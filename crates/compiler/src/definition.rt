@@ -1,5 +1,5 @@
 //! The open definition: its beginning and end, and what is added to it that is no structure.
-ghost use Rattle.std.specs.Prelude.{◌≡◌, ◌≢◌, ◌+◌, ◌<◌, ◌≤◌, ℕ, List, length, slice_index, true, false, None, Some, OnOk, IfOk, IfErr, Option, is_some};
+ghost use Rattle.std.specs.Prelude.{◌≡◌, ◌≢◌, ◌+◌, ◌<◌, ◌≤◌, ℕ, List, length, slice_index, true, false, None, Some, OnOk, OnErr, IfOk, IfErr, Option, is_some};
 ghost use Rattle.cell_machine.specs.Layout.{text_cell, most_tokens};
 ghost use Rattle.compiler.specs.Definition.{Definition, add_literal, add_word, add_text, end_definition};
 ghost use Rattle.compiler.specs.Represents.{IsSound, IsClosed, Holds, used, name_of};
@@ -229,7 +229,8 @@ impl Compiler {
     #[inline]
     pub(crate) fn opened(&self) -> Result<(), Refusal>
         ensures ok { OnOk result (self.now.is_open ≡ true) }
-        ensures err { IfErr result (λ e. (e ≡ Refusal.NoDefinition) × (self.now.is_open ≡ false)) }
+        ensures told { IfErr result (λ e. e ≡ Refusal.NoDefinition) }
+        ensures closed { OnErr result (self.now.is_open ≡ false) }
     {
         if self.is_open {
             Ok(())
@@ -242,7 +243,8 @@ impl Compiler {
     #[inline]
     pub(crate) fn unmarked(&self) -> Result<(), Refusal>
         ensures ok { OnOk result (self.now.marked ≡ false) }
-        ensures err { IfErr result (λ e. (e ≡ Refusal.Unbalanced) × (self.now.marked ≡ true)) }
+        ensures told { IfErr result (λ e. e ≡ Refusal.Unbalanced) }
+        ensures marked { OnErr result (self.now.marked ≡ true) }
     {
         if self.marked {
             Err(Refusal::Unbalanced)
@@ -255,7 +257,8 @@ impl Compiler {
     #[inline]
     pub(crate) fn outside(&self) -> Result<(), Refusal>
         ensures ok { OnOk result (length self.now.opens ≡ 0) }
-        ensures err { IfErr result (λ e. (e ≡ Refusal.Unbalanced) × (0 < length self.now.opens)) }
+        ensures told { IfErr result (λ e. e ≡ Refusal.Unbalanced) }
+        ensures inside { OnErr result (0 < length self.now.opens) }
     {
         if self.opens.len() == 0 {
             Ok(())
@@ -268,7 +271,8 @@ impl Compiler {
     #[inline]
     pub(crate) fn few(&self) -> Result<(), Refusal>
         ensures ok { OnOk result (length self.now.opens < 256) }
-        ensures err { IfErr result (λ e. (e ≡ Refusal.CodeFull) × (256 ≤ length self.now.opens)) }
+        ensures told { IfErr result (λ e. e ≡ Refusal.CodeFull) }
+        ensures many { OnErr result (256 ≤ length self.now.opens) }
     {
         if self.opens.len() < 256 {
             Ok(())
@@ -282,7 +286,8 @@ impl Compiler {
     pub(crate) fn room(&self, cells: u16) -> Result<(), Refusal>
         requires { cells ≤ 32768 }
         ensures ok { OnOk result (self.now.here + cells ≤ 32768) }
-        ensures err { IfErr result (λ e. (e ≡ Refusal.CodeFull) × (32768 < self.now.here + cells)) }
+        ensures told { IfErr result (λ e. e ≡ Refusal.CodeFull) }
+        ensures full { OnErr result (32768 < self.now.here + cells) }
     {
         if self.here > 32768 - cells {
             Err(Refusal::CodeFull)
@@ -295,8 +300,10 @@ impl Compiler {
     #[inline]
     fn exits(&self, token: u16) -> Result<(), Refusal>
         ensures ok { OnOk result (self.now.marked ≡ false → token ≡ 38 → self.now.leaves ≡ None) }
-        ensures err { IfErr result
-            (λ e. (e ≡ Refusal.Unbalanced) × (self.now.marked ≡ false) × (token ≡ 38) × (self.now.leaves ≢ None)) }
+        ensures told { IfErr result (λ e. e ≡ Refusal.Unbalanced) }
+        ensures unmarked { OnErr result (self.now.marked ≡ false) }
+        ensures exit { OnErr result (token ≡ 38) }
+        ensures inside { OnErr result (self.now.leaves ≢ None) }
     {
         if self.marked {
             return Ok(());

@@ -9,8 +9,8 @@ use Rattle.compiler.proofs.definition.Compiler.add_leave.Goals as goal
 pub returns-in_err-room-in-Some-clause-refused : goal.returns-in_err-room-in-Some-clause-refused
 returns-in_err-room-in-Some-clause-refused c =
     let p = err_from_is_err_and c.from_residual-in_err-room-in-Some.result c.from_residual-in_err-room-in-Some.ensures.1 in
-    let e = c.in_err-room-in-Some.ensures.err in
-    rw (p.1, p.2, e.0) (refuses_leave c.args.self.now c.args.code.now c.in-Some.last (search rules) (search rules) c.in-Some.is e.1)
+    let e = c.in_err-room-in-Some.ensures in
+    rw (p.1, p.2, e.told) (refuses_leave c.args.self.now c.args.code.now c.in-Some.last (search rules) (search rules) c.in-Some.is e.full)
 
 pub returns-in_ok-room-in-Some-clause-added : goal.returns-in_ok-room-in-Some-clause-added
 returns-in_ok-room-in-Some-clause-added c =

@@ -9,15 +9,15 @@ pub returns-in_err-exits-clause-refused : goal.returns-in_err-exits-clause-refus
 returns-in_err-exits-clause-refused c =
     let s = c.args.self.now in
     let p = err_from_is_err_and c.from_residual-in_err-exits.result c.from_residual-in_err-exits.ensures.1 in
-    let e = c.in_err-exits.ensures.err in
-    rw (p.1, p.2, e.0) (refuses_exit s c.args.code.now c.args.token e.1 e.2 e.3 (search rules))
+    let e = c.in_err-exits.ensures in
+    rw (p.1, p.2, e.told) (refuses_exit s c.args.code.now c.args.token e.unmarked e.exit e.inside (search rules))
 
 pub returns-in_err-room-clause-refused : goal.returns-in_err-room-clause-refused
 returns-in_err-room-clause-refused c =
     let s = c.args.self.now in
     let p = err_from_is_err_and c.from_residual-in_err-room.result c.from_residual-in_err-room.ensures.1 in
-    let e = c.in_err-room.ensures.err in
-    rw (p.1, p.2, e.0) (refuses_word s c.args.code.now c.args.token c.in_ok-exits.ensures.ok (search rules) e.1)
+    let e = c.in_err-room.ensures in
+    rw (p.1, p.2, e.told) (refuses_word s c.args.code.now c.args.token c.in_ok-exits.ensures.ok (search rules) e.full)
 
 pub returns-then-self-clause-added : goal.returns-then-self-clause-added
 returns-then-self-clause-added c =
