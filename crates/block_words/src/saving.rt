@@ -40,7 +40,8 @@ fn spill_updated<D: SectorDevice>(
         ((u : ℕ) → is_pending store.new u ≡ (is_among (updated_ones buffers.now) u || is_pending store.old u)) }
     ensures begins { DeviceBegins store.old store.new (2 * length (updated_ones buffers.now)) 0 }
     ensures reads { DeviceReads store.old store.new 0 }
-    ensures nothing { updated_ones buffers.now ≡ [] → IsOk result × (device_of store.new ≡ device_of store.old) }
+    ensures nothing { updated_ones buffers.now ≡ [] → IsOk result }
+    ensures unasked { updated_ones buffers.now ≡ [] → device_of store.new ≡ device_of store.old }
 {
     for updated in buffers.updated().iter() {
         match store.spill(updated.block, space.buffer(updated.slot)) {

@@ -51,7 +51,7 @@ returns-in-Ok-commit-clause-runs g c = λ m change stands.
             λ x since. c.in-Ok-commit.ensures.after all mid_stands x (g.met.D.SectorDevice.only_now new.device x since),
           ));
       wears = saved_wears G old.device mid new b all mid_stands c.in-Ok.ensures.opened c.in-Ok.ensures.begins c.in-Ok.ensures.reads c.commit.ensures.begins c.commit.ensures.reads
-          (λ none. (c.commit.ensures.nothing c.in-Ok.ensures.opened none).1);
+          (λ none. c.commit.ensures.unasked c.in-Ok.ensures.opened none);
       shuts = λ h. absurd (let no : true ≡ false = sym h ∙ open_now in cc);
       last = λ h. subst (λ t. (latest all) ≡ last_map m.saved (save_begun t (next_map b sp m) true)) (sym open_now) refl;
     }
@@ -66,7 +66,7 @@ returns-in-Err-commit-clause-runs g c = λ m change stands.
     let all = all_spilled (updated_ones b) sp m in
     let open_now : m.closed ≡ false = stands.closed ∙ sym c.is_closed.ensures ∙ c.if-is_closed.false in
     let mid_stands = c.in-Ok.ensures.ok m stands in
-    let some : any_pending all.pending ≡ true = some_pending mid all mid_stands c.in-Ok.ensures.opened (λ none. absurd (let failed : false ≡ true = (c.in-Err-commit.ensures.nothing c.in-Ok.ensures.opened none).0 in cc)) in
+    let some : any_pending all.pending ≡ true = some_pending mid all mid_stands c.in-Ok.ensures.opened (λ none. absurd (let failed : false ≡ true = c.in-Err-commit.ensures.nothing c.in-Ok.ensures.opened none in cc)) in
     record {
       maps = _;
       wear = _;
@@ -100,8 +100,8 @@ returns-in-Ok-commit-clause-saves g c =
       begins = save_begins g.D.SectorDevice old mid new c.args.buffers.now c.in-Ok.ensures.continues c.in-Ok.ensures.pending c.in-Ok.ensures.begins c.commit.ensures.begins;
       reads = save_reads g.D.SectorDevice old mid new c.args.buffers.now c.in-Ok.ensures.continues c.in-Ok.ensures.pending c.in-Ok.ensures.reads c.commit.ensures.reads;
       nothing = λ none none_pending.
-          let first = c.spill_updated.ensures.nothing none in
-          (c.commit.ensures.nothing c.in-Ok.ensures.opened (none_left old mid c.args.buffers.now none c.in-Ok.ensures.continues c.in-Ok.ensures.pending none_pending)).1 ∙ first.1;
+          c.commit.ensures.unasked c.in-Ok.ensures.opened (none_left old mid c.args.buffers.now none c.in-Ok.ensures.continues c.in-Ok.ensures.pending none_pending)
+          ∙ c.spill_updated.ensures.unasked none;
     }
 
 pub returns-in-Err-commit-clause-saves : goal.returns-in-Err-commit-clause-saves
@@ -124,8 +124,8 @@ returns-in-Err-commit-clause-saves g c =
       begins = save_begins g.D.SectorDevice old mid new c.args.buffers.now c.in-Ok.ensures.continues c.in-Ok.ensures.pending c.in-Ok.ensures.begins c.commit.ensures.begins;
       reads = save_reads g.D.SectorDevice old mid new c.args.buffers.now c.in-Ok.ensures.continues c.in-Ok.ensures.pending c.in-Ok.ensures.reads c.commit.ensures.reads;
       nothing = λ none none_pending.
-          let first = c.spill_updated.ensures.nothing none in
-          (c.commit.ensures.nothing c.in-Ok.ensures.opened (none_left old mid c.args.buffers.now none c.in-Ok.ensures.continues c.in-Ok.ensures.pending none_pending)).1 ∙ first.1;
+          c.commit.ensures.unasked c.in-Ok.ensures.opened (none_left old mid c.args.buffers.now none c.in-Ok.ensures.continues c.in-Ok.ensures.pending none_pending)
+          ∙ c.spill_updated.ensures.unasked none;
     }
 
 pub returns-then-is_closed-clause-runs : goal.returns-then-is_closed-clause-runs
