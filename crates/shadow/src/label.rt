@@ -15,7 +15,9 @@ use recovery::{OpenFault, blocks_of_size, check_label};
 // Whether an image of so many blocks has so many sectors.
 pub(crate) fn fits(blocks: u32, sectors: u32) -> bool
     ensures value { result ≡ is_size_for blocks sectors }
-    ensures yes { OnTrue result ((fewest_blocks ≤ blocks) × (blocks ≤ most_blocks) × (sectors ≡ sectors_for blocks)) }
+    ensures many { OnTrue result (fewest_blocks ≤ blocks) }
+    ensures few { OnTrue result (blocks ≤ most_blocks) }
+    ensures size { OnTrue result (sectors ≡ sectors_for blocks) }
 {
     FEWEST_BLOCKS as u32 <= blocks && blocks <= MOST_BLOCKS as u32 && sectors == 32 + 16 * blocks
 }

@@ -249,8 +249,9 @@ impl<D: SectorDevice> Store<D> {
         ensures shuts { IsErr result ↔ (closed_of self.new ≡ true) }
         ensures device { IsErrOf result StoreFault.Device → DeviceFailed self.old self.new }
         ensures well { OnOk result (DeviceWentWell self.old self.new) }
-        ensures nothing { closed_of self.old ≡ false
-            → pending_count self.old ≡ 0 → IsOk result × (device_of self.new ≡ device_of self.old) }
+        ensures nothing { closed_of self.old ≡ false → pending_count self.old ≡ 0 → IsOk result }
+        ensures unasked { closed_of self.old ≡ false
+            → pending_count self.old ≡ 0 → device_of self.new ≡ device_of self.old }
 
         ensures stops { SavesAllOrNone self.old self.new }
         // Once it has returned, a stop leaves the new blocks alone.

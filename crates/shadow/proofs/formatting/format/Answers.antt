@@ -15,18 +15,18 @@ returns-then-not-fits-clause-stops g c = λ keeps n size x since.
 pub adopt-requires-clause-clean : goal.adopt-requires-clause-clean
 adopt-requires-clause-clean g c = λ keeps.
     let D = g.D.SectorDevice in
-    let fits = c.if-not-fits.ensures.yes in
+    let fits = c.if-not-fits.ensures in
     let before = kept_before D c.args.device c.make.new.device keeps c.make.ensures.passes in
-    made_clean c.args.blocks fits.0 fits.1 (λ _. replicate 1024 32) (D.disk c.make.new.device) (c.in-Ok.ensures.ok before) c.make.new.listing (c.in-Ok.ensures.named before)
+    made_clean c.args.blocks fits.many fits.few (λ _. replicate 1024 32) (D.disk c.make.new.device) (c.in-Ok.ensures.ok before) c.make.new.listing (c.in-Ok.ensures.named before)
 
 pub returns-in-Ok-clause-ok : goal.returns-in-Ok-clause-ok
 returns-in-Ok-clause-ok g c = λ keeps.
     let D = g.D.SectorDevice in
     let n = c.args.blocks in
-    let fits = c.if-not-fits.ensures.yes in
+    let fits = c.if-not-fits.ensures in
     let new = D.disk c.make.new.device in
     let honest = keeps_on D c.args.device c.make.new.device keeps c.make.ensures.passes in
-    let means = made_means n fits.0 fits.1 (λ _. replicate 1024 32) new (c.in-Ok.ensures.ok keeps) (blank_blocks n) (blanks_are n) new.content (λ k. refl) in
+    let means = made_means n fits.many fits.few (λ _. replicate 1024 32) new (c.in-Ok.ensures.ok keeps) (blank_blocks n) (blanks_are n) new.content (λ k. refl) in
     subst (λ l. StandsFor c.adopt.result (fresh l)) (blank_meaning n new.content means) (c.adopt.ensures.state honest)
 
 pub returns-in-Ok-clause-after : goal.returns-in-Ok-clause-after
@@ -35,14 +35,14 @@ returns-in-Ok-clause-after g c = λ keeps x may. (returns-in-Ok-clause-ok g c ke
 pub returns-in-Ok-clause-stops : goal.returns-in-Ok-clause-stops
 returns-in-Ok-clause-stops g c = λ keeps n size x since.
     let D = g.D.SectorDevice in
-    let one : c.args.blocks ≡ n = omega (arith, size, (c.if-not-fits.ensures.yes).2, c.sectors.ensures) in
+    let one : c.args.blocks ≡ n = omega (arith, size, c.if-not-fits.ensures.size, c.sectors.ensures) in
     subst (λ m. FormatLeaves m (D.disk c.args.device) x) one
     (c.make.ensures.stops keeps x (subst (λ d. D.left_since d (D.time c.args.device) x) c.adopt.ensures.device since))
 
 pub returns-in-Err-clause-stops : goal.returns-in-Err-clause-stops
 returns-in-Err-clause-stops g c = λ keeps n size x since.
     let D = g.D.SectorDevice in
-    let one : c.args.blocks ≡ n = omega (arith, size, (c.if-not-fits.ensures.yes).2, c.sectors.ensures) in
+    let one : c.args.blocks ≡ n = omega (arith, size, c.if-not-fits.ensures.size, c.sectors.ensures) in
     subst (λ m. FormatLeaves m (D.disk c.args.device) x) one (c.make.ensures.stops keeps x since)
 
 pub returns-then-not-fits-clause-pages : goal.returns-then-not-fits-clause-pages
