@@ -12,7 +12,8 @@ use journal::layout::FEWEST_BLOCKS;
 
 /// How many blocks an image of so many sectors has, where it has no more than `most`.
 pub fn blocks_of_size(sectors: u32, most: u16) -> Option<u16>
-    ensures some { IfSome result (λ n. (n ≡ blocks_in sectors) × (is_size_within most sectors ≡ true)) }
+    ensures count { IfSome result (λ n. n ≡ blocks_in sectors) }
+    ensures some { OnSome result (is_size_within most sectors ≡ true) }
     ensures none { IfNone result (is_size_within most sectors ≡ false) }
     ensures size { IfSome result (λ n. sectors ≡ sectors_for n) }
     ensures many { IfSome result (λ n. fewest_blocks ≤ n) }
@@ -69,7 +70,9 @@ fn number(bytes: &[u8; 512], at: usize) -> u16
 // Whether an image of so many blocks, and of no more than `most`, has so many sectors.
 pub(crate) fn fits(blocks: u16, most: u16, sectors: u32) -> bool
     ensures value { result ≡ fits_within most blocks sectors }
-    ensures yes { OnTrue result ((fewest_blocks ≤ blocks) × (blocks ≤ most) × (sectors ≡ sectors_for blocks)) }
+    ensures many { OnTrue result (fewest_blocks ≤ blocks) }
+    ensures few { OnTrue result (blocks ≤ most) }
+    ensures size { OnTrue result (sectors ≡ sectors_for blocks) }
 {
     FEWEST_BLOCKS <= blocks && blocks <= most && sectors == 3 + 4 * blocks as u32
 }

@@ -41,8 +41,9 @@ pub(crate) fn start<D: SectorDevice>(
 ) -> Result<(), OpenFault>
     requires { 3 ≤ D.sector_count device.old }
     ensures ok { IsTrue (D.keeps_model device.old)
-        → OnOk result
-        ((D.disk device.new ≡ settled (D.disk device.old)) × ((D.disk device.old).content 0 ≡ label_by version blocks)) }
+        → OnOk result (D.disk device.new ≡ settled (D.disk device.old)) }
+    ensures label { IsTrue (D.keeps_model device.old)
+        → OnOk result ((D.disk device.old).content 0 ≡ label_by version blocks) }
     ensures exact { IsTrue (D.keeps_model device.old) → MatchResult result
         (λ _. label_refusal_by version blocks ((D.disk device.old).content 0) ≡ None)
         (λ e. (e ≡ Device) ⊎ (label_refusal_by version blocks ((D.disk device.old).content 0) ≡ Some e)) }

@@ -25,7 +25,8 @@ use sector_disk::{DeviceFault, SectorDevice};
 // How many blocks both images have.
 fn blocks_of_both(old: u32, new: u32) -> Result<BlockCount, UpgradeFault>
     ensures exact { MatchResult result (λ _. size_refusal old new ≡ None) (λ e. size_refusal old new ≡ Some e) }
-    ensures size { IfOk result (λ n. (old ≡ sectors_for n.number) × (new ≡ sectors_for n.number)) }
+    ensures old { IfOk result (λ n. old ≡ sectors_for n.number) }
+    ensures new { IfOk result (λ n. new ≡ sectors_for n.number) }
     ensures few { IfOk result (λ n. n.number ≤ most_blocks_1) }
     ensures told { IfErr result (λ e. (e ≡ Old BadSize) ⊎ (e ≡ New BadSize)) }
 {

@@ -49,14 +49,14 @@ returns-in-Ok-clause-meaning g c = λ keeps.
 
 pub returns-in-Ok-clause-exact : goal.returns-in-Ok-clause-exact
 returns-in-Ok-clause-exact g c = λ keeps.
-    let count = subst (λ k. c.in-Some.number ≡ blocks_in k) c.sectors.ensures c.in-Some.ensures.some.0 in
-    let is = subst (λ k. is_size k ≡ true) c.sectors.ensures c.in-Some.ensures.some.1 in
+    let count = subst (λ k. c.in-Some.number ≡ blocks_in k) c.sectors.ensures c.in-Some.ensures.count in
+    let is = subst (λ k. is_size k ≡ true) c.sectors.ensures c.in-Some.ensures.some in
     same_refusal c.in-Some.number _ (g.D.SectorDevice.disk c.args.device).content count is ∙ c.in-Ok.ensures.exact keeps
 
 pub returns-in-Err-clause-exact : goal.returns-in-Err-clause-exact
 returns-in-Err-clause-exact g c = λ keeps.
-    let count = subst (λ k. c.in-Some.number ≡ blocks_in k) c.sectors.ensures c.in-Some.ensures.some.0 in
-    let is = subst (λ k. is_size k ≡ true) c.sectors.ensures c.in-Some.ensures.some.1 in
+    let count = subst (λ k. c.in-Some.number ≡ blocks_in k) c.sectors.ensures c.in-Some.ensures.count in
+    let is = subst (λ k. is_size k ≡ true) c.sectors.ensures c.in-Some.ensures.some in
     ⊎_elim (λ device. inl device)
     (λ refused. inr (same_refusal c.in-Some.number _ (g.D.SectorDevice.disk c.args.device).content count is ∙ refused))
     (c.in-Err.ensures.exact keeps)

@@ -35,7 +35,7 @@ returns-clause-exact g c = λ keeps.
     let same : recovery_refusal version n image ≡ damage_refusal_by version n image = refusal_past version n image (c.in_ok-start.ensures.exact keeps) in
     MatchResult-weaker c.finish.result
     (subst (λ (d : Disk). MatchResult c.finish.result (λ _. damage_refusal_by version n d.content ≡ None) (λ e. (e ≡ Device) ⊎ (damage_refusal_by version n d.content ≡ Some e)))
-    (c.in_ok-start.ensures.ok keeps).0 (c.finish.ensures.exact honest))
+    (c.in_ok-start.ensures.ok keeps) (c.finish.ensures.exact honest))
     (λ _ none. same ∙ none)
     (λ e. ⊎_elim (λ device. inl device) (λ refused. inr (same ∙ refused)))
 
@@ -44,13 +44,12 @@ returns-clause-stops g c = λ keeps.
     let D = g.D.SectorDevice in
     let n = c.args.blocks.number in
     let d = D.disk c.args.device.now in
-    let started = c.in_ok-start.ensures.ok keeps in
     let honest : IsTrue (D.keeps_model c.start.new.device) = subst IsTrue (sym c.start.ensures.passes.model) keeps in
     leaves_then D.time D.left_since c.args.device.now c.start.new.device c.finish.new.device
     (MayLeave d) (FinishLeaves c.args.version n (D.disk c.start.new.device).content) (LeavesBy c.args.version n d)
     c.start.ensures.passes.time c.finish.ensures.passes.time (c.start.ensures.stops keeps) (c.finish.ensures.stops honest)
     (λ x may. inl may)
-    (λ x left. inr (started.1, subst (λ (i : Image). FinishLeaves c.args.version n i x) (ap (λ (e : Disk). e.content) started.0) left))
+    (λ x left. inr (c.in_ok-start.ensures.label keeps, subst (λ (i : Image). FinishLeaves c.args.version n i x) (ap (λ (e : Disk). e.content) (c.in_ok-start.ensures.ok keeps)) left))
 
 pub returns-clause-passes : goal.returns-clause-passes
 returns-clause-passes g c =
@@ -64,7 +63,7 @@ returns-clause-begins g c = λ keeps.
     let honest : IsTrue (D.keeps_model c.start.new.device) = subst IsTrue (sym c.start.ensures.passes.model) keeps in
     let within : (image : Image) → Type 0 = λ image. BeginsAtMost D c.start.new.device c.finish.new.device (writes_for n image) (syncs_for image - 1) in
     begins_then D n (D.disk c.args.device.now).content c.args.device.now c.start.new.device c.finish.new.device c.start.ensures.begins
-    (subst within (ap (λ (e : Disk). e.content) (c.in_ok-start.ensures.ok keeps).0) (c.finish.ensures.begins honest))
+    (subst within (ap (λ (e : Disk). e.content) (c.in_ok-start.ensures.ok keeps)) (c.finish.ensures.begins honest))
 
 pub returns-clause-reads : goal.returns-clause-reads
 returns-clause-reads g c = λ keeps.
@@ -73,4 +72,4 @@ returns-clause-reads g c = λ keeps.
     let honest : IsTrue (D.keeps_model c.start.new.device) = subst IsTrue (sym c.start.ensures.passes.model) keeps in
     let within : (image : Image) → Type 0 = λ image. ReadsAtMost D c.start.new.device c.finish.new.device (reads_by c.args.version n image - 1) in
     reads_then D c.args.version n (D.disk c.args.device.now).content c.args.device.now c.start.new.device c.finish.new.device c.start.ensures.reads
-    (subst within (ap (λ (e : Disk). e.content) (c.in_ok-start.ensures.ok keeps).0) (c.finish.ensures.reads honest))
+    (subst within (ap (λ (e : Disk). e.content) (c.in_ok-start.ensures.ok keeps)) (c.finish.ensures.reads honest))

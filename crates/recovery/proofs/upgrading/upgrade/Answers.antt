@@ -32,7 +32,7 @@ returns-in-Ok-clause-old_stops g c = λ keeps n size.
     let m = c.in_ok-blocks.blocks.number in
     let d = A.disk c.args.old.now in
     let mid = c.recover.new.device in
-    let one : m ≡ n = omega (arith, size, c.in_ok-blocks.ensures.size.0, c.sectors.ensures) in
+    let one : m ≡ n = omega (arith, size, c.in_ok-blocks.ensures.old, c.sectors.ensures) in
     let honest : IsTrue (A.keeps_model mid) = subst IsTrue (sym c.recover.ensures.passes.model) keeps in
     subst (λ k. (x : _) → A.left_since c.carry.new.source (A.time c.args.old.now) x → OldLeaves k d x) one
     (leaves_then A.time A.left_since c.args.old.now mid c.carry.new.source
@@ -51,7 +51,7 @@ returns-in-Ok-clause-new_stops g c = λ source keeps n size x since.
     let B = g.B.SectorDevice in
     let m = c.in_ok-blocks.blocks.number in
     let d = A.disk c.args.old.now in
-    let one : m ≡ n = omega (arith, size, c.in_ok-blocks.ensures.size.1, c.sectors-2.ensures) in
+    let one : m ≡ n = omega (arith, size, c.in_ok-blocks.ensures.new, c.sectors-2.ensures) in
     let honest : IsTrue (A.keeps_model c.recover.new.device) = subst IsTrue (sym c.recover.ensures.passes.model) source in
     let recovered = (c.in-Ok.ensures.ok source).recovered in
     subst (λ k. MakingLeaves k (meaning k d.content) (B.disk c.args.new.now) x) one
@@ -71,7 +71,7 @@ returns-in-Ok-clause-after g c = λ source keeps.
     let recovered = (c.in-Ok.ensures.ok source).recovered in
     on_ok_weaker c.carry.result
     (λ made n size x may.
-    let one : m ≡ n = omega (arith, size, c.in_ok-blocks.ensures.size.1, c.sectors-2.ensures) in
+    let one : m ≡ n = omega (arith, size, c.in_ok-blocks.ensures.new, c.sectors-2.ensures) in
     subst (λ k. Means (meaning k d.content) x) one
     (after_means m c.in_ok-blocks.blocks.many c.in_ok-blocks.blocks.few (A.disk c.recover.new.device).content (meaning m d.content)
     (recovered_homes m d (A.disk c.recover.new.device) recovered) (B.disk now) (g.met.B.SectorDevice.present now still) made x may))
@@ -86,7 +86,7 @@ pub returns-in-Ok-clause-old_reads : goal.returns-in-Ok-clause-old_reads
 returns-in-Ok-clause-old_reads g c = λ keeps n size.
     let A = g.A.SectorDevice in
     let old = c.args.old.now in
-    let one : c.in_ok-blocks.blocks.number ≡ n = omega (arith, size, c.in_ok-blocks.ensures.size.0, c.sectors.ensures) in
+    let one : c.in_ok-blocks.blocks.number ≡ n = omega (arith, size, c.in_ok-blocks.ensures.old, c.sectors.ensures) in
     subst (λ k. ReadsAtMost A old c.carry.new.source (reads_for_1 k (A.disk old).content + 2 * k)) one
     (omega (arith, reads_1 c.in_ok-blocks.blocks.number (A.disk old).content, c.recover.ensures.reads keeps, c.carry.ensures.reads))
 
@@ -94,7 +94,7 @@ pub returns-in-Err-clause-old_reads : goal.returns-in-Err-clause-old_reads
 returns-in-Err-clause-old_reads g c = λ keeps n size.
     let A = g.A.SectorDevice in
     let old = c.args.old.now in
-    let one : c.in_ok-blocks.blocks.number ≡ n = omega (arith, size, c.in_ok-blocks.ensures.size.0, c.sectors.ensures) in
+    let one : c.in_ok-blocks.blocks.number ≡ n = omega (arith, size, c.in_ok-blocks.ensures.old, c.sectors.ensures) in
     subst (λ k. ReadsAtMost A old c.recover.new.device (reads_for_1 k (A.disk old).content + 2 * k)) one
     (omega (arith, reads_1 c.in_ok-blocks.blocks.number (A.disk old).content, c.recover.ensures.reads keeps))
 
@@ -103,6 +103,6 @@ returns-in-Err-clause-old_stops g c = λ keeps n size x since.
     let A = g.A.SectorDevice in
     let m = c.in_ok-blocks.blocks.number in
     let d = A.disk c.args.old.now in
-    let one : m ≡ n = omega (arith, size, c.in_ok-blocks.ensures.size.0, c.sectors.ensures) in
+    let one : m ≡ n = omega (arith, size, c.in_ok-blocks.ensures.old, c.sectors.ensures) in
     subst (λ k. OldLeaves k d x) one
     (old_by m d (g.met.A.SectorDevice.present c.args.old.now keeps) c.in_ok-blocks.blocks.many c.in_ok-blocks.ensures.few x (c.recover.ensures.stops keeps x since))
