@@ -2,6 +2,7 @@ pub mod Devices
 pub mod Cut
 pub mod Calls
 pub mod Sessions
+pub mod OverStore
 pub mod Playing
 pub mod Streams
 pub mod Held

@@ -59,7 +59,8 @@ impl<R: Read> ByteReader<R> {
         ensures count { result ≤ length out.new }
         ensures given { held self.old.bytes self.old.next self.old.end
             ≡ take result out.new ++ held self.new.bytes self.new.next self.new.end }
-        ensures none { result ≡ 0 → 0 < length out.new → (self.old.end ≤ self.old.next) × (self.new.end ≤ self.new.next) }
+        ensures none { result ≡ 0 → 0 < length out.new → self.old.end ≤ self.old.next }
+        ensures still_none { result ≡ 0 → 0 < length out.new → self.new.end ≤ self.new.next }
         ensures reader { self.new.reader ≡ self.old.reader }
     {
         if self.next >= self.end {

@@ -1,14 +1,11 @@
 //! A session over a store, between two streams.
-ghost use Rattle.std.specs.Prelude.{◌<◌, List, IfErr, OnOk};
+ghost use Rattle.std.specs.Prelude.{◌<◌};
 ghost use Rattle.journal.specs.Maps.{Maps};
 ghost use Rattle.journal.specs.Store.{StandsFor, device_of};
-ghost use Rattle.block_words.specs.Words.{Save};
-ghost use Rattle.interpreter.specs.State.{Forth as Abstract};
 ghost use Rattle.interpreter.specs.Lines.{new_forth};
 ghost use Rattle.interpreter.specs.Memory.{IsBlank};
-ghost use Rattle.interpreter.specs.Promise.{Keeps};
 ghost use Rattle.sessions.specs.Devices.{Becomes};
-ghost use Rattle.sessions.specs.Sessions.{Completes, BreaksOff};
+ghost use Rattle.sessions.specs.OverStore.{RunsOver};
 
 use super::run_fault::RunFault;
 use super::session::run_traced;
@@ -31,17 +28,8 @@ pub fn run_over<D: SectorDevice + Drop, F: Lines<D>, R: Read, W: Write>(
     requires blank { IsBlank memory }
     requires steps { 0 < steps }
     // From store to store: the session of a new system, of which a stop at any moment leaves the blocks of a save.
-    ensures session { (m : Maps) → StandsFor store m
-        → (closing : Abstract) × (made : List Save) × StandsFor result.0 closing.world.maps
-        × Keeps D.SectorDevice (new_forth steps m) closing (device_of store) (device_of result.0) made
-        × OnOk result.1 (Completes D.SectorDevice (new_forth steps m) closing
-        (R.remaining reader.old) (R.remaining reader.new)
-        (W.contents writer.old) (W.contents writer.new)
-        (device_of store) (device_of result.0) made)
-        × IfErr result.1 (λ fault. BreaksOff D.SectorDevice fault (new_forth steps m) closing
-        (R.remaining reader.old) (R.remaining reader.new)
-        (W.contents writer.old) (W.contents writer.new)
-        (device_of store) (device_of result.0) made) }
+    ensures session { (m : Maps) → StandsFor store m → RunsOver D.SectorDevice (new_forth steps m) store result.0 result.1
+        (R.remaining reader.old) (R.remaining reader.new) (W.contents writer.old) (W.contents writer.new) }
     // Over any device: it is the same device, later.
     ensures goes { Becomes D.SectorDevice (device_of store) (device_of result.0) }
 {
@@ -60,17 +48,8 @@ pub fn run_over_traced<D: SectorDevice + Drop, F: Lines<D>, R: Read, W: Write, T
     requires blank { IsBlank memory }
     requires steps { 0 < steps }
     // From store to store: the session of a new system, of which a stop at any moment leaves the blocks of a save.
-    ensures session { (m : Maps) → StandsFor store m
-        → (closing : Abstract) × (made : List Save) × StandsFor result.0 closing.world.maps
-        × Keeps D.SectorDevice (new_forth steps m) closing (device_of store) (device_of result.0) made
-        × OnOk result.1 (Completes D.SectorDevice (new_forth steps m) closing
-        (R.remaining reader.old) (R.remaining reader.new)
-        (W.contents writer.old) (W.contents writer.new)
-        (device_of store) (device_of result.0) made)
-        × IfErr result.1 (λ fault. BreaksOff D.SectorDevice fault (new_forth steps m) closing
-        (R.remaining reader.old) (R.remaining reader.new)
-        (W.contents writer.old) (W.contents writer.new)
-        (device_of store) (device_of result.0) made) }
+    ensures session { (m : Maps) → StandsFor store m → RunsOver D.SectorDevice (new_forth steps m) store result.0 result.1
+        (R.remaining reader.old) (R.remaining reader.new) (W.contents writer.old) (W.contents writer.new) }
     // Over any device: it is the same device, later.
     ensures goes { Becomes D.SectorDevice (device_of store) (device_of result.0) }
 {

@@ -91,8 +91,9 @@ impl<'a, W: Write> Traces<'a, W> {
     /// Writes a trace, unless the writer has failed.
     fn write(&mut self, bytes: &[u8])
         ensures lines { self.new.lines ≡ self.old.lines }
-        ensures told { self.new.failed ≡ false → (self.old.failed ≡ false)
-            × Appends (W.contents self.old.writer.now) (W.contents self.new.writer.now) bytes.now }
+        ensures well { self.new.failed ≡ false → self.old.failed ≡ false }
+        ensures told { self.new.failed ≡ false
+            → Appends (W.contents self.old.writer.now) (W.contents self.new.writer.now) bytes.now }
     {
         if self.failed {
             return;

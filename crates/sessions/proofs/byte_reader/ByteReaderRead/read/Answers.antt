@@ -8,7 +8,8 @@ returns-in-Ok-clause-bytes g c =
     let left = c.give.new.self in
     let read = prepend_known-read _ (g.R.Read.remaining left.reader) _ _ _ ((c.give.result ≡ 0) × (0 < length c.give.new.out))
     (rw c.give.ensures.reader c.in-Ok.ensures.bytes) c.give.ensures.given
-    (λ p.
-    let empty = c.give.ensures.none p.0 p.1 in
-    (held-none left.bytes left.next left.end empty.1, rw c.give.ensures.reader (c.in-Ok.ensures.at_end empty.0))) in
+    (λ p. (
+      held-none left.bytes left.next left.end (c.give.ensures.still_none p.0 p.1),
+      rw c.give.ensures.reader (c.in-Ok.ensures.at_end (c.give.ensures.none p.0 p.1)),
+    )) in
     (read.0, λ zero some. read.1 (zero, some))
