@@ -59,8 +59,8 @@ pub fn run_image<D: SectorDevice + Drop, R: Read, W: Write>(
         → (D.disk e.1).content ≡ (D.disk device).content) }
     // Only where input or output failed was anything read or written before a refusal, and at another one a stop at any moment
     // leaves what one of a recovery may leave.
-    ensures unbegun { IfErr result (λ e. e.0 ≢ Refusal.Input → e.0 ≢ Refusal.Output
-        → (input.new ≡ input.old) × (output.new ≡ output.old)) }
+    ensures unread { IfErr result (λ e. e.0 ≢ Refusal.Input → e.0 ≢ Refusal.Output → input.new ≡ input.old) }
+    ensures unwritten { IfErr result (λ e. e.0 ≢ Refusal.Input → e.0 ≢ Refusal.Output → output.new ≡ output.old) }
     ensures recovers { IsTrue (D.keeps_model device) → IfErr result (λ e. e.0 ≢ Refusal.Input → e.0 ≢ Refusal.Output
         → StopsLeave D.SectorDevice device e.1 (MayRecover D.SectorDevice device)) }
     ensures goes { Becomes D.SectorDevice device (device_after result) }
@@ -93,7 +93,9 @@ fn begun<D: SectorDevice + Drop, F: Lines<D> + Drop>(
     requires steps { 0 < steps }
     ensures ok { IfOk result (λ room. BegunOn D.SectorDevice F.stands F.sound F.device steps device room.items) }
     ensures opens { IsTrue (D.keeps_model device) → OnOk result (refusal_of (D.sector_count device) (D.disk device).content ≡ None) }
-    ensures refused { IfErr result (λ e. (e.0 ≢ Refusal.NoSteps) × (e.0 ≢ Refusal.Input) × (e.0 ≢ Refusal.Output)) }
+    ensures steps { IfErr result (λ e. e.0 ≢ Refusal.NoSteps) }
+    ensures input { IfErr result (λ e. e.0 ≢ Refusal.Input) }
+    ensures output { IfErr result (λ e. e.0 ≢ Refusal.Output) }
     ensures sized { OnOk result (is_size (D.sector_count device) ≡ true) }
     ensures bad_size { IfErr result (λ e. MatchBool (is_size (D.sector_count device))
         (e.0 ≢ Refusal.BadSize) (e.0 ≡ Refusal.BadSize)) }
@@ -125,7 +127,8 @@ fn begun_over<D: SectorDevice + Drop, F: Lines<D> + Drop>(
 ) -> Result<Vec<F>, (Refusal, D)>
     requires steps { 0 < steps }
     ensures ok { IfOk result (λ room. BegunOver F.stands F.sound F.device steps store room.items) }
-    ensures refused { IfErr result (λ e. (e.0 ≡ Refusal.NoMemory) × (e.1 ≡ device_of store)) }
+    ensures refused { IfErr result (λ e. e.0 ≡ Refusal.NoMemory) }
+    ensures device { IfErr result (λ e. e.1 ≡ device_of store) }
 {
     let Ok(memory) = Memory::new(alloc) else {
         return Err((Refusal::NoMemory, store.into_device()));

@@ -13,11 +13,11 @@ returns-in-Ok-clause-ok g c =
 pub returns-in-Ok-clause-recovers : goal.returns-in-Ok-clause-recovers
 returns-in-Ok-clause-recovers g c = λ keeps.
     map_err c.begun_over.result _ _ (λ e told.
-    subst (λ d. StopsLeave g.D.SectorDevice c.args.device d (MayRecover g.D.SectorDevice c.args.device)) (sym told.1) (c.in-Ok.ensures.ok.stops keeps)) c.begun_over.ensures.refused
+    subst (λ d. StopsLeave g.D.SectorDevice c.args.device d (MayRecover g.D.SectorDevice c.args.device)) (sym told) (c.in-Ok.ensures.ok.stops keeps)) c.begun_over.ensures.device
 
 pub returns-in-Ok-clause-uncalled : goal.returns-in-Ok-clause-uncalled
 returns-in-Ok-clause-uncalled g c =
-    map_err c.begun_over.result _ _ (λ e told is. absurd (let other : NoMemory ≡ BadSize = sym told.0 ∙ is in cc)) c.begun_over.ensures.refused
+    map_err c.begun_over.result _ _ (λ e told is. absurd (let other : NoMemory ≡ BadSize = sym told ∙ is in cc)) c.begun_over.ensures.refused
 
 pub returns-in-Ok-clause-memory : goal.returns-in-Ok-clause-memory
 returns-in-Ok-clause-memory g c = λ keeps.
@@ -25,12 +25,12 @@ returns-in-Ok-clause-memory g c = λ keeps.
 
 pub returns-in-Ok-clause-failed : goal.returns-in-Ok-clause-failed
 returns-in-Ok-clause-failed g c =
-    map_err c.begun_over.result _ _ (λ e told is. absurd (let other : NoMemory ≡ Device = sym told.0 ∙ is in cc)) c.begun_over.ensures.refused
+    map_err c.begun_over.result _ _ (λ e told is. absurd (let other : NoMemory ≡ Device = sym told ∙ is in cc)) c.begun_over.ensures.refused
 
 pub returns-in-Ok-clause-unfailed : goal.returns-in-Ok-clause-unfailed
 returns-in-Ok-clause-unfailed g c =
-    map_err c.begun_over.result _ _ (λ e told is other. absurd (subst IsOfImage told.0 is)) c.begun_over.ensures.refused
+    map_err c.begun_over.result _ _ (λ e told is other. absurd (subst IsOfImage told is)) c.begun_over.ensures.refused
 
 pub returns-in-Ok-clause-content : goal.returns-in-Ok-clause-content
 returns-in-Ok-clause-content g c = λ keeps.
-    map_err c.begun_over.result _ _ (λ e told is other. absurd (subst IsOfImage told.0 is)) c.begun_over.ensures.refused
+    map_err c.begun_over.result _ _ (λ e told is other. absurd (subst IsOfImage told is)) c.begun_over.ensures.refused
