@@ -39,8 +39,8 @@ pub fn copy_image<K: HostFile + Drop, P: HostFiles<K>, H: HostFile + Drop, O: Ho
     ensures made { IfOk result (λ both. Copied ⟦<SectorFile<K> as SectorDevice>⟧ ⟦<SectorFile<H> as SectorDevice>⟧
         (IsOpened K.HostFile (P.opens looking.now old.now)) (IsMade H.HostFile (O.makes files.now new.now)) asked both.0 both.1) }
     // No call of either failed.
-    ensures well { IfOk result (λ both. (⟦<SectorFile<K> as SectorDevice>⟧.failures both.0 ≡ 0)
-        × (⟦<SectorFile<H> as SectorDevice>⟧.failures both.1 ≡ 0)) }
+    ensures old_well { IfOk result (λ both. ⟦<SectorFile<K> as SectorDevice>⟧.failures both.0 ≡ 0) }
+    ensures new_well { IfOk result (λ both. ⟦<SectorFile<H> as SectorDevice>⟧.failures both.1 ≡ 0) }
 {
     let mut source = open_disk(looking, old)?;
     let Some(blocks) = count_for_copy(source.sectors(), asked) else {
@@ -75,8 +75,8 @@ pub fn salvage_image<
         (IsOpened K.HostFile (P.opens looking.now old.now)) (IsMade H.HostFile (O.makes files.now new.now)) asked
         (W.contents output.old) (W.contents output.new) both.0 both.1) }
     // No call of either failed.
-    ensures well { IfOk result (λ both. (⟦<SectorFile<K> as SectorDevice>⟧.failures both.0 ≡ 0)
-        × (⟦<SectorFile<H> as SectorDevice>⟧.failures both.1 ≡ 0)) }
+    ensures old_well { IfOk result (λ both. ⟦<SectorFile<K> as SectorDevice>⟧.failures both.0 ≡ 0) }
+    ensures new_well { IfOk result (λ both. ⟦<SectorFile<H> as SectorDevice>⟧.failures both.1 ≡ 0) }
 {
     let mut source = open_disk(looking, old)?;
     let Some(blocks) = count_for_salvage(source.sectors(), asked) else {

@@ -186,8 +186,8 @@ pub fn upgrade_image<H: HostFile + Drop, O: HostFiles<H>>(
     ensures made { IfOk result (λ both. Upgraded ⟦<SectorFile<H> as SectorDevice>⟧
         (IsOpened H.HostFile (O.opens files.now old.now)) (IsMade H.HostFile (O.makes files.now new.now)) both.0 both.1) }
     // No call of either failed.
-    ensures well { IfOk result (λ both. (⟦<SectorFile<H> as SectorDevice>⟧.failures both.0 ≡ 0)
-        × (⟦<SectorFile<H> as SectorDevice>⟧.failures both.1 ≡ 0)) }
+    ensures old_well { IfOk result (λ both. ⟦<SectorFile<H> as SectorDevice>⟧.failures both.0 ≡ 0) }
+    ensures new_well { IfOk result (λ both. ⟦<SectorFile<H> as SectorDevice>⟧.failures both.1 ≡ 0) }
 {
     let mut source = open_disk(files, old)?;
     let sectors = source.sectors();

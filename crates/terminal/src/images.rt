@@ -139,8 +139,8 @@ pub fn put_text<D: SectorDevice, R: Read>(
         → OnOk result ((bytes : List ℕ) × (screen_of input ≡ Some bytes)
         × StandsFor store.new (committed (spilled m block bytes))
         × ((image : Image) → MayLeave (disk_of store.new) image → Means (latest (spilled m block bytes)) image)) }
-    ensures refused { IfErr result (λ e. e ≡ Failure.NotAScreen → (store.new ≡ store.old)
-        × ((input : List ℕ) → R.remaining text.old ≡ Some input → screen_of input ≡ None)) }
+    ensures refused { IfErr result (λ e. e ≡ Failure.NotAScreen → (input : List ℕ)
+        → R.remaining text.old ≡ Some input → screen_of input ≡ None) }
     ensures unread { IfErr result (λ e. e ≢ Failure.Device → store.new ≡ store.old) }
     ensures others { IfErr result (λ e. e ≢ Failure.NoBlock) }
     ensures stops { (m : Maps) (input : List ℕ) → StandsFor store.old m → m.closed ≡ false → R.remaining text.old ≡ Some input

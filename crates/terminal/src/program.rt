@@ -246,7 +246,8 @@ pub(crate) fn run_session<D: SectorDevice + Drop, F: Lines<D>, R: Read, W: Write
         × BreaksOff D.SectorDevice fault (new_forth steps m) closing (R.remaining input.old) (R.remaining input.new)
         (W.contents output.old) (W.contents output.new) (device_of store) after made) }
     // Memory is refused before the session begins.
-    ensures unbegun { IsErrOf result Failure.NoMemory → (input.new ≡ input.old) × (output.new ≡ output.old) }
+    ensures unread { IsErrOf result Failure.NoMemory → input.new ≡ input.old }
+    ensures unwritten { IsErrOf result Failure.NoMemory → output.new ≡ output.old }
 {
     let Ok(memory) = Memory::new(alloc) else {
         return Err(Failure::NoMemory);
@@ -263,7 +264,8 @@ pub(crate) fn run_session<D: SectorDevice + Drop, F: Lines<D>, R: Read, W: Write
 /// The exit status. A failure is told in a line.
 fn told<E: Write>(outcome: Result<(), Failure>, errors: &mut E) -> u8
     ensures well { result ≡ 0 → IsOk outcome }
-    ensures broken { result ≡ 4 → IsErr outcome × IfErr outcome (λ e. e ≢ Failure.NoMemory) }
+    ensures broken { result ≡ 4 → IsErr outcome }
+    ensures not_memory { result ≡ 4 → IfErr outcome (λ e. e ≢ Failure.NoMemory) }
     ensures status { MatchResult outcome (λ _. result ≡ 0) (λ e. result ≡ status_of e) }
 {
     match outcome {

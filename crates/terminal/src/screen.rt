@@ -52,8 +52,8 @@ fn take_row<'a>(block: &mut ArrayVec<u8, BLOCK>, bytes: &'a [u8]) -> Option<&'a 
 /// Adds a line as a row. `None` where it is too long.
 fn add_row(block: &mut ArrayVec<u8, BLOCK>, line: &[u8]) -> Option<()>
     requires { array_vec_len block.old + 64 ≤ 1024 }
-    ensures some { OnSome result ((length line.now ≤ 64)
-        × (block.new.items ≡ block.old.items ++ row (map blank_for_tab line.now))) }
+    ensures short { OnSome result (length line.now ≤ 64) }
+    ensures some { OnSome result (block.new.items ≡ block.old.items ++ row (map blank_for_tab line.now)) }
     ensures none { IfNone result (64 < length line.now) }
     ensures filled { OnSome result (array_vec_len block.new ≡ array_vec_len block.old + 64) }
 {

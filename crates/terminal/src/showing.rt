@@ -50,8 +50,8 @@ pub fn list_opened<H: HostFile + Drop, K: HostFile + Drop, P: HostFiles<K>, W: W
         (IsOpened K.HostFile (P.opens looking.now path.now))
         (ShowsBlock ⟦<SectorFile<K> as SectorDevice>⟧ block (W.contents output.old) (W.contents output.new)))) }
     // A file that is in use stays so: it isn't listed at all.
-    ensures refused { IfErr opened (λ fault. fault ≢ FileFault.Cannot
-        → (result ≡ Err (of_file fault)) × (output.new ≡ output.old)) }
+    ensures refused { IfErr opened (λ fault. fault ≢ FileFault.Cannot → result ≡ Err (of_file fault)) }
+    ensures silent { IfErr opened (λ fault. fault ≢ FileFault.Cannot → output.new ≡ output.old) }
 {
     match opened {
         Ok(disk) => closed(list_over(disk, block, output)),

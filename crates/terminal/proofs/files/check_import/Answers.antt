@@ -6,7 +6,7 @@ use Rattle.terminal.proofs.files.check_import.Goals as goal
 pub returns-in-Ok : goal.returns-in-Ok
 returns-in-Ok g c =
     let disk = c.in_ok-disk.disk in
-    let are : c.in-Some.blocks ≡ blocks_in disk.sectors = c.in-Some.ensures.some.0 ∙ ap blocks_in c.sectors.ensures in
+    let are : c.in-Some.blocks ≡ blocks_in disk.sectors = c.in-Some.ensures.count ∙ ap blocks_in c.sectors.ensures in
     let read = c.in-Ok.ensures.said in
     record {
       looked = (

@@ -10,7 +10,7 @@ returns-in-Ok-clause-made g c =
     let counted : c.sectors-sectors.result ≡ c.in_ok-source.source.sectors = c.sectors-sectors.ensures in
     let made = c.in_ok-target.ensures.made in
     let n = c.in-Some.field-0 in
-    let are : n ≡ blocks_in c.in_ok-source.source.sectors = c.in-Some.ensures.some.0 ∙ (λ i. blocks_in (counted i)) in
+    let are : n ≡ blocks_in c.in_ok-source.source.sectors = c.in-Some.ensures.count ∙ (λ i. blocks_in (counted i)) in
     let size : c.in_ok-source.source.sectors ≡ sectors_for n = sym counted ∙ c.in-Some.ensures.size in
     let same : c.in_ok-target.target.sectors ≡ c.in_ok-source.source.sectors = c.in_ok-target.ensures.sectors ∙ counted in (
       c.in_ok-source.source,

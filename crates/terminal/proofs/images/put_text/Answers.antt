@@ -1,4 +1,4 @@
-use Rattle.std.proofs.Common.{◌≡◌, ◌∙◌, ℕ, List, Option, Some, sym, ap, subst, inl, inr, refl, ⊎_elim}
+use Rattle.std.proofs.Common.{◌≡◌, ◌∙◌, ℕ, List, Option, Some, sym, ap, subst, inl, inr, ⊎_elim}
 use Rattle.std.specs.Io.KnownBytes.{Consumes}
 use Rattle.terminal.specs.Screen.{screen_of}
 use Rattle.journal.specs.Store.{closed_of}
@@ -31,13 +31,10 @@ returns-in-Err-put_block-clause-stops g c = λ m input stands live known.
     λ image left. ⊎_elim (λ old. inl old) (λ new. inr (c.as_slice-in-Some.result.now, said, new)) (c.in-Err-put_block.ensures.stops m stands live image left)
 
 pub returns-in-None-clause-refused : goal.returns-in-None-clause-refused
-returns-in-None-clause-refused g c = λ same. (
-  refl,
-  λ input known.
-      let given = subst (λ (o : Option (List ℕ)). Consumes o (g.R.Read.remaining c.read_text.new.reader) c.in-Ok.text.items) known c.in-Ok.ensures.given in
-      sym (same_screen input c.in-Ok.text.items (g.R.Read.remaining c.read_text.new.reader) given c.in-Ok.ensures.whole)
-      ∙ ap screen_of (sym c.as_slice.ensures.value) ∙ sym c.in-None.ensures,
-)
+returns-in-None-clause-refused g c = λ told input known.
+    let given = subst (λ (o : Option (List ℕ)). Consumes o (g.R.Read.remaining c.read_text.new.reader) c.in-Ok.text.items) known c.in-Ok.ensures.given in
+    sym (same_screen input c.in-Ok.text.items (g.R.Read.remaining c.read_text.new.reader) given c.in-Ok.ensures.whole)
+    ∙ ap screen_of (sym c.as_slice.ensures.value) ∙ sym c.in-None.ensures
 
 pub returns-in-Ok-put_block-clause-some : goal.returns-in-Ok-put_block-clause-some
 returns-in-Ok-put_block-clause-some g c =
