@@ -14,9 +14,8 @@ use Rattle.journal.proofs.Blocks.{at_below, at_none}
 use Rattle.image_care.specs.Examined.{reads_to_list}
 use Rattle.terminal.specs.Done.{DoneOn, ListsBlock, blocks_on, maps_on}
 use Rattle.terminal.specs.Failures.{of_file}
-use Rattle.terminal.specs.Ordered.{ListDone}
 use Rattle.terminal.specs.Screen.{listing}
-use Rattle.terminal.specs.Shown.{ShowsBlock}
+use Rattle.terminal.specs.Shown.{ListDone, ShowsBlock}
 use Rattle.terminal.specs.declared.failure.Failure.{Failure}
 
 -- Of maps of the blocks that an image means, of which nothing is pending, a block is that of the image.

@@ -1,9 +1,15 @@
--- What the words of a command line may be, and the order that they give.
+-- What the words of a command line may be, the order that they give, and what it is to have done it.
 use Rattle.std.specs.Prelude.{◌≡◌, ◌≢◌, ◌≤◌, ℕ, pos, true, List, [], ◌∷◌, Option, Some, None, codes, ⊤}
 use Rattle.std.specs.Str.Parse.{IsNumeral, digits_value, without_leading_plus}
 use Rattle.clap.specs.Words.{App, Row, Rule, Text, fault_of, first_of, is_simple, is_simple_and_free, new_app, new_rule, one_of, subcommand_of, with_rule, with_subcommand}
 use Rattle.clap.specs.declared.builder.action.ArgAction.TheVariants.{Set, SetTrue}
 use Rattle.clap.specs.declared.builder.value_parser.ValueParser.TheVariants as vp
+use Rattle.sector_disk.specs.declared.device.SectorDevice.{Ghosts}
+use Rattle.journal.specs.Layout.{sectors_for}
+use Rattle.terminal.specs.Checked.{Checks}
+use Rattle.terminal.specs.Copying.{CopyDone, SalvageDone}
+use Rattle.terminal.specs.Done.{DoneOn, Exports, ImportsBlocks, LooksAt, MakesBlank, PutsBlock, RunsSession, UpgradeDone}
+use Rattle.terminal.specs.Shown.{ListDone}
 use Rattle.terminal.specs.declared.orders.Form.{Form}
 use Rattle.terminal.specs.declared.orders.Form.TheVariants.{Text as Lines, Raw}
 use Rattle.terminal.specs.declared.orders.Order.{Order}
@@ -212,3 +218,37 @@ IsInRange (Trace path n) = (1 ≤ n) × (n ≤ 1000000000)
 IsInRange (Copy old new asked) = AreInRange asked
 IsInRange (Salvage old new asked) = AreInRange asked
 IsInRange order = ⊤
+
+-- ---- what is left where an order was done, on devices that were opened and made under the names in it
+
+-- G is of the devices that are opened for writing too or made, L of those that are opened for reading alone.
+module _ {D E : Type 0} (G : Ghosts D) (L : Ghosts E) where
+  -- The order was done, on such devices. `looked` says which are opened for reading alone.
+  abbrev pub IsDone : (opened : List ℕ → D → Type 0) (made : List ℕ → ℕ → D → Type 0) (looked : List ℕ → E → Type 0) → Order
+      → (left left' written written' : Option (List ℕ)) → Type 0
+  IsDone opened made looked Memory left left' written written' = ⊤
+  IsDone opened made looked (New path n) left left' written written' = DoneOn G (made path.now (sectors_for n)) (MakesBlank G n)
+  IsDone opened made looked (Run path n) left left' written written' =
+      DoneOn G (opened path.now) (RunsSession G n left left' written written')
+  IsDone opened made looked (Trace path n) left left' written written' =
+      DoneOn G (opened path.now) (RunsSession G n left left' written written')
+  IsDone opened made looked (ListBlock path b) left left' written written' =
+      ListDone G L (opened path.now) (looked path.now) b written written'
+  IsDone opened made looked (Put path b text) left left' written written' = DoneOn G (opened path.now) (PutsBlock G b)
+  IsDone opened made looked (Export path first last form) left left' written written' =
+      DoneOn G (opened path.now) (Exports G form first last written written')
+  IsDone opened made looked (Import path first source form) left left' written written' =
+      DoneOn G (opened path.now) (ImportsBlocks G form first)
+  IsDone opened made looked (CheckImport path first source form) left left' written written' =
+      DoneOn G (opened path.now) (LooksAt G form first)
+  IsDone opened made looked (Check path) left left' written written' = DoneOn L (looked path.now) (Checks L written written')
+  IsDone opened made looked (Upgrade old new) left left' written written' = UpgradeDone G (opened old.now) (made new.now)
+  IsDone opened made looked (Copy old new asked) left left' written written' = CopyDone L G (looked old.now) (made new.now) asked
+  IsDone opened made looked (Salvage old new asked) left left' written written' =
+      SalvageDone L G (looked old.now) (made new.now) asked written written'
+
+  -- What the words order was done.
+  abbrev pub OrderIsDone : (words : List Text) (opened : List ℕ → D → Type 0) (made : List ℕ → ℕ → D → Type 0)
+      (looked : List ℕ → E → Type 0) → (left left' written written' : Option (List ℕ)) → Type 0
+  OrderIsDone words opened made looked left left' written written' =
+      (order : Order) × IsOrderOf words order × IsDone opened made looked order left left' written written'

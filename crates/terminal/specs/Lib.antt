@@ -7,7 +7,6 @@ pub mod Failures
 pub mod Done
 pub mod Copying
 pub mod Shown
-pub mod Ordered
 pub mod Files
 pub mod Putting
 pub mod Transfer

@@ -7,8 +7,7 @@ ghost use Rattle.recovery.specs.Label.{blocks_in, is_size};
 ghost use Rattle.terminal.specs.Done.{Comes, DoneOn, ListsBlock};
 ghost use Rattle.terminal.specs.Failures.{of_file};
 ghost use Rattle.terminal.specs.Files.{IsOpened};
-ghost use Rattle.terminal.specs.Ordered.{ListDone};
-ghost use Rattle.terminal.specs.Shown.{ShowsBlock, block_refusal};
+ghost use Rattle.terminal.specs.Shown.{ListDone, ShowsBlock, block_refusal};
 
 use super::checking::print;
 use super::failure::Failure;
