@@ -54,17 +54,17 @@ both_ok (Err e) A B C f a b = tt
 
 -- A block was listed, on the file that was opened for writing, or on the one that was opened for reading where that was refused.
 pub list_done : {D E T : Type 0} (G : Ghosts D) (L : Ghosts E) (file : Result D FileFault) (r : Result T Failure)
-    (opened : D → Type 0) (looked : E → Type 0) (b : ℕ) (written written' : Option (List ℕ)) (Unprinted : Type 0) → IfOk file opened
+    (opened : D → Type 0) (looked : E → Type 0) (b : ℕ) (written written' : Option (List ℕ)) → IfOk file opened
     → IfOk file (λ disk. OnOk r (DoneOn G (λ device. device ≡ disk) (ListsBlock G b written written')))
     → IfErr file (λ fault. fault ≡ Cannot → OnOk r (DoneOn L looked (ShowsBlock L b written written')))
-    → IfErr file (λ fault. fault ≢ Cannot → (r ≡ Err (of_file fault)) × Unprinted)
+    → IfErr file (λ fault. fault ≢ Cannot → r ≡ Err (of_file fault))
     → OnOk r (ListDone G L opened looked b written written')
-list_done G L (Ok disk) (Ok t) opened looked b written written' _ is listed looks refused =
+list_done G L (Ok disk) (Ok t) opened looked b written written' is listed looks refused =
     inl (listed.0, (disk, is, subst (λ device. ListsBlock G b written written' device listed.0) listed.1.1 listed.1.2))
-list_done G L (Ok disk) (Err e) opened looked b written written' _ is listed looks refused = tt
-list_done G L (Err Cannot) (Ok t) opened looked b written written' _ is listed looks refused = inr (looks refl)
-list_done G L (Err Exists) (Ok t) opened looked b written written' _ is listed looks refused =
-    let told = (refused (λ e. cc)).0 in absurd cc
-list_done G L (Err InUse) (Ok t) opened looked b written written' _ is listed looks refused =
-    let told = (refused (λ e. cc)).0 in absurd cc
-list_done G L (Err fault) (Err e) opened looked b written written' _ is listed looks refused = tt
+list_done G L (Ok disk) (Err e) opened looked b written written' is listed looks refused = tt
+list_done G L (Err Cannot) (Ok t) opened looked b written written' is listed looks refused = inr (looks refl)
+list_done G L (Err Exists) (Ok t) opened looked b written written' is listed looks refused =
+    let told = refused (λ e. cc) in absurd cc
+list_done G L (Err InUse) (Ok t) opened looked b written written' is listed looks refused =
+    let told = refused (λ e. cc) in absurd cc
+list_done G L (Err fault) (Err e) opened looked b written written' is listed looks refused = tt
