@@ -1,0 +1,48 @@
+-- How many sectors images of each layout have.
+use Rattle.std.proofs.Common.{◌≡◌, ℕ, Bool, true, false, refl, sym, ◌∙◌, ap, arith}
+use Rattle.std.specs.Prelude.{◌||◌, if◌then◌else◌}
+use Rattle.std.proofs.lemmas.Bool.Decides.{nat_tests}
+use Rattle.journal.specs.Layout as older_layout
+use Rattle.recovery.specs.Label as older
+use Rattle.shadow.specs.Label as newer
+use Rattle.shadow.specs.Label.{is_known_size}
+use Rattle.shadow.specs.Layout as newer_layout
+use Rattle.shadow.specs.Upgraded.{known_blocks}
+
+pub older_sectors : (sectors : ℕ) → older.is_size sectors ≡ true → sectors ≡ older_layout.sectors_for (older.blocks_in sectors)
+older_sectors sectors is = grind (arith, nat_tests, is)
+
+newer_sectors : (sectors : ℕ) → newer.is_size sectors ≡ true → sectors ≡ newer_layout.sectors_for (newer.blocks_in sectors)
+newer_sectors sectors is = grind (arith, nat_tests, is)
+
+pub older_count : (n sectors : ℕ) → sectors ≡ older_layout.sectors_for n → older.blocks_in sectors ≡ n
+older_count n sectors size = omega (arith, size)
+
+pub newer_count : (n sectors : ℕ) → sectors ≡ newer_layout.sectors_for n → newer.blocks_in sectors ≡ n
+newer_count n sectors size = omega (arith, size)
+
+first_true : (a b : Bool) → b ≡ false → (a || b) ≡ true → a ≡ true
+first_true true b isnt known = refl
+first_true false b isnt known = cc
+
+or_true : (a b : Bool) → b ≡ true → (a || b) ≡ true
+or_true true b is = refl
+or_true false b is = is
+
+-- A size of layout 2 is a known one, and any other known one is that of layout 3.
+pub older_known : (sectors : ℕ) → older.is_size sectors ≡ true → is_known_size sectors ≡ true
+older_known sectors is = or_true (newer.is_size sectors) (older.is_size sectors) is
+
+pub known_newer : (sectors : ℕ) → older.is_size sectors ≡ false → is_known_size sectors ≡ true
+    → sectors ≡ newer_layout.sectors_for (newer.blocks_in sectors)
+known_newer sectors isnt known = newer_sectors sectors (first_true (newer.is_size sectors) (older.is_size sectors) isnt known)
+
+pub older_blocks : (n sectors : ℕ) → older.is_size sectors ≡ true → sectors ≡ older_layout.sectors_for n → n ≡ known_blocks sectors
+older_blocks n sectors is size =
+    sym (older_count n sectors size)
+    ∙ sym (ap (λ b. if b then older.blocks_in sectors else newer.blocks_in sectors) is)
+
+pub newer_blocks : (n sectors : ℕ) → older.is_size sectors ≡ false → sectors ≡ newer_layout.sectors_for n → n ≡ known_blocks sectors
+newer_blocks n sectors isnt size =
+    sym (newer_count n sectors size)
+    ∙ sym (ap (λ b. if b then older.blocks_in sectors else newer.blocks_in sectors) isnt)

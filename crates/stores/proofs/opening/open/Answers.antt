@@ -1,0 +1,229 @@
+use Rattle.std.proofs.Common.{◌≡◌, inl, inr, ⊎_elim, true, false, sym, ◌∙◌, subst}
+use Rattle.journal.specs.Images as older_images
+use Rattle.journal.specs.Maps.{fresh}
+use Rattle.journal.specs.Store as older
+use Rattle.recovery.specs.Label.{is_size}
+use Rattle.shadow.specs.Images as newer_images
+use Rattle.shadow.specs.Store as newer
+use Rattle.stores.specs.Images.{Means}
+use Rattle.stores.specs.Store.{StandsFor}
+use Rattle.stores.specs.declared.store.Store.TheVariants.{Journaled, Shadowed}
+use Rattle.stores.proofs.Opened.{older_refuses, older_passes, older_has, has_older, older_meaning, older_sized, newer_refuses, refuses_newer, newer_has, has_newer, newer_meaning, older_stops, older_begins, older_reads, newer_stops, newer_begins, newer_reads}
+use Rattle.stores.proofs.Sizes.{older_sectors, older_known, known_newer, older_blocks, newer_blocks}
+use Rattle.stores.proofs.Stores.{journaled, shadowed}
+use Rattle.stores.proofs.opening.open.Goals as goal
+
+pub returns-in-Ok-clause-ok : goal.returns-in-Ok-clause-ok
+returns-in-Ok-clause-ok g c =
+    let sectors = g.D.SectorDevice.sector_count c.args.device in
+    let image = (g.D.SectorDevice.disk c.args.device).content in
+    let is : is_size sectors ≡ true = sym c.is_older.ensures ∙ c.if-is_older.true in
+    let store = c.in-Ok.store in
+    let n = older.blocks_of store in
+    λ model. subst (λ blocks. StandsFor (Journaled store) (fresh blocks)) (older_meaning sectors image is n c.in-Ok.ensures.size) (journaled (fresh (older_images.meaning n image)) store (c.in-Ok.ensures.ok model))
+
+pub returns-in-Ok-clause-blocks : goal.returns-in-Ok-clause-blocks
+returns-in-Ok-clause-blocks g c =
+    let sectors = g.D.SectorDevice.sector_count c.args.device in
+    let is : is_size sectors ≡ true = sym c.is_older.ensures ∙ c.if-is_older.true in
+    let store = c.in-Ok.store in
+    let n = older.blocks_of store in
+    older_blocks n sectors is c.in-Ok.ensures.size
+
+pub returns-in-Ok-clause-sized : goal.returns-in-Ok-clause-sized
+returns-in-Ok-clause-sized g c =
+    let sectors = g.D.SectorDevice.sector_count c.args.device in
+    let is : is_size sectors ≡ true = sym c.is_older.ensures ∙ c.if-is_older.true in
+    older_known sectors is
+
+pub returns-in-Ok-clause-exact : goal.returns-in-Ok-clause-exact
+returns-in-Ok-clause-exact g c =
+    let sectors = g.D.SectorDevice.sector_count c.args.device in
+    let image = (g.D.SectorDevice.disk c.args.device).content in
+    let is : is_size sectors ≡ true = sym c.is_older.ensures ∙ c.if-is_older.true in
+    λ model. older_passes sectors image is (c.in-Ok.ensures.exact model)
+
+pub returns-in-Ok-clause-meaning : goal.returns-in-Ok-clause-meaning
+returns-in-Ok-clause-meaning g c =
+    let sectors = g.D.SectorDevice.sector_count c.args.device in
+    let image = (g.D.SectorDevice.disk c.args.device).content in
+    let is : is_size sectors ≡ true = sym c.is_older.ensures ∙ c.if-is_older.true in
+    let store = c.in-Ok.store in
+    let n = older.blocks_of store in
+    λ model. older_has sectors image is n c.in-Ok.ensures.size (c.in-Ok.ensures.meaning model)
+
+pub returns-in-Ok-clause-stops : goal.returns-in-Ok-clause-stops
+returns-in-Ok-clause-stops g c =
+    let sectors = g.D.SectorDevice.sector_count c.args.device in
+    let is : is_size sectors ≡ true = sym c.is_older.ensures ∙ c.if-is_older.true in
+    let store = c.in-Ok.store in
+    λ model known. older_stops g.D.SectorDevice c.args.device (older.device_of store) sectors is (c.in-Ok.ensures.stops model _ (older_sectors sectors is))
+
+pub returns-in-Ok-clause-after : goal.returns-in-Ok-clause-after
+returns-in-Ok-clause-after g c =
+    let sectors = g.D.SectorDevice.sector_count c.args.device in
+    let image = (g.D.SectorDevice.disk c.args.device).content in
+    let is : is_size sectors ≡ true = sym c.is_older.ensures ∙ c.if-is_older.true in
+    let store = c.in-Ok.store in
+    let n = older.blocks_of store in
+    λ model left may. subst (λ blocks. Means blocks left) (older_meaning sectors image is n c.in-Ok.ensures.size) (inl (c.in-Ok.ensures.after model left may))
+
+pub returns-in-Ok-clause-begins : goal.returns-in-Ok-clause-begins
+returns-in-Ok-clause-begins g c =
+    let sectors = g.D.SectorDevice.sector_count c.args.device in
+    let image = (g.D.SectorDevice.disk c.args.device).content in
+    let is : is_size sectors ≡ true = sym c.is_older.ensures ∙ c.if-is_older.true in
+    let store = c.in-Ok.store in
+    λ model known. older_begins g.D.SectorDevice c.args.device (older.device_of store) sectors is image (c.in-Ok.ensures.begins model _ (older_sectors sectors is))
+
+pub returns-in-Ok-clause-reads : goal.returns-in-Ok-clause-reads
+returns-in-Ok-clause-reads g c =
+    let sectors = g.D.SectorDevice.sector_count c.args.device in
+    let image = (g.D.SectorDevice.disk c.args.device).content in
+    let is : is_size sectors ≡ true = sym c.is_older.ensures ∙ c.if-is_older.true in
+    let store = c.in-Ok.store in
+    λ model known. older_reads g.D.SectorDevice c.args.device (older.device_of store) sectors is image (c.in-Ok.ensures.reads model _ (older_sectors sectors is))
+
+pub returns-in-Err-clause-bad_size : goal.returns-in-Err-clause-bad_size
+returns-in-Err-clause-bad_size g c =
+    let sectors = g.D.SectorDevice.sector_count c.args.device in
+    let image = (g.D.SectorDevice.disk c.args.device).content in
+    let is : is_size sectors ≡ true = sym c.is_older.ensures ∙ c.if-is_older.true in
+    older_sized sectors image is c.in-Err.refused.0 c.in-Err.ensures.bad_size
+
+pub returns-in-Err-clause-exact : goal.returns-in-Err-clause-exact
+returns-in-Err-clause-exact g c =
+    let sectors = g.D.SectorDevice.sector_count c.args.device in
+    let image = (g.D.SectorDevice.disk c.args.device).content in
+    let is : is_size sectors ≡ true = sym c.is_older.ensures ∙ c.if-is_older.true in
+    λ model. ⊎_elim (λ device. inl device) (λ refuses. inr (older_refuses sectors image is c.in-Err.refused.0 refuses)) (c.in-Err.ensures.exact model)
+
+pub returns-in-Err-clause-good : goal.returns-in-Err-clause-good
+returns-in-Err-clause-good g c =
+    let sectors = g.D.SectorDevice.sector_count c.args.device in
+    let image = (g.D.SectorDevice.disk c.args.device).content in
+    let is : is_size sectors ≡ true = sym c.is_older.ensures ∙ c.if-is_older.true in
+    λ model known has. c.in-Err.ensures.good model _ (older_sectors sectors is) (has_older sectors image is has)
+
+pub returns-in-Err-clause-stops : goal.returns-in-Err-clause-stops
+returns-in-Err-clause-stops g c =
+    let sectors = g.D.SectorDevice.sector_count c.args.device in
+    let is : is_size sectors ≡ true = sym c.is_older.ensures ∙ c.if-is_older.true in
+    λ model known. older_stops g.D.SectorDevice c.args.device c.in-Err.refused.1 sectors is (c.in-Err.ensures.stops model _ (older_sectors sectors is))
+
+pub returns-in-Err-clause-begins : goal.returns-in-Err-clause-begins
+returns-in-Err-clause-begins g c =
+    let sectors = g.D.SectorDevice.sector_count c.args.device in
+    let image = (g.D.SectorDevice.disk c.args.device).content in
+    let is : is_size sectors ≡ true = sym c.is_older.ensures ∙ c.if-is_older.true in
+    λ model known. older_begins g.D.SectorDevice c.args.device c.in-Err.refused.1 sectors is image (c.in-Err.ensures.begins model _ (older_sectors sectors is))
+
+pub returns-in-Err-clause-reads : goal.returns-in-Err-clause-reads
+returns-in-Err-clause-reads g c =
+    let sectors = g.D.SectorDevice.sector_count c.args.device in
+    let image = (g.D.SectorDevice.disk c.args.device).content in
+    let is : is_size sectors ≡ true = sym c.is_older.ensures ∙ c.if-is_older.true in
+    λ model known. older_reads g.D.SectorDevice c.args.device c.in-Err.refused.1 sectors is image (c.in-Err.ensures.reads model _ (older_sectors sectors is))
+
+pub returns-in-Ok-open-clause-ok : goal.returns-in-Ok-open-clause-ok
+returns-in-Ok-open-clause-ok g c =
+    let sectors = g.D.SectorDevice.sector_count c.args.device in
+    let image = (g.D.SectorDevice.disk c.args.device).content in
+    let isnt : is_size sectors ≡ false = sym c.is_older.ensures ∙ c.if-is_older.false in
+    let store = c.in-Ok-open.store in
+    let n = newer.blocks_of store in
+    λ model. subst (λ blocks. StandsFor (Shadowed store) (fresh blocks)) (newer_meaning sectors image isnt n c.in-Ok-open.ensures.size) (shadowed (fresh (newer_images.meaning n image)) store (c.in-Ok-open.ensures.ok (c.in-Ok-open.ensures.pages model)))
+
+pub returns-in-Ok-open-clause-blocks : goal.returns-in-Ok-open-clause-blocks
+returns-in-Ok-open-clause-blocks g c =
+    let sectors = g.D.SectorDevice.sector_count c.args.device in
+    let isnt : is_size sectors ≡ false = sym c.is_older.ensures ∙ c.if-is_older.false in
+    let store = c.in-Ok-open.store in
+    let n = newer.blocks_of store in
+    newer_blocks n sectors isnt c.in-Ok-open.ensures.size
+
+pub returns-in-Ok-open-clause-exact : goal.returns-in-Ok-open-clause-exact
+returns-in-Ok-open-clause-exact g c =
+    let sectors = g.D.SectorDevice.sector_count c.args.device in
+    let image = (g.D.SectorDevice.disk c.args.device).content in
+    let isnt : is_size sectors ≡ false = sym c.is_older.ensures ∙ c.if-is_older.false in
+    λ model fault refuses. c.in-Ok-open.ensures.exact model fault (refuses_newer sectors image isnt fault refuses)
+
+pub returns-in-Ok-open-clause-meaning : goal.returns-in-Ok-open-clause-meaning
+returns-in-Ok-open-clause-meaning g c =
+    let sectors = g.D.SectorDevice.sector_count c.args.device in
+    let image = (g.D.SectorDevice.disk c.args.device).content in
+    let isnt : is_size sectors ≡ false = sym c.is_older.ensures ∙ c.if-is_older.false in
+    let store = c.in-Ok-open.store in
+    let n = newer.blocks_of store in
+    λ model. newer_has sectors image isnt n c.in-Ok-open.ensures.size (c.in-Ok-open.ensures.meaning model)
+
+pub returns-in-Ok-open-clause-stops : goal.returns-in-Ok-open-clause-stops
+returns-in-Ok-open-clause-stops g c =
+    let sectors = g.D.SectorDevice.sector_count c.args.device in
+    let isnt : is_size sectors ≡ false = sym c.is_older.ensures ∙ c.if-is_older.false in
+    let store = c.in-Ok-open.store in
+    λ model known. newer_stops g.D.SectorDevice c.args.device (newer.device_of store) sectors isnt (c.in-Ok-open.ensures.stops model)
+
+pub returns-in-Ok-open-clause-after : goal.returns-in-Ok-open-clause-after
+returns-in-Ok-open-clause-after g c =
+    let sectors = g.D.SectorDevice.sector_count c.args.device in
+    let image = (g.D.SectorDevice.disk c.args.device).content in
+    let isnt : is_size sectors ≡ false = sym c.is_older.ensures ∙ c.if-is_older.false in
+    let store = c.in-Ok-open.store in
+    let n = newer.blocks_of store in
+    λ model left may. subst (λ blocks. Means blocks left) (newer_meaning sectors image isnt n c.in-Ok-open.ensures.size) (inr (c.in-Ok-open.ensures.after (c.in-Ok-open.ensures.pages model) left may))
+
+pub returns-in-Ok-open-clause-begins : goal.returns-in-Ok-open-clause-begins
+returns-in-Ok-open-clause-begins g c =
+    let sectors = g.D.SectorDevice.sector_count c.args.device in
+    let image = (g.D.SectorDevice.disk c.args.device).content in
+    let isnt : is_size sectors ≡ false = sym c.is_older.ensures ∙ c.if-is_older.false in
+    let store = c.in-Ok-open.store in
+    λ model known. newer_begins g.D.SectorDevice c.args.device (newer.device_of store) sectors isnt image c.in-Ok-open.ensures.begins
+
+pub returns-in-Ok-open-clause-reads : goal.returns-in-Ok-open-clause-reads
+returns-in-Ok-open-clause-reads g c =
+    let sectors = g.D.SectorDevice.sector_count c.args.device in
+    let image = (g.D.SectorDevice.disk c.args.device).content in
+    let isnt : is_size sectors ≡ false = sym c.is_older.ensures ∙ c.if-is_older.false in
+    let store = c.in-Ok-open.store in
+    λ model known. newer_reads g.D.SectorDevice c.args.device (newer.device_of store) sectors isnt image c.in-Ok-open.ensures.reads
+
+pub returns-in-Err-open-clause-exact : goal.returns-in-Err-open-clause-exact
+returns-in-Err-open-clause-exact g c =
+    let sectors = g.D.SectorDevice.sector_count c.args.device in
+    let image = (g.D.SectorDevice.disk c.args.device).content in
+    let isnt : is_size sectors ≡ false = sym c.is_older.ensures ∙ c.if-is_older.false in
+    λ model. ⊎_elim (λ device. inl device) (λ refuses. inr (newer_refuses sectors image isnt c.in-Err-open.newer.0 refuses)) (c.in-Err-open.ensures.exact model)
+
+pub returns-in-Err-open-clause-good : goal.returns-in-Err-open-clause-good
+returns-in-Err-open-clause-good g c =
+    let sectors = g.D.SectorDevice.sector_count c.args.device in
+    let image = (g.D.SectorDevice.disk c.args.device).content in
+    let isnt : is_size sectors ≡ false = sym c.is_older.ensures ∙ c.if-is_older.false in
+    λ model known has. c.in-Err-open.ensures.good model _ (known_newer sectors isnt known) (has_newer sectors image isnt has)
+
+pub returns-in-Err-open-clause-unwritten : goal.returns-in-Err-open-clause-unwritten
+returns-in-Err-open-clause-unwritten g c =
+    λ other. c.in-Err-open.ensures.begins
+
+pub returns-in-Err-open-clause-stops : goal.returns-in-Err-open-clause-stops
+returns-in-Err-open-clause-stops g c =
+    let sectors = g.D.SectorDevice.sector_count c.args.device in
+    let isnt : is_size sectors ≡ false = sym c.is_older.ensures ∙ c.if-is_older.false in
+    λ model known. newer_stops g.D.SectorDevice c.args.device c.in-Err-open.newer.1 sectors isnt (c.in-Err-open.ensures.stops model)
+
+pub returns-in-Err-open-clause-begins : goal.returns-in-Err-open-clause-begins
+returns-in-Err-open-clause-begins g c =
+    let sectors = g.D.SectorDevice.sector_count c.args.device in
+    let image = (g.D.SectorDevice.disk c.args.device).content in
+    let isnt : is_size sectors ≡ false = sym c.is_older.ensures ∙ c.if-is_older.false in
+    λ model known. newer_begins g.D.SectorDevice c.args.device c.in-Err-open.newer.1 sectors isnt image c.in-Err-open.ensures.begins
+
+pub returns-in-Err-open-clause-reads : goal.returns-in-Err-open-clause-reads
+returns-in-Err-open-clause-reads g c =
+    let sectors = g.D.SectorDevice.sector_count c.args.device in
+    let image = (g.D.SectorDevice.disk c.args.device).content in
+    let isnt : is_size sectors ≡ false = sym c.is_older.ensures ∙ c.if-is_older.false in
+    λ model known. newer_reads g.D.SectorDevice c.args.device c.in-Err-open.newer.1 sectors isnt image c.in-Err-open.ensures.reads
