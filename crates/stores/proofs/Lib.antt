@@ -1,5 +1,7 @@
+pub mod Choices
+pub mod Damage
 pub mod Opened
 pub mod OwnMaps
-pub mod Sizes
+pub mod KnownSizes
 pub mod Stores
 pub mod Told

@@ -1,5 +1,5 @@
 -- What is told of an image by the layout that its size tells.
-use Rattle.std.proofs.Common.{◌≡◌, ◌≢◌, ℕ, ◌+◌, ◌*◌, Bool, true, false, Option, Some, None, sym, ◌∙◌, ap, subst}
+use Rattle.std.proofs.Common.{◌≡◌, ◌≢◌, ℕ, ◌+◌, ◌*◌, true, false, Option, Some, None, sym, ◌∙◌, ap, subst}
 use Rattle.std.specs.Prelude.{if◌then◌else◌, MatchBool}
 use Rattle.sector_disk.specs.Disk.{Image, MayLeave}
 use Rattle.sector_disk.specs.declared.device.SectorDevice.{Ghosts}
@@ -16,38 +16,13 @@ use Rattle.shadow.specs.Label as newer_label
 use Rattle.shadow.specs.Label.{is_known_size}
 use Rattle.shadow.specs.Layout as newer_layout
 use Rattle.shadow.specs.Opened as newer
-use Rattle.stores.specs.Images.{HasMeaning, meaning}
-use Rattle.stores.specs.Opened.{OpeningLeaves, Refuses, reads_for, syncs_for, writes_for}
-use Rattle.stores.proofs.Sizes.{older_count, newer_count, older_known}
-
--- A choice by a test.
-at_true : (b : Bool) (P Q : Type 0) → b ≡ true → P → MatchBool b P Q
-at_true true P Q is p = p
-at_true false P Q is p = absurd (cc)
-
-at_false : (b : Bool) (P Q : Type 0) → b ≡ false → Q → MatchBool b P Q
-at_false true P Q isnt q = absurd (cc)
-at_false false P Q isnt q = q
-
-from_true : (b : Bool) (P Q : Type 0) → b ≡ true → MatchBool b P Q → P
-from_true true P Q is p = p
-from_true false P Q is q = absurd (cc)
-
-from_false : (b : Bool) (P Q : Type 0) → b ≡ false → MatchBool b P Q → Q
-from_false true P Q isnt p = absurd (cc)
-from_false false P Q isnt q = q
-
-both_refuse : (r : Option OpenFault) (fault : OpenFault) → r ≡ None → r ≡ Some fault → ⊥
-both_refuse None fault none some = cc
-both_refuse (Some e) fault none some = cc
+use Rattle.stores.specs.Images.{HasMeaning, Means, meaning}
+use Rattle.stores.specs.Opened.{OpeningLeaves, image_refusal, newer_refusal, reads_for, syncs_for, writes_for}
+use Rattle.stores.proofs.Choices.{at_true, at_false, from_true, from_false}
+use Rattle.stores.proofs.Damage.{none_told, refusal_told}
+use Rattle.stores.proofs.KnownSizes.{older_count, newer_count, older_known}
 
 module _ (sectors : ℕ) (image : Image) where
-  abbrev ByOlder : OpenFault → Type 0
-  ByOlder fault = older.image_refusal sectors image ≡ Some fault
-
-  abbrev ByNewer : OpenFault → Type 0
-  ByNewer fault = newer.Refuses sectors image fault
-
   abbrev OlderMeaning : Type 0
   OlderMeaning = older_chain.HasMeaning (older_label.blocks_in sectors) image
 
@@ -55,12 +30,8 @@ module _ (sectors : ℕ) (image : Image) where
   NewerMeaning = newer.HasMeaning (newer_label.blocks_in sectors) image
 
   module _ (is : older_label.is_size sectors ≡ true) where
-    pub older_refuses : (fault : OpenFault) → older.image_refusal sectors image ≡ Some fault → Refuses sectors image fault
-    older_refuses fault refuses = at_true (older_label.is_size sectors) (ByOlder fault) (ByNewer fault) is refuses
-
-    pub older_passes : older.image_refusal sectors image ≡ None → (fault : OpenFault) → ¬ Refuses sectors image fault
-    older_passes none fault refuses =
-        both_refuse (older.image_refusal sectors image) fault none (from_true (older_label.is_size sectors) (ByOlder fault) (ByNewer fault) is refuses)
+    pub older_refusal : (told : Option OpenFault) → older.image_refusal sectors image ≡ told → image_refusal sectors image ≡ told
+    older_refusal told refuses = ap (λ b. if b then older.image_refusal sectors image else newer_refusal sectors image) is ∙ refuses
 
     pub older_has : (n : ℕ) → sectors ≡ older_layout.sectors_for n → older_chain.HasMeaning n image → HasMeaning sectors image
     older_has n size has = at_true (older_label.is_size sectors) OlderMeaning NewerMeaning is
@@ -74,17 +45,23 @@ module _ (sectors : ℕ) (image : Image) where
         sym (ap (λ m. older_images.meaning m image) (older_count n sectors size))
         ∙ sym (ap (λ b. if b then older_images.meaning (older_label.blocks_in sectors) image else newer_images.meaning (newer_label.blocks_in sectors) image) is)
 
+    pub older_means : (left : Image) (n : ℕ) → sectors ≡ older_layout.sectors_for n → older_images.Means (older_images.meaning n image) left
+        → Means sectors (meaning sectors image) left
+    older_means left n size means = subst (λ blocks. Means sectors blocks left) (older_meaning n size)
+        (at_true (older_label.is_size sectors) (older_images.Means (older_images.meaning n image) left) (newer_images.Means (older_images.meaning n image) left) is means)
+
     pub older_sized : (fault : OpenFault) → MatchBool (older_label.is_size sectors) (fault ≢ BadSize) (fault ≡ BadSize)
         → MatchBool (is_known_size sectors) (fault ≢ BadSize) (fault ≡ BadSize)
     older_sized fault which = at_true (is_known_size sectors) (fault ≢ BadSize) (fault ≡ BadSize) (older_known sectors is)
         (from_true (older_label.is_size sectors) (fault ≢ BadSize) (fault ≡ BadSize) is which)
 
   module _ (isnt : older_label.is_size sectors ≡ false) where
-    pub newer_refuses : (fault : OpenFault) → newer.Refuses sectors image fault → Refuses sectors image fault
-    newer_refuses fault refuses = at_false (older_label.is_size sectors) (ByOlder fault) (ByNewer fault) isnt refuses
+    pub newer_refuses : (fault : OpenFault) → newer.Refuses sectors image fault → image_refusal sectors image ≡ Some fault
+    newer_refuses fault refuses =
+        ap (λ b. if b then older.image_refusal sectors image else newer_refusal sectors image) isnt ∙ refusal_told sectors image fault refuses
 
-    pub refuses_newer : (fault : OpenFault) → Refuses sectors image fault → newer.Refuses sectors image fault
-    refuses_newer fault refuses = from_false (older_label.is_size sectors) (ByOlder fault) (ByNewer fault) isnt refuses
+    pub newer_passes : ((fault : OpenFault) → ¬ newer.Refuses sectors image fault) → image_refusal sectors image ≡ None
+    newer_passes never = ap (λ b. if b then older.image_refusal sectors image else newer_refusal sectors image) isnt ∙ none_told sectors image never
 
     pub newer_has : (n : ℕ) → sectors ≡ newer_layout.sectors_for n → newer.HasMeaning n image → HasMeaning sectors image
     newer_has n size has = at_false (older_label.is_size sectors) OlderMeaning NewerMeaning isnt
@@ -97,6 +74,11 @@ module _ (sectors : ℕ) (image : Image) where
     newer_meaning n size =
         sym (ap (λ m. newer_images.meaning m image) (newer_count n sectors size))
         ∙ sym (ap (λ b. if b then older_images.meaning (older_label.blocks_in sectors) image else newer_images.meaning (newer_label.blocks_in sectors) image) isnt)
+
+    pub newer_means : (left : Image) (n : ℕ) → sectors ≡ newer_layout.sectors_for n → newer_images.Means (newer_images.meaning n image) left
+        → Means sectors (meaning sectors image) left
+    newer_means left n size means = subst (λ blocks. Means sectors blocks left) (newer_meaning n size)
+        (at_false (older_label.is_size sectors) (older_images.Means (newer_images.meaning n image) left) (newer_images.Means (newer_images.meaning n image) left) isnt means)
 
 -- The calls of an opening.
 module _ {D : Type 0} (G : Ghosts D) (old new : D) (sectors : ℕ) where

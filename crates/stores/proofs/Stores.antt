@@ -1,22 +1,42 @@
 -- A store of either layout stands for what the store within it stands for, and promises of a call what the one within promises.
 use Rattle.std.proofs.Common.{◌≡◌, inl, inr, ⊎_elim, ℕ, ◌+◌, ◌*◌, Bool, true, false, List, Option, Some, None, sym, ◌∙◌, ap, arith}
 use Rattle.std.specs.Prelude.{if◌then◌else◌, unwrap_or}
+use Rattle.sector_disk.specs.Disk.{Image}
 use Rattle.sector_disk.specs.declared.device.SectorDevice.{Ghosts}
 use Rattle.journal.specs.declared.store.Store.{Store as OlderStore}
 use Rattle.journal.specs.Calls.{BeginsAtMost, ReadsAtMost}
+use Rattle.journal.specs.Images as older_images
 use Rattle.journal.specs.Images.{slot_of}
-use Rattle.journal.specs.Maps.{Maps, block_in, pending_in}
+use Rattle.journal.specs.Layout as older_layout
+use Rattle.journal.specs.Maps.{Maps, block_in, latest, pending_in}
 use Rattle.journal.specs.Store as older
+use Rattle.recovery.specs.Label.{is_size}
 use Rattle.shadow.specs.declared.store.Store.{Store as NewerStore}
+use Rattle.shadow.specs.Images as newer_images
 use Rattle.shadow.specs.Images.{free_of}
+use Rattle.shadow.specs.Layout as newer_layout
 use Rattle.shadow.specs.Store as newer
 use Rattle.stores.specs.declared.store.Store.TheVariants.{Journaled, Shadowed}
-use Rattle.stores.specs.Store.{KeepsSaved, SavesAllOrNone, StandsFor}
+use Rattle.stores.specs.Store.{Continues, KeepsSaved, MeansBy, SavesAllOrNone, StandsFor}
+use Rattle.stores.proofs.Choices.{at_true, at_false}
+use Rattle.stores.proofs.KnownSizes.{size_older, size_newer}
 
 -- what is spilled of a block is its contents
 spilled_is : (p : Option (List ℕ)) (saved bytes : List ℕ) (b : Bool) → p ≡ (if b then Some bytes else None) → p ≡ (if b then Some (unwrap_or p saved) else None)
 spilled_is p saved bytes true is = is ∙ ap Some (sym (ap (λ q. unwrap_or q saved) is))
 spilled_is p saved bytes false is = is
+
+-- What an image means by the layout of a store, it means by the size of the store's device.
+module _ {D : Type 0} {G : Ghosts D} where
+  pub journaled_means : (store : OlderStore D G) (blocks : List (List ℕ)) (image : Image) → older_images.Means blocks image → MeansBy (Journaled store) blocks image
+  journaled_means store blocks image =
+      at_true (is_size (G.sector_count (older.device_of store))) (older_images.Means blocks image) (newer_images.Means blocks image)
+      (size_older (older.blocks_of store) (G.sector_count (older.device_of store)) store.blocks.many store.blocks.few store.size)
+
+  pub shadowed_means : (store : NewerStore D G) (blocks : List (List ℕ)) (image : Image) → newer_images.Means blocks image → MeansBy (Shadowed store) blocks image
+  shadowed_means store blocks image =
+      at_false (is_size (G.sector_count (newer.device_of store))) (older_images.Means blocks image) (newer_images.Means blocks image)
+      (size_newer (newer.blocks_of store) (G.sector_count (newer.device_of store)) store.size)
 
 module _ {D : Type 0} {G : Ghosts D} (m : Maps) where
   pub journaled : (store : OlderStore D G) → older.StandsFor store m → StandsFor (Journaled store) m
@@ -26,7 +46,7 @@ module _ {D : Type 0} {G : Ghosts D} (m : Maps) where
     size = stands.size;
     pending_size = stands.pending_size;
     pending = λ now b below. spilled_is (pending_in m.pending b) (block_in m.saved b) (slot_of (older.disk_of store).content b) (older.is_pending store b) (stands.pending now b below);
-    left = λ now image may. inl (stands.left now image may);
+    left = λ now image may. journaled_means store m.saved image (stands.left now image may);
     held = stands;
   }
 
@@ -37,23 +57,45 @@ module _ {D : Type 0} {G : Ghosts D} (m : Maps) where
     size = stands.size;
     pending_size = stands.pending_size;
     pending = λ now b below. spilled_is (pending_in m.pending b) (block_in m.saved b) (free_of store.listing (newer.disk_of store).content b) (newer.is_pending store b) (stands.pending now b below);
-    left = λ now image may. inr (stands.left now image may);
+    left = λ now image may. shadowed_means store m.saved image (stands.left now image may);
     held = stands;
   }
 
 module _ {D : Type 0} {G : Ghosts D} (old new : OlderStore D G) where
   pub journaled_keeps : older.KeepsSaved old new → KeepsSaved (Journaled old) (Journaled new)
-  journaled_keeps keeps m stands is_open image since = inl (keeps m stands.held is_open image since)
+  journaled_keeps keeps m stands is_open image since = journaled_means old m.saved image (keeps m stands.held is_open image since)
 
   pub journaled_saves : older.SavesAllOrNone old new → SavesAllOrNone (Journaled old) (Journaled new)
-  journaled_saves saves m stands is_open image since = ⊎_elim (λ old. inl (inl old)) (λ new. inr (inl new)) (saves m stands.held is_open image since)
+  journaled_saves saves m stands is_open image since = ⊎_elim
+      (λ means. inl (journaled_means old m.saved image means)) (λ means. inr (journaled_means old (latest m) image means))
+      (saves m stands.held is_open image since)
+
+  pub journaled_continues : older.Continues old new → Continues (Journaled old) (Journaled new)
+  journaled_continues on = record {
+    blocks = on.blocks;
+    sectors = new.size ∙ ap older_layout.sectors_for on.blocks ∙ sym old.size;
+    model = on.model;
+    time = on.time;
+    failures = on.failures;
+  }
 
 module _ {D : Type 0} {G : Ghosts D} (old new : NewerStore D G) where
   pub shadowed_keeps : newer.KeepsSaved old new → KeepsSaved (Shadowed old) (Shadowed new)
-  shadowed_keeps keeps m stands is_open image since = inr (keeps m stands.held is_open image since)
+  shadowed_keeps keeps m stands is_open image since = shadowed_means old m.saved image (keeps m stands.held is_open image since)
 
   pub shadowed_saves : newer.SavesAllOrNone old new → SavesAllOrNone (Shadowed old) (Shadowed new)
-  shadowed_saves saves m stands is_open image since = ⊎_elim (λ old. inl (inr old)) (λ new. inr (inr new)) (saves m stands.held is_open image since)
+  shadowed_saves saves m stands is_open image since = ⊎_elim
+      (λ means. inl (shadowed_means old m.saved image means)) (λ means. inr (shadowed_means old (latest m) image means))
+      (saves m stands.held is_open image since)
+
+  pub shadowed_continues : newer.Continues old new → Continues (Shadowed old) (Shadowed new)
+  shadowed_continues on = record {
+    blocks = on.blocks;
+    sectors = new.size ∙ ap newer_layout.sectors_for on.blocks ∙ sym old.size;
+    model = on.model;
+    time = on.time;
+    failures = on.failures;
+  }
 
 -- A commit by layout 3 takes no more calls than one by layout 2.
 module _ {D : Type 0} (G : Ghosts D) (old new : D) (pending : ℕ) where

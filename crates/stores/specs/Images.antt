@@ -1,5 +1,5 @@
 -- What an image means by the layout that it has: 2, the older one, or 3, the newer one.
-use Rattle.std.specs.Prelude.{◌⊎◌, ℕ, if◌then◌else◌, List, MatchBool}
+use Rattle.std.specs.Prelude.{ℕ, if◌then◌else◌, List, MatchBool}
 use Rattle.sector_disk.specs.Disk.{Image}
 use Rattle.journal.specs.Chain as older
 use Rattle.journal.specs.Images as older_images
@@ -8,11 +8,11 @@ use Rattle.shadow.specs.Images as newer_images
 use Rattle.shadow.specs.Label as newer_label
 use Rattle.shadow.specs.Opened as newer
 
--- An image means these blocks, by the one layout or by the other. No image has the label of both.
-abbrev pub Means : List (List ℕ) → Image → Type 0
-Means blocks image = older_images.Means blocks image ⊎ newer_images.Means blocks image
-
 -- How many sectors there are tells the layout: images of layout 2 have an odd number, and those of layout 3 an even one.
+
+-- An image with so many sectors means these blocks.
+abbrev pub Means : ℕ → List (List ℕ) → Image → Type 0
+Means sectors blocks image = MatchBool (older_label.is_size sectors) (older_images.Means blocks image) (newer_images.Means blocks image)
 
 -- the blocks of an image with so many sectors
 abbrev pub meaning : ℕ → Image → List (List ℕ)

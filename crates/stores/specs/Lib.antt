@@ -1,3 +1,4 @@
+pub mod Damage
 pub mod Images
 pub mod Opened
 pub mod Store

@@ -1,19 +1,26 @@
 -- Which images are opened, what an opening may leave, and how many calls it makes.
-use Rattle.std.specs.Prelude.{◌≡◌, ℕ, ◌+◌, ◌*◌, if◌then◌else◌, Result, Ok, Err, Some, MatchBool}
+use Rattle.std.specs.Prelude.{ℕ, ◌+◌, ◌*◌, if◌then◌else◌, Result, Ok, Err, Option, Some, None, MatchBool}
 use Rattle.sector_disk.specs.Disk.{Disk, Image, MayLeave}
 use Rattle.sector_disk.specs.declared.device.SectorDevice.{Ghosts}
 use Rattle.recovery.specs.Label as older_label
 use Rattle.recovery.specs.Opened as older
+use Rattle.recovery.specs.Opened.{first_of}
 use Rattle.recovery.specs.declared.fault.OpenFault.{OpenFault}
+use Rattle.recovery.specs.declared.fault.OpenFault.TheVariants.{Damaged}
 use Rattle.shadow.specs.Label as newer_label
-use Rattle.shadow.specs.Opened as newer
+use Rattle.stores.specs.Damage.{is_whole}
 use Rattle.stores.specs.Store.{device_of}
 use Rattle.stores.specs.declared.store.Store.{Store}
 
--- An image with so many sectors is refused so, by the layout that images of this size have; one of no size at all is refused for that.
-abbrev pub Refuses : ℕ → Image → OpenFault → Type 0
-Refuses sectors image fault = MatchBool (older_label.is_size sectors)
-    (older.image_refusal sectors image ≡ Some fault) (newer.Refuses sectors image fault)
+-- the refusal of an image of layout 3 with so many sectors: that of its size or label, and then that of damage
+abbrev pub newer_refusal : ℕ → Image → Option OpenFault
+newer_refusal sectors image =
+    first_of (newer_label.refusal sectors (image 0)) (if is_whole (newer_label.blocks_in sectors) image then None else Some Damaged)
+
+-- The refusal of an image with so many sectors, by the layout that images of this size have; one of no size at all is refused for that.
+abbrev pub image_refusal : ℕ → Image → Option OpenFault
+image_refusal sectors image =
+    if older_label.is_size sectors then older.image_refusal sectors image else newer_refusal sectors image
 
 -- A stop of an opening of this disk may leave the image: of layout 2 one that follows an image which a stop may leave now, and of layout 3
 -- such an image itself.

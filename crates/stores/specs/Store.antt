@@ -27,7 +27,7 @@ module _ {D : Type 0} {G : Ghosts D} where
   blocks_of (Journaled store) = older.blocks_of store
   blocks_of (Shadowed store) = newer.blocks_of store
 
-  -- how many sectors an image of its layout has with so many blocks
+  -- how many sectors an image of its layout has with its blocks
   abbrev pub sectors_of : Store D G → ℕ
   sectors_of (Journaled store) = older_layout.sectors_for (older.blocks_of store)
   sectors_of (Shadowed store) = newer_layout.sectors_for (newer.blocks_of store)
@@ -59,6 +59,10 @@ module _ {D : Type 0} {G : Ghosts D} where
   abbrev pub SamePending : Store D G → Store D G → Type 0
   SamePending old new = (b : ℕ) → is_pending new b ≡ is_pending old b
 
+  -- An image with the sectors of the store's device means these blocks.
+  abbrev pub MeansBy : Store D G → List (List ℕ) → Image → Type 0
+  MeansBy store blocks image = Means (G.sector_count (device_of store)) blocks image
+
   -- By its layout the store stands for maps.
   abbrev pub Holds : Store D G → Maps → Type 0
   Holds (Journaled store) m = older.StandsFor store m
@@ -74,12 +78,13 @@ module _ {D : Type 0} {G : Ghosts D} where
     pub pending_size : length m.pending ≡ blocks_of store
     pub pending : closed_of store ≡ false → (b : ℕ) → b < blocks_of store
         → pending_in m.pending b ≡ (if is_pending store b then Some (contents m b) else None)
-    pub left : closed_of store ≡ false → (image : Image) → MayLeave (disk_of store) image → Means m.saved image
+    pub left : closed_of store ≡ false → (image : Image) → MayLeave (disk_of store) image → MeansBy store m.saved image
     pub held : Holds store m
 
   -- what each call on a store keeps
   pub record Continues (old new : Store D G) : Type 0 where
     pub blocks : blocks_of new ≡ blocks_of old
+    pub sectors : G.sector_count (device_of new) ≡ G.sector_count (device_of old)
     pub model : G.keeps_model (device_of new) ≡ G.keeps_model (device_of old)
     pub time : Elapses G.time G.left_since (device_of old) (device_of new)
     pub failures : G.failures (device_of old) ≤ G.failures (device_of new)
@@ -103,12 +108,12 @@ module _ {D : Type 0} {G : Ghosts D} where
   -- A stop of an open store at any moment since the old state leaves the saved blocks.
   abbrev pub KeepsSaved : Store D G → Store D G → Type 0
   KeepsSaved old new = (m : Maps) → StandsFor old m → m.closed ≡ false
-      → StopsLeave G (device_of old) (device_of new) (Means m.saved)
+      → StopsLeave G (device_of old) (device_of new) (MeansBy old m.saved)
 
   -- A stop of an open store at any moment since the old state leaves the saved blocks, or all that were spilled over them too.
   abbrev pub SavesAllOrNone : Store D G → Store D G → Type 0
   SavesAllOrNone old new = (m : Maps) → StandsFor old m → m.closed ≡ false
-      → StopsLeave G (device_of old) (device_of new) (λ image. Means m.saved image ⊎ Means (latest m) image)
+      → StopsLeave G (device_of old) (device_of new) (λ image. MeansBy old m.saved image ⊎ MeansBy old (latest m) image)
 
   -- What a stop of a closed store might have left since the old state could be left before.
   abbrev pub AddsNothing : Store D G → Store D G → Type 0

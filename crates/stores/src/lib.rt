@@ -3,7 +3,9 @@
 
 pub mod laws;
 mod opening;
+mod sizes;
 mod store;
 
 pub use opening::open;
+pub use sizes::blocks_of_size;
 pub use store::Store;

@@ -1,17 +1,16 @@
 // An image of either layout is opened after a stop.
-ghost use Rattle.std.specs.Prelude.{◌≡◌, ◌≢◌, ◌⊎◌, ◌<◌, ◌≤◌, ◌+◌, ◌*◌, ℕ, true, false, IsTrue, IfOk, IfErr, MatchBool, MatchResult};
+ghost use Rattle.std.specs.Prelude.{◌≡◌, ◌≢◌, ◌⊎◌, ◌<◌, ◌≤◌, ◌+◌, ◌*◌, ℕ, true, false, Some, None, IsTrue, IfOk, IfErr, MatchBool, MatchResult};
 ghost use Rattle.sector_disk.specs.Counting.{count_up};
 ghost use Rattle.sector_disk.specs.Disk.{Image, MayLeave};
 ghost use Rattle.sector_disk.specs.Moments.{Elapses};
 ghost use Rattle.journal.specs.Calls.{StopsLeave, BeginsAtMost, ReadsAtMost};
 ghost use Rattle.journal.specs.Maps.{fresh};
 ghost use Rattle.recovery.specs.Label.{is_size};
-ghost use Rattle.recovery.specs.declared.fault.OpenFault.{OpenFault};
 ghost use Rattle.recovery.specs.declared.fault.OpenFault.TheVariants.{BadSize, Device};
 ghost use Rattle.shadow.specs.Label.{is_known_size};
 ghost use Rattle.shadow.specs.Upgraded.{known_blocks};
 ghost use Rattle.stores.specs.Images.{HasMeaning, Means, meaning};
-ghost use Rattle.stores.specs.Opened.{Refuses, OpeningLeaves, end_of, writes_for, syncs_for, reads_for};
+ghost use Rattle.stores.specs.Opened.{image_refusal, OpeningLeaves, end_of, writes_for, syncs_for, reads_for};
 ghost use Rattle.stores.specs.Store.{device_of, disk_of, blocks_of, sectors_of, closed_of, is_pending, StandsFor};
 
 use crate::Store;
@@ -41,8 +40,8 @@ pub fn open<D: SectorDevice>(device: D) -> Result<Store<D>, (OpenFault, D)>
     ensures unasked { IfErr result (λ e. e.0 ≡ BadSize → e.1 ≡ device) }
     // Each refusal tells the first test that the image fails.
     ensures exact { IsTrue (D.keeps_model device) → MatchResult result
-        (λ _. (fault : OpenFault) → ¬ Refuses (D.sector_count device) (D.disk device).content fault)
-        (λ e. (e.0 ≡ Device) ⊎ Refuses (D.sector_count device) (D.disk device).content e.0) }
+        (λ _. image_refusal (D.sector_count device) (D.disk device).content ≡ None)
+        (λ e. (e.0 ≡ Device) ⊎ (image_refusal (D.sector_count device) (D.disk device).content ≡ Some e.0)) }
     // What is opened has a meaning, and what has one is refused only by a fault of the device.
     ensures meaning { IsTrue (D.keeps_model device)
         → IfOk result (λ _. HasMeaning (D.sector_count device) (D.disk device).content) }
@@ -60,7 +59,7 @@ pub fn open<D: SectorDevice>(device: D) -> Result<Store<D>, (OpenFault, D)>
     ensures stops { IsTrue (D.keeps_model device) → is_known_size (D.sector_count device) ≡ true
         → StopsLeave D.SectorDevice device (end_of result) (OpeningLeaves (D.sector_count device) (D.disk device)) }
     ensures after { IsTrue (D.keeps_model device) → IfOk result (λ store. (image : Image) → MayLeave (disk_of store) image
-        → Means (meaning (D.sector_count device) (D.disk device).content) image) }
+        → Means (D.sector_count device) (meaning (D.sector_count device) (D.disk device).content) image) }
     ensures time { Elapses D.time D.left_since device (end_of result) }
     ensures failures { D.failures device ≤ D.failures (end_of result) }
     ensures sectors { D.sector_count (end_of result) ≡ D.sector_count device }

@@ -4,7 +4,6 @@ ghost use Rattle.sector_disk.specs.Disk.{Image, MayLeave};
 ghost use Rattle.journal.specs.Layout.{fewest_blocks, most_blocks};
 ghost use Rattle.journal.specs.Maps.{Maps, contents, latest, spilled, committed, shut};
 ghost use Rattle.shadow.specs.declared.store.StoreFault.TheVariants.{Device as NewerDevice, Closed as NewerClosed};
-ghost use Rattle.stores.specs.Images.{Means};
 ghost use Rattle.stores.specs.declared.store.Store.TheVariants.{Journaled, Shadowed};
 
 use journal::StoreFault;
@@ -22,7 +21,7 @@ pub enum Store<D: SectorDevice> {
 }
 
 impl<D: SectorDevice> Store<D> {
-    ghost use Rattle.stores.specs.Store.{device_of, disk_of, blocks_of, sectors_of, closed_of, text_of, kept_of, is_pending, pending_count, SamePending, StandsFor, Continues, DeviceFailed, DeviceWentWell, DeviceBegins, DeviceReads, KeepsSaved, SavesAllOrNone, AddsNothing};
+    ghost use Rattle.stores.specs.Store.{device_of, disk_of, blocks_of, sectors_of, closed_of, text_of, kept_of, is_pending, pending_count, SamePending, MeansBy, StandsFor, Continues, DeviceFailed, DeviceWentWell, DeviceBegins, DeviceReads, KeepsSaved, SavesAllOrNone, AddsNothing};
 
     /// How many blocks there are, from 32 to 3,840.
     #[inline]
@@ -180,7 +179,7 @@ impl<D: SectorDevice> Store<D> {
         ensures stops { SavesAllOrNone self.old self.new }
         // Once it has returned, a stop leaves the new blocks alone.
         ensures after { (m : Maps) → StandsFor self.old m
-            → OnOk result ((image : Image) → MayLeave (disk_of self.new) image → Means (latest m) image) }
+            → OnOk result ((image : Image) → MayLeave (disk_of self.new) image → MeansBy self.new (latest m) image) }
         ensures closed_stops { AddsNothing self.old self.new }
         ensures continues { Continues self.old self.new }
         ensures pending { MatchResult result (λ _. (a : ℕ)

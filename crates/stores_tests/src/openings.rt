@@ -4,7 +4,7 @@ use recovery::OpenFault;
 use sector_disk::{MemoryDisk, SectorDevice};
 use std::alloc::Global;
 use std::test::Fail;
-use stores::open;
+use stores::{blocks_of_size, open};
 
 fn refusal(disk: MemoryDisk) -> &'static str {
     match open(disk) {
@@ -65,6 +65,28 @@ fn a_disk_of_zeros_has_no_label(rt: HostRuntime) -> Result<(), Fail> {
     for sectors in [131, 544] {
         let disk = MemoryDisk::new(rt.alloc(), sectors)?;
         assert_eq!(rt; refusal(disk), "no label", "{sectors} sectors");
+    }
+    Ok(())
+}
+
+#[test]
+fn a_size_has_its_blocks(rt: HostRuntime) -> Result<(), Fail> {
+    for (sectors, want) in [
+        (131, Some(32)),
+        (15363, Some(3840)),
+        (544, Some(32)),
+        (61472, Some(3840)),
+        (0, None),
+        (127, None),
+        (132, None),
+        (528, None),
+        (545, None),
+        (15367, None),
+        (61488, None),
+        (1048608, None), // as many as 65,536 blocks would have
+        (u32::MAX, None),
+    ] {
+        assert_eq!(rt; blocks_of_size(sectors), want, "{sectors} sectors");
     }
     Ok(())
 }

@@ -1,15 +1,14 @@
-use Rattle.std.proofs.Common.{◌≡◌, inl, inr, ⊎_elim, true, false, sym, ◌∙◌, subst}
+use Rattle.std.proofs.Common.{◌≡◌, inl, inr, ⊎_elim, true, false, Some, None, sym, ◌∙◌, subst}
 use Rattle.journal.specs.Images as older_images
 use Rattle.journal.specs.Maps.{fresh}
 use Rattle.journal.specs.Store as older
 use Rattle.recovery.specs.Label.{is_size}
 use Rattle.shadow.specs.Images as newer_images
 use Rattle.shadow.specs.Store as newer
-use Rattle.stores.specs.Images.{Means}
 use Rattle.stores.specs.Store.{StandsFor}
 use Rattle.stores.specs.declared.store.Store.TheVariants.{Journaled, Shadowed}
-use Rattle.stores.proofs.Opened.{older_refuses, older_passes, older_has, has_older, older_meaning, older_sized, newer_refuses, refuses_newer, newer_has, has_newer, newer_meaning, older_stops, older_begins, older_reads, newer_stops, newer_begins, newer_reads}
-use Rattle.stores.proofs.Sizes.{older_sectors, older_known, known_newer, older_blocks, newer_blocks}
+use Rattle.stores.proofs.Opened.{older_refusal, older_has, has_older, older_meaning, older_means, older_sized, newer_refuses, newer_passes, newer_has, has_newer, newer_meaning, newer_means, older_stops, older_begins, older_reads, newer_stops, newer_begins, newer_reads}
+use Rattle.stores.proofs.KnownSizes.{older_sectors, older_known, known_newer, older_blocks, newer_blocks}
 use Rattle.stores.proofs.Stores.{journaled, shadowed}
 use Rattle.stores.proofs.opening.open.Goals as goal
 
@@ -41,7 +40,7 @@ returns-in-Ok-clause-exact g c =
     let sectors = g.D.SectorDevice.sector_count c.args.device in
     let image = (g.D.SectorDevice.disk c.args.device).content in
     let is : is_size sectors ≡ true = sym c.is_older.ensures ∙ c.if-is_older.true in
-    λ model. older_passes sectors image is (c.in-Ok.ensures.exact model)
+    λ model. older_refusal sectors image is None (c.in-Ok.ensures.exact model)
 
 pub returns-in-Ok-clause-meaning : goal.returns-in-Ok-clause-meaning
 returns-in-Ok-clause-meaning g c =
@@ -66,7 +65,7 @@ returns-in-Ok-clause-after g c =
     let is : is_size sectors ≡ true = sym c.is_older.ensures ∙ c.if-is_older.true in
     let store = c.in-Ok.store in
     let n = older.blocks_of store in
-    λ model left may. subst (λ blocks. Means blocks left) (older_meaning sectors image is n c.in-Ok.ensures.size) (inl (c.in-Ok.ensures.after model left may))
+    λ model left may. older_means sectors image is left n c.in-Ok.ensures.size (c.in-Ok.ensures.after model left may)
 
 pub returns-in-Ok-clause-begins : goal.returns-in-Ok-clause-begins
 returns-in-Ok-clause-begins g c =
@@ -96,7 +95,7 @@ returns-in-Err-clause-exact g c =
     let sectors = g.D.SectorDevice.sector_count c.args.device in
     let image = (g.D.SectorDevice.disk c.args.device).content in
     let is : is_size sectors ≡ true = sym c.is_older.ensures ∙ c.if-is_older.true in
-    λ model. ⊎_elim (λ device. inl device) (λ refuses. inr (older_refuses sectors image is c.in-Err.refused.0 refuses)) (c.in-Err.ensures.exact model)
+    λ model. ⊎_elim (λ device. inl device) (λ refuses. inr (older_refusal sectors image is (Some c.in-Err.refused.0) refuses)) (c.in-Err.ensures.exact model)
 
 pub returns-in-Err-clause-good : goal.returns-in-Err-clause-good
 returns-in-Err-clause-good g c =
@@ -147,7 +146,7 @@ returns-in-Ok-open-clause-exact g c =
     let sectors = g.D.SectorDevice.sector_count c.args.device in
     let image = (g.D.SectorDevice.disk c.args.device).content in
     let isnt : is_size sectors ≡ false = sym c.is_older.ensures ∙ c.if-is_older.false in
-    λ model fault refuses. c.in-Ok-open.ensures.exact model fault (refuses_newer sectors image isnt fault refuses)
+    λ model. newer_passes sectors image isnt (c.in-Ok-open.ensures.exact model)
 
 pub returns-in-Ok-open-clause-meaning : goal.returns-in-Ok-open-clause-meaning
 returns-in-Ok-open-clause-meaning g c =
@@ -172,7 +171,7 @@ returns-in-Ok-open-clause-after g c =
     let isnt : is_size sectors ≡ false = sym c.is_older.ensures ∙ c.if-is_older.false in
     let store = c.in-Ok-open.store in
     let n = newer.blocks_of store in
-    λ model left may. subst (λ blocks. Means blocks left) (newer_meaning sectors image isnt n c.in-Ok-open.ensures.size) (inr (c.in-Ok-open.ensures.after (c.in-Ok-open.ensures.pages model) left may))
+    λ model left may. newer_means sectors image isnt left n c.in-Ok-open.ensures.size (c.in-Ok-open.ensures.after (c.in-Ok-open.ensures.pages model) left may)
 
 pub returns-in-Ok-open-clause-begins : goal.returns-in-Ok-open-clause-begins
 returns-in-Ok-open-clause-begins g c =

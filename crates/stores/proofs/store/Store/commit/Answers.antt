@@ -1,8 +1,8 @@
-use Rattle.std.proofs.Common.{ap, inl, inr}
-use Rattle.journal.specs.Maps.{committed, shut}
+use Rattle.std.proofs.Common.{ap}
+use Rattle.journal.specs.Maps.{committed, latest, shut}
 use Rattle.shadow.specs.Store.{device_of, pending_count}
 use Rattle.stores.specs.declared.store.Store.TheVariants.{Journaled, Shadowed}
-use Rattle.stores.proofs.Stores.{journaled, shadowed, journaled_saves, shadowed_saves, fewer_begin, fewer_reads}
+use Rattle.stores.proofs.Stores.{journaled, shadowed, journaled_means, shadowed_means, journaled_saves, shadowed_saves, journaled_continues, shadowed_continues, fewer_begin, fewer_reads}
 use Rattle.stores.proofs.Told.{on_ok, told_ok, told_fails, told_match}
 use Rattle.stores.proofs.store.Store.commit.Goals as goal
 
@@ -32,11 +32,11 @@ returns-in-Journaled-clause-stops g c =
 
 pub returns-in-Journaled-clause-after : goal.returns-in-Journaled-clause-after
 returns-in-Journaled-clause-after g c =
-    rw c.in-Journaled.is (λ m stands. on_ok c.commit.result _ _ (λ leaves image may. inl (leaves image may)) (c.commit.ensures.after m stands.held))
+    rw c.in-Journaled.is (λ m stands. on_ok c.commit.result _ _ (λ leaves image may. journaled_means c.commit.new.self (latest m) image (leaves image may)) (c.commit.ensures.after m stands.held))
 
 pub returns-in-Journaled-clause-continues : goal.returns-in-Journaled-clause-continues
 returns-in-Journaled-clause-continues g c =
-    rw c.in-Journaled.is (record { blocks = c.commit.ensures.continues.blocks; model = c.commit.ensures.continues.model; time = c.commit.ensures.continues.time; failures = c.commit.ensures.continues.failures })
+    rw c.in-Journaled.is (journaled_continues c.in-Journaled.store c.commit.new.self c.commit.ensures.continues)
 
 pub returns-in-Shadowed-clause-ok : goal.returns-in-Shadowed-clause-ok
 returns-in-Shadowed-clause-ok g c =
@@ -80,11 +80,11 @@ returns-in-Shadowed-clause-stops g c =
 
 pub returns-in-Shadowed-clause-after : goal.returns-in-Shadowed-clause-after
 returns-in-Shadowed-clause-after g c =
-    rw c.in-Shadowed.is (λ m stands. told_ok c.told.result c.commit-in-Shadowed.result _ _ c.told.ensures.ok (λ leaves image may. inr (leaves image may)) (c.commit-in-Shadowed.ensures.after m stands.held))
+    rw c.in-Shadowed.is (λ m stands. told_ok c.told.result c.commit-in-Shadowed.result _ _ c.told.ensures.ok (λ leaves image may. shadowed_means c.commit-in-Shadowed.new.self (latest m) image (leaves image may)) (c.commit-in-Shadowed.ensures.after m stands.held))
 
 pub returns-in-Shadowed-clause-continues : goal.returns-in-Shadowed-clause-continues
 returns-in-Shadowed-clause-continues g c =
-    rw c.in-Shadowed.is (record { blocks = c.commit-in-Shadowed.ensures.continues.blocks; model = c.commit-in-Shadowed.ensures.continues.model; time = c.commit-in-Shadowed.ensures.continues.time; failures = c.commit-in-Shadowed.ensures.continues.failures })
+    rw c.in-Shadowed.is (shadowed_continues c.in-Shadowed.store c.commit-in-Shadowed.new.self c.commit-in-Shadowed.ensures.continues)
 
 pub returns-in-Shadowed-clause-pending : goal.returns-in-Shadowed-clause-pending
 returns-in-Shadowed-clause-pending g c =

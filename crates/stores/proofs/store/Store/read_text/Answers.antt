@@ -1,6 +1,6 @@
 use Rattle.std.proofs.Common.{ap}
 use Rattle.stores.specs.declared.store.Store.TheVariants.{Journaled, Shadowed}
-use Rattle.stores.proofs.Stores.{journaled, shadowed, journaled_keeps, shadowed_keeps}
+use Rattle.stores.proofs.Stores.{journaled, shadowed, journaled_keeps, shadowed_keeps, journaled_continues, shadowed_continues}
 use Rattle.stores.proofs.Told.{told_ok}
 use Rattle.stores.proofs.store.Store.read_text.Goals as goal
 
@@ -22,7 +22,7 @@ returns-in-Journaled-clause-stops g c =
 
 pub returns-in-Journaled-clause-continues : goal.returns-in-Journaled-clause-continues
 returns-in-Journaled-clause-continues g c =
-    rw c.in-Journaled.is (record { blocks = c.read_text.ensures.continues.blocks; model = c.read_text.ensures.continues.model; time = c.read_text.ensures.continues.time; failures = c.read_text.ensures.continues.failures })
+    rw c.in-Journaled.is (journaled_continues c.in-Journaled.store c.read_text.new.self c.read_text.ensures.continues)
 
 pub returns-in-Journaled-clause-kept : goal.returns-in-Journaled-clause-kept
 returns-in-Journaled-clause-kept g c =
@@ -58,7 +58,7 @@ returns-in-Shadowed-clause-stops g c =
 
 pub returns-in-Shadowed-clause-continues : goal.returns-in-Shadowed-clause-continues
 returns-in-Shadowed-clause-continues g c =
-    rw c.in-Shadowed.is (record { blocks = c.read_text-in-Shadowed.ensures.continues.blocks; model = c.read_text-in-Shadowed.ensures.continues.model; time = c.read_text-in-Shadowed.ensures.continues.time; failures = c.read_text-in-Shadowed.ensures.continues.failures })
+    rw c.in-Shadowed.is (shadowed_continues c.in-Shadowed.store c.read_text-in-Shadowed.new.self c.read_text-in-Shadowed.ensures.continues)
 
 pub returns-in-Shadowed-clause-kept : goal.returns-in-Shadowed-clause-kept
 returns-in-Shadowed-clause-kept g c =

@@ -1,7 +1,7 @@
 use Rattle.std.proofs.Common.{ap}
 use Rattle.journal.specs.Maps.{spilled, shut}
 use Rattle.stores.specs.declared.store.Store.TheVariants.{Journaled, Shadowed}
-use Rattle.stores.proofs.Stores.{journaled, shadowed, journaled_keeps, shadowed_keeps}
+use Rattle.stores.proofs.Stores.{journaled, shadowed, journaled_keeps, shadowed_keeps, journaled_continues, shadowed_continues}
 use Rattle.stores.proofs.Told.{on_ok, told_ok, told_fails, told_match}
 use Rattle.stores.proofs.store.Store.spill.Goals as goal
 
@@ -23,7 +23,7 @@ returns-in-Journaled-clause-stops g c =
 
 pub returns-in-Journaled-clause-continues : goal.returns-in-Journaled-clause-continues
 returns-in-Journaled-clause-continues g c =
-    rw c.in-Journaled.is (record { blocks = c.spill.ensures.continues.blocks; model = c.spill.ensures.continues.model; time = c.spill.ensures.continues.time; failures = c.spill.ensures.continues.failures })
+    rw c.in-Journaled.is (journaled_continues c.in-Journaled.store c.spill.new.self c.spill.ensures.continues)
 
 pub returns-in-Shadowed-clause-ok : goal.returns-in-Shadowed-clause-ok
 returns-in-Shadowed-clause-ok g c =
@@ -59,7 +59,7 @@ returns-in-Shadowed-clause-stops g c =
 
 pub returns-in-Shadowed-clause-continues : goal.returns-in-Shadowed-clause-continues
 returns-in-Shadowed-clause-continues g c =
-    rw c.in-Shadowed.is (record { blocks = c.spill-in-Shadowed.ensures.continues.blocks; model = c.spill-in-Shadowed.ensures.continues.model; time = c.spill-in-Shadowed.ensures.continues.time; failures = c.spill-in-Shadowed.ensures.continues.failures })
+    rw c.in-Shadowed.is (shadowed_continues c.in-Shadowed.store c.spill-in-Shadowed.new.self c.spill-in-Shadowed.ensures.continues)
 
 pub returns-in-Shadowed-clause-pending : goal.returns-in-Shadowed-clause-pending
 returns-in-Shadowed-clause-pending g c =
