@@ -1,5 +1,5 @@
 -- Words that take a name from the stream.
-use Rattle.std.specs.Prelude.{ℕ, Option, None}
+use Rattle.std.specs.Prelude.{None}
 use Rattle.dictionary.specs.Words.{Created, Constant, Vocabulary}
 use Rattle.cell_machine.specs.Frames.{Core, Around}
 use Rattle.cell_machine.specs.Value.{Outcome, Did}

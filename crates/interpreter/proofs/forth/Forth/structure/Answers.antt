@@ -1,7 +1,6 @@
 use Rattle.std.proofs.Common.{refl, arith}
 use Rattle.lexicon.specs.Language.{changing as change}
 use Rattle.lexicon.specs.Structures.{adding}
-use Rattle.interpreter.specs.State.{with_run}
 use Rattle.interpreter.specs.Representation.{core}
 use Rattle.interpreter.specs.Lexicon.{as_it_is}
 use Rattle.interpreter.proofs.Stepping.{step_done, step_refused}
