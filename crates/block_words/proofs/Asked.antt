@@ -8,8 +8,9 @@ use Rattle.block_buffers.specs.Buffers.{slot_of}
 use Rattle.block_words.specs.declared.buffered_blocks.BlockFault.{BlockFault}
 use Rattle.block_words.specs.declared.buffered_blocks.BlockFault.TheVariants.{NoBlock, NoBuffer, Device, Closed, Memory}
 use Rattle.block_words.specs.declared.buffered_blocks.Blocks.{Blocks}
-use Rattle.journal.specs.declared.store.Store.{Store}
+use Rattle.stores.specs.declared.store.Store.{Store}
 use Rattle.block_words.specs.Promises.{TellsFailures, AsksFor}
+use Rattle.stores.specs.Store.{device_of, blocks_of}
 use Rattle.block_words.proofs.Lists.{none_past}
 
 abbrev the_gift : {A : Type 0} → A → Result A BlockFault
@@ -19,20 +20,20 @@ abbrev the_fault : {A : Type 0} → BlockFault → Result A BlockFault
 the_fault f = Err f
 
 pub asks_past : {D : Type 0} (G : Ghosts D) {A : Type 0} (u : ℕ) (self : Blocks D G) → ((d : D) (c : Image) → G.left_since d (G.time d) c → MayLeave (G.disk d) c)
-    → self.store.blocks.number ≤ u → AsksFor {A = A} u (Err NoBlock) self self
+    → (blocks_of self.store) ≤ u → AsksFor {A = A} u (Err NoBlock) self self
 asks_past G u self only_now past = record {
   no_block = (λ _. past, λ _. refl);
   closed = (λ is. absurd (cc), λ is. absurd (omega (arith, past, is.0.0)));
   failures = refl;
   no_buffer = λ is. absurd (cc);
   found = λ some.
-      let none : slot_of self.buffers u ≡ None = none_past self.store.blocks.number u self.buffers.list self.within past in
+      let none : slot_of self.buffers u ≡ None = none_past (blocks_of self.store) u self.buffers.list self.within past in
       absurd (let no : false ≡ true = subst IsSome none some in cc);
   found_store = λ _. refl;
   closed_same = λ _. refl;
   opened = tt;
-  stops = λ m stands is_open c since. stands.left (sym stands.closed ∙ is_open) c (only_now self.store.device c since);
-  continues = record { blocks = refl; model = refl; time = elapses_refl G.time G.left_since self.store.device; failures = omega arith };
+  stops = λ m stands is_open c since. stands.left (sym stands.closed ∙ is_open) c (only_now (device_of self.store) c since);
+  continues = record { blocks = refl; sectors = refl; model = refl; time = elapses_refl G.time G.left_since (device_of self.store); failures = omega arith };
 }
 
 tells : (A B : Type 0) {D : Type 0} {G : Ghosts D} (old new : Store D G) (f : BlockFault) → TellsFailures (the_fault {A = A} f) old new → TellsFailures (the_fault {A = B} f) old new

@@ -8,7 +8,7 @@ use Rattle.sector_disk.proofs.Moments.{leaves_then}
 use Rattle.sector_disk.specs.declared.device.SectorDevice.{Ghosts}
 use Rattle.journal.specs.declared.store.StoreFault.{StoreFault}
 use Rattle.journal.specs.declared.store.StoreFault.TheVariants.{Device as DeviceRefuses, Closed as IsClosed}
-use Rattle.journal.specs.Images.{Means}
+use Rattle.stores.specs.Images.{Means}
 use Rattle.data_space.specs.Space.{buffer_at, buffer_bytes, with_bytes}
 use Rattle.journal.specs.Maps.{Maps, contents, shut}
 use Rattle.block_buffers.specs.declared.buffers.Assigned.{Assigned}
@@ -18,10 +18,10 @@ use Rattle.block_words.specs.declared.buffered_blocks.BlockFault.TheVariants.{No
 use Rattle.block_words.specs.Words.{Answer, Well, Failed, Save, Wear, no_wear, add_wear, worn, read_wear, spill_wear, Blocks, BlockOutcome, Gives, Fails, spill_if, spill_oldest, open_store, device_call, answered, first_answer, give_buffer, assign, block, buffer, source}
 use Rattle.block_words.specs.Rooms.{spilled_if, room_made, is_updated, room_wear}
 use Rattle.block_words.specs.Faults.{of_store}
-use Rattle.block_words.specs.Calls.{state, ended, failures_after, WordRuns, WearsAtMost, CallKeeps, CallRuns}
+use Rattle.block_words.specs.Calls.{state, ended, failures_after, WordRuns, WearsAtMost, CallKeeps, CallLeaves, CallRuns}
 use Rattle.block_words.proofs.Worn.{none_more, wear_assoc, wears_none, wears_then}
-use Rattle.journal.specs.declared.store.Store.{Store}
-use Rattle.journal.specs.Store.{StandsFor}
+use Rattle.stores.specs.declared.store.Store.{Store}
+use Rattle.stores.specs.Store.{MeansBy, StandsFor, device_of, closed_of}
 
 abbrev pub room_answers : Bool → List Answer → List Answer
 room_answers true rest = Well ∷ rest
@@ -167,27 +167,32 @@ module _ (u : ℕ) (m : Maps) (b : Buffers) (sp : List ℕ) (is : nat_lt u (leng
 
 -- a call that leaves the store as it is
 pub keeps_store : {D : Type 0} (G : Ghosts D) (store : Store D G) (m : Maps) → ((d : D) (c : Image) → G.left_since d (G.time d) c → MayLeave (G.disk d) c)
-    → StandsFor store m → CallKeeps G m.closed store.device store.device m.saved []
-keeps_store G store m only_now stands = pick m.closed refl
+    → StandsFor store m → CallKeeps G m.closed (device_of store) (device_of store) m.saved []
+keeps_store G store m only_now stands = record { sectors = refl; leaves = pick m.closed refl }
   where
-    pick : (t : Bool) → m.closed ≡ t → CallKeeps G t store.device store.device m.saved []
-    pick true is = λ c since. only_now store.device c since
-    pick false is = λ c since. stands.left (sym stands.closed ∙ is) c (only_now store.device c since)
+    pick : (t : Bool) → m.closed ≡ t → CallLeaves G t (device_of store) (device_of store) m.saved []
+    pick true is = λ c since. only_now (device_of store) c since
+    pick false is = λ c since. stands.left (sym stands.closed ∙ is) c (only_now (device_of store) c since)
 
 -- a call on an open store without a save
 pub keeps_saved : {D : Type 0} (G : Ghosts D) (closed : Bool) (old new : D) (saved : List (List ℕ)) → closed ≡ false
-    → LeavesOnly G.time G.left_since old new (Means saved) → CallKeeps G closed old new saved []
-keeps_saved G closed old new saved is_open leaves = subst (λ t. CallKeeps G t old new saved []) (sym is_open) leaves
+    → G.sector_count new ≡ G.sector_count old → LeavesOnly G.time G.left_since old new (Means (G.sector_count old) saved) → CallKeeps G closed old new saved []
+keeps_saved G closed old new saved is_open same leaves = record {
+  sectors = same;
+  leaves = subst (λ t. CallLeaves G t old new saved []) (sym is_open) leaves;
+}
 
 pub leaves_saved : {D : Type 0} (G : Ghosts D) (closed : Bool) (old new : D) (saved : List (List ℕ)) → closed ≡ false
-    → CallKeeps G closed old new saved [] → LeavesOnly G.time G.left_since old new (Means saved)
-leaves_saved G closed old new saved is_open keeps = subst (λ t. CallKeeps G t old new saved []) is_open keeps
+    → CallKeeps G closed old new saved [] → LeavesOnly G.time G.left_since old new (Means (G.sector_count old) saved)
+leaves_saved G closed old new saved is_open keeps = subst (λ t. CallLeaves G t old new saved []) is_open keeps.leaves
 
 -- two calls that leave the saved blocks
 pub saved_then : {D : Type 0} (G : Ghosts D) (a b d : D) (saved : List (List ℕ)) → Elapses G.time G.left_since a b → Elapses G.time G.left_since b d
-    → LeavesOnly G.time G.left_since a b (Means saved) → LeavesOnly G.time G.left_since b d (Means saved) → LeavesOnly G.time G.left_since a d (Means saved)
-saved_then G a b d saved first then p q =
-    leaves_then G.time G.left_since a b d (Means saved) (Means saved) (Means saved) first then p q (λ c x. x) (λ c x. x)
+    → G.sector_count b ≡ G.sector_count a → LeavesOnly G.time G.left_since a b (Means (G.sector_count a) saved)
+    → LeavesOnly G.time G.left_since b d (Means (G.sector_count b) saved) → LeavesOnly G.time G.left_since a d (Means (G.sector_count a) saved)
+saved_then G a b d saved first then same p q =
+    leaves_then G.time G.left_since a b d (Means (G.sector_count a) saved) (Means (G.sector_count b) saved) (Means (G.sector_count a) saved) first then p q
+    (λ c x. x) (λ c x. subst (λ n. Means n saved c) same x)
 
 -- A block that has no buffer gets one.
 module _ {D : Type 0} (G : Ghosts D) (u : ℕ) (m : Maps) (old new : Store D G) (b b' : Buffers) (sp : List ℕ)
@@ -212,17 +217,18 @@ module _ {D : Type 0} (G : Ghosts D) (u : ℕ) (m : Maps) (old new : Store D G) 
     last = w.last;
   }
 
-  pub block_runs : (mid : Store D G) (bytes : List ℕ) → bytes ≡ contents m u → WearsAtMost G old.device mid.device read_wear
-      → Elapses G.time G.left_since old.device mid.device → Elapses G.time G.left_since mid.device new.device → LeavesOnly G.time G.left_since old.device mid.device (Means m.saved)
+  pub block_runs : (mid : Store D G) (bytes : List ℕ) → bytes ≡ contents m u → WearsAtMost G (device_of old) (device_of mid) read_wear
+      → Elapses G.time G.left_since (device_of old) (device_of mid) → Elapses G.time G.left_since (device_of mid) (device_of new)
+      → G.sector_count (device_of mid) ≡ G.sector_count (device_of old) → LeavesOnly G.time G.left_since (device_of old) (device_of mid) (MeansBy old m.saved)
       → CallRuns G (assign u bytes) r' [] m mid new b b' sp sp'' → CallRuns G (block u) r [] m old new b b' sp sp'
-  block_runs mid bytes same reads first then leaves w = record {
+  block_runs mid bytes same reads first then size leaves w = record {
     maps = w.maps;
     wear = add_wear read_wear w.wear;
     runs = block_read u m b sp is none is_open r w.wear bytes w.maps b' sp' same (assign_as w.wear bytes w.maps w.runs);
     stands = w.stands;
-    kept = keeps_saved G m.closed old.device new.device m.saved is_open
-        (saved_then G old.device mid.device new.device m.saved first then leaves (leaves_saved G m.closed mid.device new.device m.saved is_open w.kept));
-    wears = wears_then G old.device mid.device new.device read_wear w.wear reads w.wears;
+    kept = keeps_saved G m.closed (device_of old) (device_of new) m.saved is_open (w.kept.sectors ∙ size)
+        (saved_then G (device_of old) (device_of mid) (device_of new) m.saved first then size leaves (leaves_saved G m.closed (device_of mid) (device_of new) m.saved is_open w.kept));
+    wears = wears_then G (device_of old) (device_of mid) (device_of new) read_wear w.wear reads w.wears;
     shuts = w.shuts;
     last = w.last;
   }
@@ -241,7 +247,7 @@ still_runs G word r m store b b' sp sp' only_now stands h = record {
   };
   stands = stands;
   kept = keeps_store G store m only_now stands;
-  wears = wears_none G store.device;
+  wears = wears_none G (device_of store);
   shuts = λ h. h;
   last = λ _. refl;
 }
@@ -249,21 +255,22 @@ still_runs G word r m store b b' sp sp' only_now stands h = record {
 -- a read that the store refuses
 pub refused_runs : {A D : Type 0} (G : Ghosts D) (word : Blocks → BlockOutcome A) (fault : StoreFault) (told : BlockFault) (m : Maps) (old new : Store D G) (b : Buffers) (sp : List ℕ)
     → told ≡ of_store fault → ((d : D) (c : Image) → G.left_since d (G.time d) c → MayLeave (G.disk d) c) → StandsFor old m → StandsFor new m
-    → (fault ≡ IsClosed → old.closed ≡ true) → (fault ≡ IsClosed → new ≡ old) → (fault ≡ DeviceRefuses → old.closed ≡ false)
+    → (fault ≡ IsClosed → closed_of old ≡ true) → (fault ≡ IsClosed → new ≡ old) → (fault ≡ DeviceRefuses → closed_of old ≡ false)
     → (m.closed ≡ true → WordRuns word (Err Closed) no_wear [] m m b b sp sp) → (m.closed ≡ false → WordRuns word (Err Device) read_wear [] m m b b sp sp)
-    → (m.closed ≡ false → LeavesOnly G.time G.left_since old.device new.device (Means m.saved)) → WearsAtMost G old.device new.device read_wear
+    → G.sector_count (device_of new) ≡ G.sector_count (device_of old)
+    → (m.closed ≡ false → LeavesOnly G.time G.left_since (device_of old) (device_of new) (MeansBy old m.saved)) → WearsAtMost G (device_of old) (device_of new) read_wear
     → CallRuns G word (Err told) [] m old new b b sp sp
-refused_runs {A} {D} G word fault told m old new b sp is only_now was stands shut_before same open_before shut failed leaves wears =
+refused_runs {A} {D} G word fault told m old new b sp is only_now was stands shut_before same open_before shut failed size leaves wears =
     subst (λ (f : BlockFault). CallRuns G word (Err f) [] m old new b b sp sp) (sym is) (pick fault shut_before same open_before)
   where
-    pick : (f : StoreFault) → (f ≡ IsClosed → old.closed ≡ true) → (f ≡ IsClosed → new ≡ old) → (f ≡ DeviceRefuses → old.closed ≡ false) → CallRuns G word (Err (of_store f)) [] m old new b b sp sp
+    pick : (f : StoreFault) → (f ≡ IsClosed → closed_of old ≡ true) → (f ≡ IsClosed → new ≡ old) → (f ≡ DeviceRefuses → closed_of old ≡ false) → CallRuns G word (Err (of_store f)) [] m old new b b sp sp
     pick IsClosed before same _ = subst (λ (s : Store D G). CallRuns G word (Err Closed) [] m old s b b sp sp) (sym (same refl)) (record {
       maps = m;
       wear = no_wear;
       runs = shut (was.closed ∙ before refl);
       stands = was;
       kept = keeps_store G old m only_now was;
-      wears = wears_none G old.device;
+      wears = wears_none G (device_of old);
       shuts = λ h. h;
       last = λ _. refl;
     })
@@ -272,7 +279,7 @@ refused_runs {A} {D} G word fault told m old new b sp is only_now was stands shu
       wear = read_wear;
       runs = failed (was.closed ∙ before refl);
       stands = stands;
-      kept = keeps_saved G m.closed old.device new.device m.saved (was.closed ∙ before refl) (leaves (was.closed ∙ before refl));
+      kept = keeps_saved G m.closed (device_of old) (device_of new) m.saved (was.closed ∙ before refl) size (leaves (was.closed ∙ before refl));
       wears = wears;
       shuts = λ h. h;
       last = λ _. refl;

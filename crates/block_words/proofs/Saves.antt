@@ -7,12 +7,12 @@ use Rattle.sector_disk.specs.Disk.{Image}
 use Rattle.sector_disk.specs.Moments.{LeavesOnly}
 use Rattle.sector_disk.proofs.Moments.{elapses_then, leaves_then}
 use Rattle.sector_disk.specs.declared.device.SectorDevice.{Ghosts}
-use Rattle.journal.specs.declared.store.Store.{Store}
+use Rattle.stores.specs.declared.store.Store.{Store}
 use Rattle.journal.specs.Calls.{BeginsAtMost, ReadsAtMost}
-use Rattle.journal.specs.Images.{Means, slot_of}
-use Rattle.journal.specs.Layout.{listed, count_listed, count_below}
-use Rattle.journal.specs.Maps.{Maps, latest, spilled, committed, shut, any_pending}
-use Rattle.journal.specs.Store.{Continues, StandsFor, KeepsSaved, SavesAllOrNone, is_pending, pending_count, DeviceBegins, DeviceReads}
+use Rattle.stores.specs.Images.{Means}
+use Rattle.journal.specs.Layout.{count_below}
+use Rattle.journal.specs.Maps.{Maps, contents, latest, spilled, committed, shut, any_pending}
+use Rattle.stores.specs.Store.{Continues, MeansBy, StandsFor, KeepsSaved, SavesAllOrNone, is_pending, pending_count, DeviceBegins, DeviceReads, device_of, closed_of, blocks_of}
 use Rattle.block_words.specs.Parts.{ChangesAllOrNone}
 use Rattle.block_words.specs.Uses.{is_among, is_changed, changed_count}
 use Rattle.data_space.specs.Space.{buffer_bytes}
@@ -21,16 +21,17 @@ use Rattle.block_buffers.specs.Buffers.{Buffers, updated_ones}
 use Rattle.block_words.specs.declared.buffered_blocks.BlockFault.{BlockFault}
 use Rattle.block_words.specs.declared.buffered_blocks.BlockFault.TheVariants.{Device}
 use Rattle.block_words.specs.Words.{Answer, Well, Failed, Save, Wear, no_wear, add_wear, spill_wear, commit_wear, pending_number, Blocks, BlockOutcome, Gives, Fails, spill_each, open_store, commit, returned, all_spilled, next_map, save_and}
-use Rattle.block_words.specs.Calls.{state, ended, failures_after, WordRuns, WearsAtMost, CallKeeps, save_begun}
+use Rattle.block_words.specs.Calls.{state, ended, failures_after, WordRuns, WearsAtMost, CallKeeps, CallLeaves, save_begun}
 use Rattle.block_words.proofs.Runs.{saved_then}
 use Rattle.block_words.proofs.Worn.{none_more, wear_assoc, spills_wear, spills_counted, commit_wear_if, wears_then, pending_same, none_counted}
 
-pub continues_then : {D : Type 0} {G : Ghosts D} (a b d : Store D G) → ((s t : ℕ) (c : Image) → s ≤ t → G.left_since d.device t c → G.left_since d.device s c)
+pub continues_then : {D : Type 0} {G : Ghosts D} (a b d : Store D G) → ((s t : ℕ) (c : Image) → s ≤ t → G.left_since (device_of d) t c → G.left_since (device_of d) s c)
     → Continues a b → Continues b d → Continues a d
 continues_then {D} {G} a b d widens first then = record {
   blocks = then.blocks ∙ first.blocks;
+  sectors = then.sectors ∙ first.sectors;
   model = then.model ∙ first.model;
-  time = elapses_then G.time G.left_since a.device b.device d.device widens first.time then.time;
+  time = elapses_then G.time G.left_since (device_of a) (device_of b) (device_of d) widens first.time then.time;
   failures = omega (arith, first.failures, then.failures);
 }
 
@@ -160,10 +161,15 @@ runs_open {A} {w} {m} {m'} {b} {b'} {sp} {sp'} closed is r wear s runs = record 
 }
 
 pub keeps_save : {D : Type 0} (G : Ghosts D) (closed : Bool) (old new : D) (saved next : List (List ℕ)) (returned : Bool) → closed ≡ false
-    → LeavesOnly G.time G.left_since old new (λ c. Means saved c ⊎ Means next c)
-    → (returned ≡ true → (u : ℕ) × (G.time old ≤ u) × (u ≤ G.time new) × ((c : Image) → G.left_since new u c → Means next c))
+    → G.sector_count new ≡ G.sector_count old
+    → LeavesOnly G.time G.left_since old new (λ c. Means (G.sector_count old) saved c ⊎ Means (G.sector_count old) next c)
+    → (returned ≡ true → (u : ℕ) × (G.time old ≤ u) × (u ≤ G.time new) × ((c : Image) → G.left_since new u c → Means (G.sector_count new) next c))
     → CallKeeps G closed old new saved (save_begun closed next returned)
-keeps_save G closed old new saved next returned is leaves after = subst (λ t. CallKeeps G t old new saved (save_begun t next returned)) (sym is) (leaves, after)
+keeps_save G closed old new saved next returned is same leaves after = record {
+  sectors = same;
+  leaves = subst (λ t. CallLeaves G t old new saved (save_begun t next returned)) (sym is)
+      (leaves, λ r. let b = after r in (b.0, b.1, b.2, λ c since. subst (λ n. Means n next c) same (b.3 c since)));
+}
 
 none_at : (p : List (Option (List ℕ))) → any_pending p ≡ false → (b : ℕ) → slice_index_or p b None ≡ None
 none_at [] h b = refl
@@ -175,18 +181,18 @@ not_listed : (t : Bool) (slot : List ℕ) → None ≡ cond t (Some slot) None �
 not_listed true slot h = cc
 not_listed false slot h = refl
 
-count_below_none : (bytes : List ℕ) (n : ℕ) → ((b : ℕ) → b < n → listed bytes b ≡ false) → count_listed bytes n ≡ 0
-count_below_none bytes zero none = refl
-count_below_none bytes (suc n) none = ap (λ t. cond t (count_listed bytes n + 1) (count_listed bytes n)) (none n (omega arith)) ∙ count_below_none bytes n (λ b below. none b (omega arith))
+count_below_none : (test : ℕ → Bool) (n : ℕ) → ((b : ℕ) → b < n → test b ≡ false) → count_below test n ≡ 0
+count_below_none test zero none = refl
+count_below_none test (suc n) none = ap (λ t. cond t (count_below test n + 1) (count_below test n)) (none n (omega arith)) ∙ count_below_none test n (λ b below. none b (omega arith))
 
 -- what a commit has to write is pending
-pub some_pending : {D : Type 0} {G : Ghosts D} (store : Store D G) (m : Maps) → StandsFor store m → store.closed ≡ false → (count_listed store.pending store.blocks.number ≡ 0 → ⊥) → any_pending m.pending ≡ true
+pub some_pending : {D : Type 0} {G : Ghosts D} (store : Store D G) (m : Maps) → StandsFor store m → closed_of store ≡ false → (pending_count store ≡ 0 → ⊥) → any_pending m.pending ≡ true
 some_pending {D} {G} store m stands is_open counted = pick (any_pending m.pending) refl
   where
     pick : (t : Bool) → any_pending m.pending ≡ t → any_pending m.pending ≡ true
     pick true is = is
-    pick false is = absurd (counted (count_below_none store.pending store.blocks.number
-        (λ b below. not_listed (listed store.pending b) (slot_of (G.disk store.device).content b) (sym (none_at m.pending is b) ∙ stands.pending is_open b below))))
+    pick false is = absurd (counted (count_below_none (is_pending store) (blocks_of store)
+        (λ b below. not_listed (is_pending store b) (contents m b) (sym (none_at m.pending is b) ∙ stands.pending is_open b below))))
 
 pub device_fault : (f : StoreFault) → (f ≡ Shut → ⊥) → f ≡ Broken
 device_fault Broken other = refl
@@ -196,8 +202,8 @@ device_fault Shut other = absurd (other refl)
 pub keeps_then_spill : {D : Type 0} (G : Ghosts D) (old mid new : Store D G) (front : List Assigned) (sp : List ℕ) → Continues old mid → Continues mid new
     → ((m : Maps) → StandsFor old m → StandsFor mid (all_spilled front sp m)) → KeepsSaved old mid → KeepsSaved mid new → KeepsSaved old new
 keeps_then_spill G old mid new front sp first then stands p q = λ m from is_open.
-    saved_then G old.device mid.device new.device m.saved first.time then.time (p m from is_open)
-    (subst (λ l. LeavesOnly G.time G.left_since mid.device new.device (Means l)) (spilled_saved front sp m) (q (all_spilled front sp m) (stands m from) (spilled_closed front sp m ∙ is_open)))
+    saved_then G (device_of old) (device_of mid) (device_of new) m.saved first.time then.time first.sectors (p m from is_open)
+    (subst (λ l. LeavesOnly G.time G.left_since (device_of mid) (device_of new) (MeansBy mid l)) (spilled_saved front sp m) (q (all_spilled front sp m) (stands m from) (spilled_closed front sp m ∙ is_open)))
 
 count_below_same : (p q : ℕ → Bool) (n : ℕ) → ((b : ℕ) → p b ≡ q b) → count_below p n ≡ count_below q n
 count_below_same p q zero same = refl
@@ -210,7 +216,7 @@ pub none_left : {D : Type 0} {G : Ghosts D} (old mid : Store D G) (b : Buffers) 
     → ((u : ℕ) → is_pending mid u ≡ (is_among (updated_ones b) u || is_pending old u)) → pending_count old ≡ 0 → pending_count mid ≡ 0
 none_left old mid b none on pending zero_pending =
     ap (λ n. count_below (is_pending mid) n) on.blocks
-    ∙ count_below_same (is_pending mid) (is_pending old) old.blocks.number (λ u. pending u ∙ ap (λ (l : List Assigned). is_among l u || is_pending old u) none)
+    ∙ count_below_same (is_pending mid) (is_pending old) (blocks_of old) (λ u. pending u ∙ ap (λ (l : List Assigned). is_among l u || is_pending old u) none)
     ∙ zero_pending
 
 -- a commit after spills
@@ -218,18 +224,19 @@ pub saves_then : {D : Type 0} (G : Ghosts D) (old mid new : Store D G) (b : Buff
     → ((m : Maps) → StandsFor old m → StandsFor mid (all_spilled (updated_ones b) sp m)) → KeepsSaved old mid → SavesAllOrNone mid new → ChangesAllOrNone old new b sp
 saves_then G old mid new b sp first then stands p q = λ m from is_open.
     let all = all_spilled (updated_ones b) sp m in
-    leaves_then G.time G.left_since old.device mid.device new.device (Means m.saved) (λ x. Means m.saved x ⊎ Means (latest all) x) (λ x. Means m.saved x ⊎ Means (latest all) x)
+    leaves_then G.time G.left_since (device_of old) (device_of mid) (device_of new) (MeansBy old m.saved)
+    (λ x. MeansBy mid m.saved x ⊎ MeansBy mid (latest all) x) (λ x. MeansBy old m.saved x ⊎ MeansBy old (latest all) x)
     first.time then.time (p m from is_open)
-    (subst (λ l. LeavesOnly G.time G.left_since mid.device new.device (λ x. Means l x ⊎ Means (latest all) x)) (spilled_saved (updated_ones b) sp m)
+    (subst (λ l. LeavesOnly G.time G.left_since (device_of mid) (device_of new) (λ x. MeansBy mid l x ⊎ MeansBy mid (latest all) x)) (spilled_saved (updated_ones b) sp m)
     (q all (stands m from) (spilled_closed (updated_ones b) sp m ∙ is_open)))
-    (λ x means. inl means) (λ x means. means)
+    (λ x means. inl means) (λ x means. subst (λ n. Means n m.saved x ⊎ Means n (latest all) x) first.sectors means)
 
 -- the reads of a commit after spills
 pub save_reads : {D : Type 0} (G : Ghosts D) (old mid new : Store D G) (b : Buffers) → Continues old mid
     → ((u : ℕ) → is_pending mid u ≡ (is_among (updated_ones b) u || is_pending old u)) → DeviceReads old mid 0
     → DeviceReads mid new (4 * pending_count mid) → DeviceReads old new (4 * changed_count old b)
 save_reads G old mid new b on pending first then =
-    let same : pending_count mid ≡ changed_count old b = ap (λ n. count_below (is_pending mid) n) on.blocks ∙ count_below_same (is_pending mid) (is_changed old b) old.blocks.number pending in
+    let same : pending_count mid ≡ changed_count old b = ap (λ n. count_below (is_pending mid) n) on.blocks ∙ count_below_same (is_pending mid) (is_changed old b) (blocks_of old) pending in
     omega (arith, first, then, same)
 
 -- the writes of a commit after spills
@@ -237,7 +244,7 @@ pub save_begins : {D : Type 0} (G : Ghosts D) (old mid new : Store D G) (b : Buf
     → ((u : ℕ) → is_pending mid u ≡ (is_among (updated_ones b) u || is_pending old u)) → DeviceBegins old mid (2 * length (updated_ones b)) 0
     → DeviceBegins mid new (2 * pending_count mid + 3) 4 → DeviceBegins old new (2 * length (updated_ones b) + 2 * changed_count old b + 3) 4
 save_begins G old mid new b on pending first then =
-    let same : pending_count mid ≡ changed_count old b = ap (λ n. count_below (is_pending mid) n) on.blocks ∙ count_below_same (is_pending mid) (is_changed old b) old.blocks.number pending in
+    let same : pending_count mid ≡ changed_count old b = ap (λ n. count_below (is_pending mid) n) on.blocks ∙ count_below_same (is_pending mid) (is_changed old b) (blocks_of old) pending in
     record {
       few_writes = omega (arith, first.few_writes, then.few_writes, same);
       few_syncs = omega (arith, first.few_syncs, then.few_syncs);
@@ -252,22 +259,22 @@ unspilled_wears G old new before begins reads =
     subst (λ w. WearsAtMost G old new (add_wear w spill_wear)) (sym (spills_counted before)) (record { begins = begins; reads = reads })
 
 -- it came to the commit
-module _ {D : Type 0} (G : Ghosts D) (old : D) (mid new : Store D G) (b : Buffers) (all : Maps) (stands : StandsFor mid all) (is_open : mid.closed ≡ false)
-    (first : BeginsAtMost G old mid.device (2 * length (updated_ones b)) 0) (first_reads : ReadsAtMost G old mid.device 0)
+module _ {D : Type 0} (G : Ghosts D) (old : D) (mid new : Store D G) (b : Buffers) (all : Maps) (stands : StandsFor mid all) (is_open : closed_of mid ≡ false)
+    (first : BeginsAtMost G old (device_of mid) (2 * length (updated_ones b)) 0) (first_reads : ReadsAtMost G old (device_of mid) 0)
     (then : DeviceBegins mid new (2 * pending_count mid + 3) 4) (then_reads : DeviceReads mid new (4 * pending_count mid)) where
-  spills : WearsAtMost G old mid.device (spills_wear (updated_ones b))
-  spills = subst (λ w. WearsAtMost G old mid.device w) (sym (spills_counted (updated_ones b))) (record { begins = first; reads = first_reads })
+  spills : WearsAtMost G old (device_of mid) (spills_wear (updated_ones b))
+  spills = subst (λ w. WearsAtMost G old (device_of mid) w) (sym (spills_counted (updated_ones b))) (record { begins = first; reads = first_reads })
 
-  pub committed_wears : WearsAtMost G old new.device (add_wear (spills_wear (updated_ones b)) (commit_wear (pending_number all.pending)))
+  pub committed_wears : WearsAtMost G old (device_of new) (add_wear (spills_wear (updated_ones b)) (commit_wear (pending_number all.pending)))
   committed_wears =
-      wears_then G old mid.device new.device (spills_wear (updated_ones b)) (commit_wear (pending_number all.pending)) spills
-      (subst (λ n. WearsAtMost G mid.device new.device (commit_wear n)) (sym (pending_same mid all stands is_open)) (record { begins = then; reads = then_reads }))
+      wears_then G old (device_of mid) (device_of new) (spills_wear (updated_ones b)) (commit_wear (pending_number all.pending)) spills
+      (subst (λ n. WearsAtMost G (device_of mid) (device_of new) (commit_wear n)) (sym (pending_same mid all stands is_open)) (record { begins = then; reads = then_reads }))
 
-  pub saved_wears : (pending_count mid ≡ 0 → new.device ≡ mid.device) → WearsAtMost G old new.device (add_wear (spills_wear (updated_ones b)) (commit_wear_if (any_pending all.pending) (pending_number all.pending)))
+  pub saved_wears : (pending_count mid ≡ 0 → device_of new ≡ device_of mid) → WearsAtMost G old (device_of new) (add_wear (spills_wear (updated_ones b)) (commit_wear_if (any_pending all.pending) (pending_number all.pending)))
   saved_wears nothing = pick (any_pending all.pending) refl
     where
-      pick : (t : Bool) → any_pending all.pending ≡ t → WearsAtMost G old new.device (add_wear (spills_wear (updated_ones b)) (commit_wear_if t (pending_number all.pending)))
+      pick : (t : Bool) → any_pending all.pending ≡ t → WearsAtMost G old (device_of new) (add_wear (spills_wear (updated_ones b)) (commit_wear_if t (pending_number all.pending)))
       pick true is = committed_wears
       pick false is =
           subst (λ d. WearsAtMost G old d (add_wear (spills_wear (updated_ones b)) no_wear)) (sym (nothing (sym (pending_same mid all stands is_open) ∙ none_counted all.pending is)))
-          (subst (λ w. WearsAtMost G old mid.device w) (sym (none_more (spills_wear (updated_ones b)))) spills)
+          (subst (λ w. WearsAtMost G old (device_of mid) w) (sym (none_more (spills_wear (updated_ones b)))) spills)

@@ -5,12 +5,13 @@ use Rattle.std.proofs.lemmas.Bool.{eqb-true}
 use Rattle.std.proofs.lemmas.Bool.Decides.{nat_tests}
 use Rattle.std.proofs.lemmas.List.Filters.{length-filter_both}
 use Rattle.sector_disk.specs.declared.device.SectorDevice.{Ghosts}
-use Rattle.journal.specs.declared.store.Store.{Store}
+use Rattle.stores.specs.declared.store.Store.{Store}
 use Rattle.journal.specs.Layout.{count_below}
 use Rattle.block_buffers.specs.declared.buffers.Assigned.{Assigned}
 use Rattle.block_buffers.specs.Buffers.{Buffers, none_assigned, updated_ones, IsApart, AreApart, IsValid}
 use Rattle.block_words.specs.Uses.{is_among, is_changed, changed_count}
 use Rattle.block_words.specs.Rooms.{within}
+use Rattle.stores.specs.Store.{blocks_of}
 use Rattle.block_words.proofs.Lists.{within_first, within_rest, within_filter}
 
 pub valid_none : IsValid none_assigned
@@ -91,10 +92,10 @@ few_among n (x ∷ xs) apart h =
     let one = count_one_more (is_among xs) x.block n (within_first n x xs h) (not_among x xs apart.0) in
     omega (arith, rest, one)
 
-pub few_changed : {D : Type 0} {G : Ghosts D} (store : Store D G) (b : Buffers) → IsValid b → within store.blocks.number b.list ≡ true
+pub few_changed : {D : Type 0} {G : Ghosts D} (store : Store D G) (b : Buffers) → IsValid b → within (blocks_of store) b.list ≡ true
     → length (updated_ones b) ≤ changed_count store b
 few_changed store b v h =
     let xs = updated_ones b in
-    let few = few_among store.blocks.number xs (all_apart_filter (λ x. x.updated) b.list v.apart) (within_filter store.blocks.number (λ x. x.updated) b.list h) in
-    let grown = count_grows (is_among xs) (is_changed store b) store.blocks.number (λ u is. left_true (is_among xs u) _ is) in
+    let few = few_among (blocks_of store) xs (all_apart_filter (λ x. x.updated) b.list v.apart) (within_filter (blocks_of store) (λ x. x.updated) b.list h) in
+    let grown = count_grows (is_among xs) (is_changed store b) (blocks_of store) (λ u is. left_true (is_among xs u) _ is) in
     omega (arith, few, grown)

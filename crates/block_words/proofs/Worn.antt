@@ -2,11 +2,10 @@
 use Rattle.std.proofs.Common.{◌≡◌, ℕ, zero, suc, ◌+◌, ◌*◌, ◌<◌, Bool, true, false, cond, List, [], ◌∷◌, length, Option, Some, None, refl, sym, ◌∙◌, ap, subst, arith}
 use Rattle.std.specs.Prelude.{slice_index_or, if◌then◌else◌}
 use Rattle.sector_disk.specs.declared.device.SectorDevice.{Ghosts}
-use Rattle.journal.specs.declared.store.Store.{Store}
-use Rattle.journal.specs.Images.{slot_of}
+use Rattle.stores.specs.declared.store.Store.{Store}
 use Rattle.journal.specs.Layout.{count_below}
-use Rattle.journal.specs.Maps.{Maps, any_pending}
-use Rattle.journal.specs.Store.{StandsFor, is_pending, pending_count}
+use Rattle.journal.specs.Maps.{Maps, any_pending, contents}
+use Rattle.stores.specs.Store.{StandsFor, is_pending, pending_count, closed_of}
 use Rattle.block_buffers.specs.declared.buffers.Assigned.{Assigned}
 use Rattle.block_words.specs.Words.{Wear, no_wear, add_wear, spill_wear, commit_wear, pending_number}
 use Rattle.block_words.specs.Calls.{WearsAtMost}
@@ -91,9 +90,9 @@ pending_counted (x ∷ p) q slot h =
     ∙ sym (count_first q (length p))
 
 -- an open store has as many blocks pending as its maps
-pub pending_same : {D : Type 0} {G : Ghosts D} (store : Store D G) (m : Maps) → StandsFor store m → store.closed ≡ false → pending_number m.pending ≡ pending_count store
+pub pending_same : {D : Type 0} {G : Ghosts D} (store : Store D G) (m : Maps) → StandsFor store m → closed_of store ≡ false → pending_number m.pending ≡ pending_count store
 pending_same {D} {G} store m stands is_open =
-    pending_counted m.pending (is_pending store) (λ b. slot_of (G.disk store.device).content b)
+    pending_counted m.pending (is_pending store) (λ b. contents m b)
     (λ b below. stands.pending is_open b (subst (λ n. b < n) stands.pending_size below))
     ∙ ap (λ n. count_below (is_pending store) n) stands.pending_size
 

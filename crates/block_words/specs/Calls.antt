@@ -4,11 +4,11 @@ use Rattle.sector_disk.specs.Counting.{count_up}
 use Rattle.sector_disk.specs.Disk.{MayLeave}
 use Rattle.sector_disk.specs.Moments.{LeavesOnly}
 use Rattle.sector_disk.specs.declared.device.SectorDevice.{Ghosts}
-use Rattle.journal.specs.declared.store.Store.{Store}
+use Rattle.stores.specs.declared.store.Store.{Store}
 use Rattle.journal.specs.Calls.{BeginsAtMost, ReadsAtMost}
-use Rattle.journal.specs.Images.{Means}
+use Rattle.stores.specs.Images.{Means}
 use Rattle.journal.specs.Maps.{Maps}
-use Rattle.journal.specs.Store.{StandsFor}
+use Rattle.stores.specs.Store.{StandsFor, device_of}
 use Rattle.block_buffers.specs.Buffers.{Buffers}
 use Rattle.block_words.specs.declared.buffered_blocks.BlockFault.{BlockFault}
 use Rattle.block_words.specs.declared.buffered_blocks.BlockFault.TheVariants.{Device}
@@ -58,9 +58,15 @@ module _ {D : Type 0} (G : Ghosts D) where
     pub reads : ReadsAtMost G old new wear.reads
 
   -- An open store keeps its saves from the call's start; a closed one adds nothing to what a stop may leave.
-  abbrev pub CallKeeps : (closed : Bool) → (old new : D) → List (List ℕ) → List Save → Type 0
-  CallKeeps true old new map made = LeavesOnly G.time G.left_since old new (MayLeave (G.disk old))
-  CallKeeps false old new map made = KeptFrom (λ image map. Means map image) (G.left_since new) (G.time new) map made (G.time old)
+  abbrev pub CallLeaves : (closed : Bool) → (old new : D) → List (List ℕ) → List Save → Type 0
+  CallLeaves true old new map made = LeavesOnly G.time G.left_since old new (MayLeave (G.disk old))
+  CallLeaves false old new map made =
+      KeptFrom (λ image map. Means (G.sector_count old) map image) (G.left_since new) (G.time new) map made (G.time old)
+
+  -- The same, and the device keeps its size, which tells the layout.
+  pub record CallKeeps (closed : Bool) (old new : D) (map : List (List ℕ)) (made : List Save) : Type 0 where
+    pub sectors : G.sector_count new ≡ G.sector_count old
+    pub leaves : CallLeaves closed old new map made
 
   -- A call by which old became new runs the word from these maps, and keeps the saves that it made.
   pub record CallRuns {A : Type 0} (word : Blocks → BlockOutcome A) (result : Result A BlockFault) (made : List Save) (m : Maps) (old new : Store D G) (buffers buffers' : Buffers) (space space' : List ℕ) : Type 0 where
@@ -68,8 +74,8 @@ module _ {D : Type 0} (G : Ghosts D) where
     pub wear : Wear
     pub runs : WordRuns word result wear made m maps buffers buffers' space space'
     pub stands : StandsFor new maps
-    pub kept : CallKeeps m.closed old.device new.device m.saved made
-    pub wears : WearsAtMost old.device new.device wear
+    pub kept : CallKeeps m.closed (device_of old) (device_of new) m.saved made
+    pub wears : WearsAtMost (device_of old) (device_of new) wear
     -- a closed store stays closed
     pub shuts : m.closed ≡ true → maps.closed ≡ true
     -- an open store has the last map

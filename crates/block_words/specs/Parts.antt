@@ -2,11 +2,10 @@
 use Rattle.std.specs.Prelude.{◌≡◌, ◌⊎◌, ◌<◌, ◌≤◌, ℕ, false, List, length, None}
 use Rattle.sector_disk.specs.Disk.{Image, MayLeave}
 use Rattle.sector_disk.specs.declared.device.SectorDevice.{Ghosts}
-use Rattle.journal.specs.declared.store.Store.{Store}
+use Rattle.stores.specs.declared.store.Store.{Store}
 use Rattle.journal.specs.Calls.{StopsLeave}
-use Rattle.journal.specs.Images.{Means}
 use Rattle.journal.specs.Maps.{Maps}
-use Rattle.journal.specs.Store.{StandsFor, blocks_of}
+use Rattle.stores.specs.Store.{MeansBy, StandsFor, blocks_of, device_of}
 use Rattle.block_buffers.specs.Buffers.{Buffers, slot_of, updated_ones, IsValid}
 use Rattle.block_words.specs.declared.buffered_blocks.Blocks.{Blocks}
 use Rattle.block_words.specs.Words.{next_map}
@@ -26,12 +25,12 @@ module _ {D : Type 0} {G : Ghosts D} where
   -- A stop of an open store at any moment since the old state leaves the saved blocks, or all that were changed over them too.
   abbrev pub ChangesAllOrNone : Store D G → Store D G → Buffers → List ℕ → Type 0
   ChangesAllOrNone old new buffers space = (m : Maps) → StandsFor old m → m.closed ≡ false
-      → StopsLeave G old.device new.device (λ image. Means m.saved image ⊎ Means (next_map buffers space m) image)
+      → StopsLeave G (device_of old) (device_of new) (λ image. MeansBy old m.saved image ⊎ MeansBy old (next_map buffers space m) image)
 
   -- A stop now leaves the blocks with all that were changed, and no others.
   abbrev pub LeavesChanged : Store D G → Store D G → Buffers → List ℕ → Type 0
   LeavesChanged old new buffers space = (m : Maps) → StandsFor old m
-      → (image : Image) → MayLeave (G.disk new.device) image → Means (next_map buffers space m) image
+      → (image : Image) → MayLeave (G.disk (device_of new)) image → MeansBy new (next_map buffers space m) image
 
 module _ {D : Type 0} (G : Ghosts D) where
   -- The list of buffers is valid at any time: at most four, no two with the same block or the same slot.

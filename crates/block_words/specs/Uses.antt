@@ -1,9 +1,9 @@
 -- What a use of a block does to the buffers, and how many blocks a save has to write. All this is known over any device.
 use Rattle.std.specs.Prelude.{◌≡◌, ℕ, ◌==◌, ◌&&◌, ◌||◌, ◌<◌, Bool, false, List, [], ◌∷◌, Option, Some, None, unwrap_or, replicate, Result, Ok, Err}
 use Rattle.sector_disk.specs.declared.device.SectorDevice.{Ghosts}
-use Rattle.journal.specs.declared.store.Store.{Store}
+use Rattle.stores.specs.declared.store.Store.{Store}
 use Rattle.journal.specs.Layout.{count_below}
-use Rattle.journal.specs.Store.{blocks_of, is_pending, text_of}
+use Rattle.stores.specs.Store.{blocks_of, is_pending, text_of}
 use Rattle.data_space.specs.Space.{buffer_at, buffer_bytes, with_bytes}
 use Rattle.block_buffers.specs.declared.buffers.Assigned.{Assigned}
 use Rattle.block_buffers.specs.Buffers.{Buffers, assigned, slot_of, touched, oldest, slot_for, placed, updated_ones}

@@ -2,7 +2,7 @@
 ghost use Rattle.std.specs.Prelude.{◌≡◌, ◌↔◌, List, [], ℕ, true, Some, None, Ok, length, is_ok, IfOk, IfErr, OnOk, OnErr, IsErrOf, IsSome, IfSome, MatchResult};
 ghost use Rattle.std.proofs.Props.{props};
 ghost use Rattle.journal.specs.Maps.{Maps};
-ghost use Rattle.journal.specs.Store.{blocks_of, closed_of, kept_of, StandsFor, DeviceBegins, DeviceReads, KeepsSaved, SamePending};
+ghost use Rattle.stores.specs.Store.{blocks_of, closed_of, kept_of, StandsFor, DeviceBegins, DeviceReads, KeepsSaved, SamePending};
 ghost use Rattle.data_space.specs.Space.{buffer_at, buffer_bytes};
 ghost use Rattle.block_buffers.specs.Buffers.{slot_of, none_assigned, unmarked, after_mark, IsValid};
 ghost use Rattle.block_words.specs.Words.{block, buffer, update, save_buffers, flush, source, next_map};
@@ -16,8 +16,9 @@ use crate::assigning::{address, blank, fetch};
 use crate::saving::save;
 use block_buffers::Buffers;
 use data_space::DataSpace;
-use journal::{Store, StoreFault};
+use journal::StoreFault;
 use sector_disk::SectorDevice;
+use stores::Store;
 
 /// Why a block word didn't do what it was asked.
 #[derive(Clone, Copy, Debug, PartialEq, Eq)]

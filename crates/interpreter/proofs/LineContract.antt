@@ -33,7 +33,7 @@ use Rattle.interpreter.specs.Terminals.{terminal_call, print}
 use Rattle.interpreter.specs.Representation.{core, device, HasModel, RepresentsWorld}
 use Rattle.interpreter.specs.ServiceContract.{Comes, IsLike, Left, Broke, BreaksOff, Heard, KeepsAndWears, Lasts, Ran}
 use Rattle.block_words.specs.declared.buffered_blocks.Blocks.{Blocks}
-use Rattle.journal.specs.Store.{device_of}
+use Rattle.stores.specs.Store.{device_of}
 use Rattle.interpreter.specs.LineContract.{line_end, is_broken, heard_of, LineLeft, LineBroke, LineBreaksOff, LineComes, LineCame, RanLine, SameStackAndSpace, SameSpace}
 use Rattle.interpreter.proofs.Deeds.{printing, trying, after-then, mended-then}
 use Rattle.interpreter.proofs.Calls.{print-well, print-fails, heard_print, heard_unprinted}

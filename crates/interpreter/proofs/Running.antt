@@ -4,8 +4,8 @@ use Rattle.std.proofs.KnownBytes.{Consumes-nil, Appends-nil}
 use Rattle.sector_disk.specs.Disk.{Image, MayLeave}
 use Rattle.sector_disk.specs.declared.device.SectorDevice.{Ghosts}
 use Rattle.journal.specs.Maps.{Maps}
-use Rattle.journal.specs.declared.store.Store.{Store}
-use Rattle.journal.specs.Store.{StandsFor, device_of}
+use Rattle.stores.specs.declared.store.Store.{Store}
+use Rattle.stores.specs.Store.{StandsFor, device_of}
 use Rattle.block_words.proofs.Runs.{keeps_store}
 use Rattle.block_words.specs.Parts.{store_of}
 use Rattle.cell_machine.specs.Frames.{Core, Level}
@@ -51,10 +51,10 @@ comes_as start start' deed (Err (stop.Fault f)) c x same h = record { core = h.c
 abbrev pub OnlyNow : {D : Type 0} → Ghosts D → Type 0
 OnlyNow {D} G = (d : D) (c : Image) → G.left_since d (G.time d) c → MayLeave (G.disk d) c
 
-pub maps_same : {D : Type 0} (G : Ghosts D) → OnlyNow G → (store : Store D G) (m : Maps) → StandsFor store m → KeepsAndWears G m m store.device store.device [] no_wear
+pub maps_same : {D : Type 0} (G : Ghosts D) → OnlyNow G → (store : Store D G) (m : Maps) → StandsFor store m → KeepsAndWears G m m (device_of store) (device_of store) [] no_wear
 maps_same G only_now store m stands = record {
   keeps = record { kept = keeps_store G store m only_now stands; shuts = λ h. h; none = λ h. refl; last = λ h. refl };
-  wears = wears_none G store.device;
+  wears = wears_none G (device_of store);
 }
 
 -- what reaches no terminal makes no call of it

@@ -1,7 +1,7 @@
 -- Failures of the device, as lines tell them.
 use Rattle.std.proofs.Common.{◌≡◌, ℕ, inl, inr, refl, sym, ap, subst}
 use Rattle.sector_disk.specs.declared.device.SectorDevice.{Ghosts}
-use Rattle.journal.specs.Store.{device_of}
+use Rattle.stores.specs.Store.{device_of}
 use Rattle.block_words.specs.declared.buffered_blocks.Blocks.{Blocks}
 use Rattle.block_words.specs.Parts.{store_of}
 use Rattle.interpreter.specs.declared.fault.Fault.{Fault}

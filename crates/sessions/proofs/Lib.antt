@@ -10,6 +10,5 @@ pub mod OneLine
 pub mod ManyLines
 pub mod LeftOver
 pub mod Ended
-pub mod EachStore
 pub mod Held
 pub mod TraceLemmas

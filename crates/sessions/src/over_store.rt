@@ -1,7 +1,7 @@
 //! A session over a store, between two streams.
 ghost use Rattle.std.specs.Prelude.{◌<◌};
 ghost use Rattle.journal.specs.Maps.{Maps};
-ghost use Rattle.journal.specs.Store.{StandsFor, device_of};
+ghost use Rattle.stores.specs.Store.{StandsFor, device_of};
 ghost use Rattle.interpreter.specs.Lines.{new_forth};
 ghost use Rattle.interpreter.specs.Memory.{IsBlank};
 ghost use Rattle.sessions.specs.Devices.{Becomes};
@@ -12,9 +12,9 @@ use super::session::run_traced;
 use super::tracing::{Tracer, Untraced};
 use interpreter::Memory;
 use interpreter::promise::Lines;
-use journal::Store;
 use sector_disk::SectorDevice;
 use std::io::{Read, Write};
+use stores::Store;
 
 /// Begins a new system in this memory over a store, with at most `steps` steps a line, 1 or more; runs the lines of the input,
 /// and gives the store back beside how the run ended. What was changed and not saved is given up.

@@ -7,6 +7,7 @@ use Rattle.block_words.specs.Kept.{last_map}
 use Rattle.block_words.specs.declared.buffered_blocks.BlockFault.TheVariants.{Closed}
 use Rattle.block_words.proofs.Runs.{still_runs}
 use Rattle.block_words.proofs.Saves.{save_ok, save_uncommitted, save_unspilled, keeps_save, runs_open, saves_then, save_begins, save_reads, unspilled_wears, committed_wears, saved_wears, continues_then, some_pending, none_left, device_fault}
+use Rattle.stores.specs.Store.{device_of}
 use Rattle.block_words.proofs.saving.save.Goals as goal
 
 pub returns-in-Err-clause-runs : goal.returns-in-Err-clause-runs
@@ -19,9 +20,9 @@ returns-in-Err-clause-runs g c = λ m change stands.
       wear = _;
       runs = runs_open m.closed open_now _ _ _ (save_unspilled change m b c.args.space.now open_now f.before f.this f.after f.split);
       stands = f.shut_so;
-      kept = keeps_save g.D.SectorDevice m.closed c.args.store.now.device c.spill_updated.new.store.device m.saved (next_map b c.args.space.now m) false open_now
-          (λ x since. inl (c.in-Err.ensures.stops m stands open_now x since)) (λ no. absurd (cc));
-      wears = unspilled_wears g.D.SectorDevice c.args.store.now.device c.spill_updated.new.store.device f.before f.begins c.in-Err.ensures.reads;
+      kept = keeps_save g.D.SectorDevice m.closed (device_of c.args.store.now) (device_of c.spill_updated.new.store) m.saved (next_map b c.args.space.now m) false open_now
+          c.spill_updated.ensures.continues.sectors (λ x since. inl (c.in-Err.ensures.stops m stands open_now x since)) (λ no. absurd (cc));
+      wears = unspilled_wears g.D.SectorDevice (device_of c.args.store.now) (device_of c.spill_updated.new.store) f.before f.begins c.in-Err.ensures.reads;
       shuts = λ _. refl;
       last = λ no. absurd (cc);
     }
@@ -42,15 +43,15 @@ returns-in-Ok-commit-clause-runs g c = λ m change stands.
       wear = _;
       runs = runs_open m.closed open_now _ _ _ (save_ok change m b sp open_now);
       stands = c.in-Ok-commit.ensures.ok all mid_stands;
-      kept = keeps_save G m.closed old.device new.device m.saved (next_map b sp m) true open_now
+      kept = keeps_save G m.closed (device_of old) (device_of new) m.saved (next_map b sp m) true open_now (c.commit.ensures.continues.sectors ∙ c.in-Ok.ensures.continues.sectors)
           (saves_then G old mid new b sp c.in-Ok.ensures.continues c.commit.ensures.continues c.in-Ok.ensures.ok c.in-Ok.ensures.stops c.commit.ensures.stops m stands open_now)
           (λ _. (
-            G.time new.device,
+            G.time (device_of new),
             omega (arith, c.in-Ok.ensures.continues.time.later, c.in-Ok-commit.ensures.continues.time.later),
             omega arith,
-            λ x since. c.in-Ok-commit.ensures.after all mid_stands x (g.met.D.SectorDevice.only_now new.device x since),
+            λ x since. c.in-Ok-commit.ensures.after all mid_stands x (g.met.D.SectorDevice.only_now (device_of new) x since),
           ));
-      wears = saved_wears G old.device mid new b all mid_stands c.in-Ok.ensures.opened c.in-Ok.ensures.begins c.in-Ok.ensures.reads c.commit.ensures.begins c.commit.ensures.reads
+      wears = saved_wears G (device_of old) mid new b all mid_stands c.in-Ok.ensures.opened c.in-Ok.ensures.begins c.in-Ok.ensures.reads c.commit.ensures.begins c.commit.ensures.reads
           (λ none. c.commit.ensures.unasked c.in-Ok.ensures.opened none);
       shuts = λ h. absurd (let no : true ≡ false = sym h ∙ open_now in cc);
       last = λ h. subst (λ t. (latest all) ≡ last_map m.saved (save_begun t (next_map b sp m) true)) (sym open_now) refl;
@@ -72,10 +73,10 @@ returns-in-Err-commit-clause-runs g c = λ m change stands.
       wear = _;
       runs = runs_open m.closed open_now _ _ _ (save_uncommitted change m b sp open_now some);
       stands = c.in-Err-commit.ensures.fault all mid_stands (ap Err (device_fault c.in-Err-commit.field-0 (λ is. absurd (let no : false ≡ true = sym c.in-Ok.ensures.opened ∙ c.in-Err-commit.ensures.closed.0 (ap Err is) in cc))));
-      kept = keeps_save g.D.SectorDevice m.closed old.device new.device m.saved (next_map b sp m) false open_now
+      kept = keeps_save g.D.SectorDevice m.closed (device_of old) (device_of new) m.saved (next_map b sp m) false open_now (c.commit.ensures.continues.sectors ∙ c.in-Ok.ensures.continues.sectors)
           (saves_then g.D.SectorDevice old mid new b sp c.in-Ok.ensures.continues c.commit.ensures.continues c.in-Ok.ensures.ok c.in-Ok.ensures.stops c.commit.ensures.stops m stands open_now)
           (λ no. absurd (cc));
-      wears = committed_wears g.D.SectorDevice old.device mid new b all mid_stands c.in-Ok.ensures.opened c.in-Ok.ensures.begins c.in-Ok.ensures.reads c.commit.ensures.begins c.commit.ensures.reads;
+      wears = committed_wears g.D.SectorDevice (device_of old) mid new b all mid_stands c.in-Ok.ensures.opened c.in-Ok.ensures.begins c.in-Ok.ensures.reads c.commit.ensures.begins c.commit.ensures.reads;
       shuts = λ _. refl;
       last = λ no. absurd (cc);
     }
@@ -95,7 +96,7 @@ returns-in-Ok-commit-clause-saves g c =
           saves_then g.D.SectorDevice old mid new c.args.buffers.now c.args.space.now
           c.in-Ok.ensures.continues c.commit.ensures.continues c.in-Ok.ensures.ok c.in-Ok.ensures.stops c.commit.ensures.stops;
       after = λ m stands. c.in-Ok-commit.ensures.after _ (c.in-Ok.ensures.ok m stands);
-      continues = continues_then old mid new (g.met.D.SectorDevice.widens new.device) c.in-Ok.ensures.continues c.commit.ensures.continues;
+      continues = continues_then old mid new (g.met.D.SectorDevice.widens (device_of new)) c.in-Ok.ensures.continues c.commit.ensures.continues;
       pending = c.in-Ok-commit.ensures.pending;
       begins = save_begins g.D.SectorDevice old mid new c.args.buffers.now c.in-Ok.ensures.continues c.in-Ok.ensures.pending c.in-Ok.ensures.begins c.commit.ensures.begins;
       reads = save_reads g.D.SectorDevice old mid new c.args.buffers.now c.in-Ok.ensures.continues c.in-Ok.ensures.pending c.in-Ok.ensures.reads c.commit.ensures.reads;
@@ -119,7 +120,7 @@ returns-in-Err-commit-clause-saves g c =
           saves_then g.D.SectorDevice old mid new c.args.buffers.now c.args.space.now
           c.in-Ok.ensures.continues c.commit.ensures.continues c.in-Ok.ensures.ok c.in-Ok.ensures.stops c.commit.ensures.stops;
       after = tt;
-      continues = continues_then old mid new (g.met.D.SectorDevice.widens new.device) c.in-Ok.ensures.continues c.commit.ensures.continues;
+      continues = continues_then old mid new (g.met.D.SectorDevice.widens (device_of new)) c.in-Ok.ensures.continues c.commit.ensures.continues;
       pending = tt;
       begins = save_begins g.D.SectorDevice old mid new c.args.buffers.now c.in-Ok.ensures.continues c.in-Ok.ensures.pending c.in-Ok.ensures.begins c.commit.ensures.begins;
       reads = save_reads g.D.SectorDevice old mid new c.args.buffers.now c.in-Ok.ensures.continues c.in-Ok.ensures.pending c.in-Ok.ensures.reads c.commit.ensures.reads;

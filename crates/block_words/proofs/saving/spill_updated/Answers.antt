@@ -4,7 +4,7 @@ use Rattle.std.specs.Prelude.{slice_index_or, ◌==◌, ◌||◌}
 use Rattle.block_buffers.specs.declared.buffers.Assigned.{Assigned}
 use Rattle.block_buffers.specs.Buffers.{updated_ones}
 use Rattle.journal.specs.Maps.{spilled}
-use Rattle.journal.specs.Store.{StandsFor, is_pending}
+use Rattle.stores.specs.Store.{StandsFor, is_pending, device_of, blocks_of}
 use Rattle.block_words.specs.Words.{all_spilled}
 use Rattle.block_words.specs.Rooms.{within}
 use Rattle.block_words.proofs.Lists.{within_at, within_filter, item_at, among_more}
@@ -13,13 +13,13 @@ use Rattle.block_words.proofs.saving.spill_updated.Goals as goal
 
 pub spill-requires-clause-below : goal.spill-requires-clause-below
 spill-requires-clause-below g c =
-    let n = c.args.store.now.blocks.number in
+    let n = (blocks_of c.args.store.now) in
     let xs = c.deref-updated-items.result.now in
     let same = c.deref-updated-items.ensures.0 ∙ c.updated.ensures.updated in
-    let all : within c.loop-updated.store.blocks.number xs ≡ true =
-    ap (λ l. within c.loop-updated.store.blocks.number l) same ∙ ap (λ k. within k (updated_ones c.args.buffers.now)) c.loop-updated.invariant.continues.blocks
+    let all : within (blocks_of c.loop-updated.store) xs ≡ true =
+    ap (λ l. within (blocks_of c.loop-updated.store) l) same ∙ ap (λ k. within k (updated_ones c.args.buffers.now)) c.loop-updated.invariant.continues.blocks
     ∙ within_filter n (λ x. x.updated) c.args.buffers.now.list c.requires.within in
-    within_at c.loop-updated.store.blocks.number xs c.loop-updated.updated-index _ all (item_at xs c.loop-updated.updated-index _ c.loop-updated-test.true)
+    within_at (blocks_of c.loop-updated.store) xs c.loop-updated.updated-index _ all (item_at xs c.loop-updated.updated-index _ c.loop-updated-test.true)
 
 pub returns-in-Err-clause-fault : goal.returns-in-Err-clause-fault
 returns-in-Err-clause-fault g c = λ m stands.
@@ -52,7 +52,7 @@ returns-in-Err-clause-stops g c =
 
 pub returns-in-Err-clause-continues : goal.returns-in-Err-clause-continues
 returns-in-Err-clause-continues g c =
-    continues_then c.args.store.now c.loop-updated.store c.spill.new.self (g.met.D.SectorDevice.widens c.spill.new.self.device) c.loop-updated.invariant.continues c.spill.ensures.continues
+    continues_then c.args.store.now c.loop-updated.store c.spill.new.self (g.met.D.SectorDevice.widens (device_of c.spill.new.self)) c.loop-updated.invariant.continues c.spill.ensures.continues
 
 pub loop-updated-preserved : goal.loop-updated-preserved
 loop-updated-preserved g c =
@@ -70,7 +70,7 @@ loop-updated-preserved g c =
       stops =
           keeps_then_spill g.D.SectorDevice c.args.store.now c.loop-updated.store new (take i xs) c.args.space.now
           c.loop-updated.invariant.continues c.spill.ensures.continues c.loop-updated.invariant.stands c.loop-updated.invariant.stops c.spill.ensures.stops;
-      continues = continues_then c.args.store.now c.loop-updated.store new (g.met.D.SectorDevice.widens new.device) c.loop-updated.invariant.continues c.spill.ensures.continues;
+      continues = continues_then c.args.store.now c.loop-updated.store new (g.met.D.SectorDevice.widens (device_of new)) c.loop-updated.invariant.continues c.spill.ensures.continues;
       well = c.in-Ok.ensures.well ∙ c.loop-updated.invariant.well;
       pending = λ u. rw add-one
           (c.in-Ok.ensures.pending u ∙ ap (λ t. (u == x.block) || t) (c.loop-updated.invariant.pending u)

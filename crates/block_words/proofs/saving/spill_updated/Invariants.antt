@@ -1,7 +1,7 @@
 use Rattle.std.proofs.Common.{◌≡◌, ◌*◌, ℕ, false, take}
 use Rattle.std.specs.Prelude.{◌||◌}
 use Rattle.journal.specs.Maps.{Maps}
-use Rattle.journal.specs.Store.{StandsFor, Continues, DeviceWentWell, KeepsSaved, DeviceBegins, DeviceReads, is_pending}
+use Rattle.stores.specs.Store.{StandsFor, Continues, DeviceWentWell, KeepsSaved, DeviceBegins, DeviceReads, is_pending, device_of, closed_of}
 use Rattle.block_words.specs.Uses.{is_among}
 use Rattle.block_words.specs.Words.{all_spilled}
 use Rattle.block_words.proofs.saving.spill_updated.Given as goal
@@ -9,12 +9,12 @@ use Rattle.block_words.proofs.saving.spill_updated.Given as goal
 abbrev pub invariant-loop-updated : goal.invariant-loop-updated
 invariant-loop-updated g l = record {
   stands : (m : Maps) → StandsFor l.fn.store m → StandsFor l.store (all_spilled (take l.updated-index l.updated-items) l.space m);
-  opened : l.store.closed ≡ false;
+  opened : closed_of l.store ≡ false;
   stops : KeepsSaved l.fn.store l.store;
   continues : Continues l.fn.store l.store;
   well : DeviceWentWell l.fn.store l.store;
   pending : (u : ℕ) → is_pending l.store u ≡ (is_among (take l.updated-index l.updated-items) u || is_pending l.fn.store u);
   begins : DeviceBegins l.fn.store l.store (2 * l.updated-index) 0;
   reads : DeviceReads l.fn.store l.store 0;
-  unmoved : l.updated-index ≡ 0 → l.store.device ≡ l.fn.store.device;
+  unmoved : l.updated-index ≡ 0 → device_of l.store ≡ (device_of l.fn.store);
 }

@@ -1,7 +1,7 @@
 use Rattle.std.proofs.Common.{◌≡◌, IsTrue, ap, sym, subst}
-use Rattle.journal.specs.Store.{StandsFor, device_of}
+use Rattle.stores.specs.Store.{StandsFor, device_of}
 use Rattle.interpreter.specs.Lines.{new_forth}
-use Rattle.sessions.proofs.EachStore.{own_maps, stands_for_own}
+use Rattle.stores.proofs.OwnMaps.{own_maps, stands_for_own}
 use Rattle.sessions.proofs.Ended.{ended}
 use Rattle.sessions.proofs.over_store.run_over_traced.Goals as goal
 
@@ -29,7 +29,8 @@ returns-clause-goes g c =
 pub run_traced-end-requires : goal.run_traced-end-requires
 run_traced-end-requires g c =
     let present = g.met.D.SectorDevice.present in
-    let sound = c.new-forth.ensures.sound (own_maps present c.args.store)
-    (λ held is keeps. subst (λ s. StandsFor s (own_maps present c.args.store)) (sym is)
-    (stands_for_own present c.args.store (subst (λ s. IsTrue (g.D.SectorDevice.keeps_model (device_of s))) is keeps))) in
+    let by_sectors = g.met.D.SectorDevice.by_sectors in
+    let sound = c.new-forth.ensures.sound (own_maps present by_sectors c.args.store)
+    (λ held is keeps. subst (λ s. StandsFor s (own_maps present by_sectors c.args.store)) (sym is)
+    (stands_for_own present by_sectors c.args.store (subst (λ s. IsTrue (g.D.SectorDevice.keeps_model (device_of s))) is keeps))) in
     record { sound = sound }

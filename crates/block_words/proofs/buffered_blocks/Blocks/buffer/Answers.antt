@@ -8,13 +8,14 @@ use Rattle.block_words.specs.Uses.{blanked_if}
 use Rattle.block_words.specs.Rooms.{within}
 use Rattle.block_words.proofs.Lists.{within_after_touch, none_of}
 use Rattle.block_words.proofs.Asked.{asks_past}
+use Rattle.stores.specs.Store.{blocks_of}
 use Rattle.block_words.proofs.buffered_blocks.Blocks.buffer.Goals as goal
 
 pub invariant_of-self : goal.invariant_of-self
 invariant_of-self g c = record {
   within =
-      ap (λ (b : Buffers). within c.args.self.now.store.blocks.number b.list) c.touch.ensures.buffers
-      ∙ within_after_touch c.args.self.now.store.blocks.number c.args.u c.args.self.now.buffers c.args.self.now.within;
+      ap (λ (b : Buffers). within (blocks_of c.args.self.now.store) b.list) c.touch.ensures.buffers
+      ∙ within_after_touch (blocks_of c.args.self.now.store) c.args.u c.args.self.now.buffers c.args.self.now.within;
   valid = c.touch.ensures.valid;
 }
 

@@ -4,6 +4,7 @@ use Rattle.block_words.specs.Words.{flush, next_map}
 use Rattle.block_words.specs.Calls.{CallRuns, save_begun}
 use Rattle.block_words.specs.Rooms.{within}
 use Rattle.block_words.proofs.Valid.{valid_none}
+use Rattle.stores.specs.Store.{blocks_of}
 use Rattle.block_words.proofs.buffered_blocks.Blocks.flush.Goals as goal
 
 pub returns-in-Ok-clause-runs : goal.returns-in-Ok-clause-runs
@@ -18,6 +19,6 @@ returns-in-Err-clause-runs g c = λ m stands. c.in-Err.ensures.runs m (λ bs. no
 
 pub invariant_of-self : goal.invariant_of-self
 invariant_of-self g c = record {
-  within = ap (λ (b : Buffers). within c.save.new.store.blocks.number b.list) c.unassign_all.ensures;
+  within = ap (λ (b : Buffers). within (blocks_of c.save.new.store) b.list) c.unassign_all.ensures;
   valid = subst IsValid (sym c.unassign_all.ensures) valid_none;
 }

@@ -4,6 +4,7 @@ use Rattle.block_words.specs.Words.{save_buffers, next_map}
 use Rattle.block_words.specs.Calls.{CallRuns, save_begun}
 use Rattle.block_words.specs.Rooms.{within}
 use Rattle.block_words.proofs.Lists.{within_unmarked}
+use Rattle.stores.specs.Store.{blocks_of}
 use Rattle.block_words.proofs.buffered_blocks.Blocks.save_buffers.Goals as goal
 
 pub returns-in-Ok-clause-runs : goal.returns-in-Ok-clause-runs
@@ -19,8 +20,8 @@ returns-in-Err-clause-runs g c = λ m stands. c.in-Err.ensures.runs m unmarked s
 pub invariant_of-self : goal.invariant_of-self
 invariant_of-self g c = record {
   within =
-      ap (λ (b : Buffers). within c.save.new.store.blocks.number b.list) c.unmark_all.ensures.buffers
+      ap (λ (b : Buffers). within (blocks_of c.save.new.store) b.list) c.unmark_all.ensures.buffers
       ∙ ap (λ n. within n (unmarked c.args.self.now.buffers).list) c.in-Ok.ensures.saves.continues.blocks
-      ∙ within_unmarked c.args.self.now.store.blocks.number c.args.self.now.buffers c.args.self.now.within;
+      ∙ within_unmarked (blocks_of c.args.self.now.store) c.args.self.now.buffers c.args.self.now.within;
   valid = c.unmark_all.ensures.valid;
 }

@@ -5,13 +5,14 @@ use Rattle.block_words.proofs.Runs.{still_runs}
 use Rattle.block_buffers.specs.Buffers.{Buffers}
 use Rattle.block_words.specs.Rooms.{within}
 use Rattle.block_words.proofs.Lists.{within_after_mark}
+use Rattle.stores.specs.Store.{blocks_of}
 use Rattle.block_words.proofs.buffered_blocks.Blocks.update.Goals as goal
 
 pub invariant_of-self : goal.invariant_of-self
 invariant_of-self g c = record {
   within =
-      ap (λ (b : Buffers). within c.args.self.now.store.blocks.number b.list) c.mark.ensures.buffers
-      ∙ within_after_mark c.args.self.now.store.blocks.number c.args.self.now.buffers c.args.self.now.within;
+      ap (λ (b : Buffers). within (blocks_of c.args.self.now.store) b.list) c.mark.ensures.buffers
+      ∙ within_after_mark (blocks_of c.args.self.now.store) c.args.self.now.buffers c.args.self.now.within;
   valid = c.mark.ensures.valid;
 }
 
