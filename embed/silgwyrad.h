@@ -44,12 +44,12 @@ extern "C" {
 /* What a call answers. */
 enum silgwyrad_answer {
     SILGWYRAD_DONE = 0,
-    SILGWYRAD_BAD_SIZE = 1,      /* no image has so many sectors: it is 3 + 4 * blocks, of 32 to 3840 blocks; the device wasn't called */
+    SILGWYRAD_BAD_SIZE = 1,      /* no image has so many sectors: 3 + 4 * blocks, or by layout 3 32 + 16 * blocks, of 32 to 3840; no device call */
     SILGWYRAD_NO_LABEL = 2,      /* the image has no label: it was never formatted, or a format was stopped */
-    SILGWYRAD_OTHER_VERSION = 3, /* the label has another version */
+    SILGWYRAD_OTHER_VERSION = 3, /* the label has another version than that of images of this size */
     SILGWYRAD_WRONG_COUNT = 4,   /* the label counts other blocks than the sectors do */
     SILGWYRAD_DEVICE = 5,        /* a call of the device failed: open the image again by any call, as after a loss of power */
-    SILGWYRAD_DAMAGED = 6,       /* a save is under way whose bytes are not those that were saved: the device broke the disk model */
+    SILGWYRAD_DAMAGED = 6,       /* the bytes of a save that is under way, or by layout 3 of a block, aren't those that were saved */
     SILGWYRAD_NO_BLOCK = 7,      /* the image has no such block; the device wasn't called */
     SILGWYRAD_BAD_LENGTH = 8,    /* not 1024 bytes for each block; the device wasn't called */
     SILGWYRAD_NO_STEPS = 9,      /* a line may take no step; nothing was called */
@@ -58,8 +58,8 @@ enum silgwyrad_answer {
     SILGWYRAD_NO_MEMORY = 12     /* there is no memory for a session; nothing of the input was read */
 };
 
-/* Makes an image of so many blank blocks, on a device of 3 + 4 * blocks sectors. A stop leaves the blank image, the old one, or
- * one without a label. */
+/* Makes an image of layout 2 of so many blank blocks, on a device of 3 + 4 * blocks sectors. A stop leaves the blank image, the old
+ * one, or one without a label. The calls below take images of either layout. */
 uint8_t silgwyrad_format(int32_t device, uint32_t sectors, uint16_t blocks);
 
 /* Finishes a save that a stop left half done. Each of the calls below does so first. */

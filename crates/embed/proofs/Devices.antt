@@ -1,24 +1,17 @@
 -- What a call makes of a device, of what its parts make of it.
 use Rattle.std.proofs.Common.{◌≡◌, ◌≢◌, ℕ, ◌≤◌, Bool, true, false, refl, sym, subst, inl, ◌∙◌, arith}
 use Rattle.std.specs.Prelude.{MatchBool}
-use Rattle.std.proofs.lemmas.Bool.Decides.{nat_tests}
 use Rattle.sector_disk.specs.Disk.{Image, MayLeave}
 use Rattle.sector_disk.specs.declared.device.SectorDevice.{Ghosts}
 use Rattle.sector_disk.proofs.Moments.{elapses_refl, elapses_then}
 use Rattle.journal.specs.Calls.{StopsLeave}
-use Rattle.journal.specs.Layout.{sectors_for}
-use Rattle.recovery.specs.Label.{blocks_in, is_size}
+use Rattle.recovery.specs.Label as older
 use Rattle.recovery.specs.Opened.{RecoveryLeaves}
 use Rattle.recovery.specs.declared.fault.OpenFault.{OpenFault}
 use Rattle.recovery.specs.declared.fault.OpenFault.TheVariants.{BadSize}
+use Rattle.shadow.specs.Label.{is_known_size}
 use Rattle.sessions.specs.Devices.{Becomes}
-use Rattle.embed.specs.Calls.{MayRecover, blocks_on}
-
-pub blocks_are : (sectors n : ℕ) → sectors ≡ sectors_for n → n ≡ blocks_in sectors
-blocks_are sectors n e = omega (arith, e)
-
-sized_of : (sectors : ℕ) → is_size sectors ≡ true → sectors ≡ sectors_for (blocks_in sectors)
-sized_of sectors is = grind (arith, nat_tests, is)
+use Rattle.embed.specs.Calls.{MayRecover}
 
 module _ {D : Type 0} (G : Ghosts D) where
   abbrev pub Widens : Type 0
@@ -36,18 +29,22 @@ module _ {D : Type 0} (G : Ghosts D) where
 
   -- a device that wasn't called
   pub untouched : (d : D) → ((c : Image) → G.left_since d (G.time d) c → MayLeave (G.disk d) c) → StopsLeave G d d (MayRecover G d)
-  untouched d only_now c since = record { from = c; may = only_now c since; follows = inl (λ k. refl) }
+  untouched d only_now c since = by_layout (older.is_size (G.sector_count d))
+    where
+      by_layout : (b : Bool) → MatchBool b (RecoveryLeaves (older.blocks_in (G.sector_count d)) (G.disk d) c) (MayLeave (G.disk d) c)
+      by_layout true = record { from = c; may = only_now c since; follows = inl (λ k. refl) }
+      by_layout false = only_now c since
 
-  -- A refusal to open: of a size that no image has, before the device is called, or after a recovery was begun.
+  -- A refusal to open: of a size that no image has, before the device is called, or after an opening was begun.
   pub refused_leaves : (old new : D) (fault : OpenFault)
-      → MatchBool (is_size (G.sector_count old)) (fault ≢ BadSize) (fault ≡ BadSize)
+      → MatchBool (is_known_size (G.sector_count old)) (fault ≢ BadSize) (fault ≡ BadSize)
       → (fault ≡ BadSize → new ≡ old)
-      → ((n : ℕ) → G.sector_count old ≡ sectors_for n → StopsLeave G old new (RecoveryLeaves n (G.disk old)))
+      → (is_known_size (G.sector_count old) ≡ true → StopsLeave G old new (MayRecover G old))
       → ((c : Image) → G.left_since old (G.time old) c → MayLeave (G.disk old) c)
       → StopsLeave G old new (MayRecover G old)
-  refused_leaves old new fault which same stops only_now = by_size (is_size (G.sector_count old)) refl which
+  refused_leaves old new fault which same stops only_now = by_size (is_known_size (G.sector_count old)) refl which
     where
-      by_size : (b : Bool) → is_size (G.sector_count old) ≡ b → MatchBool b (fault ≢ BadSize) (fault ≡ BadSize)
+      by_size : (b : Bool) → is_known_size (G.sector_count old) ≡ b → MatchBool b (fault ≢ BadSize) (fault ≡ BadSize)
           → StopsLeave G old new (MayRecover G old)
-      by_size true is other = stops (blocks_on G old) (sized_of (G.sector_count old) is)
+      by_size true is other = stops is
       by_size false is bad = subst (λ d. StopsLeave G old d (MayRecover G old)) (sym (same bad)) (untouched old only_now)

@@ -3,9 +3,9 @@ use Rattle.std.proofs.Common.{◌≡◌, ◌∙◌, ◌≤◌, ℕ, List, Option
 use Rattle.std.specs.Prelude.{IfErr, OnOk}
 use Rattle.sector_disk.specs.declared.device.SectorDevice.{Ghosts}
 use Rattle.sector_disk.specs.Moments.{Elapses}
-use Rattle.journal.specs.declared.store.Store.{Store}
+use Rattle.stores.specs.declared.store.Store.{Store}
 use Rattle.journal.specs.Maps.{fresh}
-use Rattle.journal.specs.Store.{StandsFor, device_of}
+use Rattle.stores.specs.Store.{StandsFor, device_of}
 use Rattle.block_words.specs.Words.{Save}
 use Rattle.interpreter.specs.State.{Forth}
 use Rattle.interpreter.specs.Promise.{Keeps}

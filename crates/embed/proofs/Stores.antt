@@ -1,15 +1,14 @@
 -- What a call makes of a device, through a store that was opened on it.
 use Rattle.std.proofs.Common.{◌≡◌, ◌⊎◌, ℕ, List, false, sym, subst, inl, inr, ⊎_elim, ◌∙◌, arith}
-use Rattle.sector_disk.specs.Disk.{MayLeave}
 use Rattle.sector_disk.specs.declared.device.SectorDevice.{Ghosts}
 use Rattle.sector_disk.proofs.Moments.{elapses_then, leaves_then}
-use Rattle.journal.specs.declared.store.Store.{Store}
+use Rattle.stores.specs.declared.store.Store.{Store}
 use Rattle.journal.specs.Calls.{StopsLeave}
-use Rattle.journal.specs.Images.{Means}
+use Rattle.stores.specs.Images.{Means}
 use Rattle.journal.specs.Maps.{Maps, fresh, latest}
-use Rattle.journal.specs.Store.{Continues, KeepsSaved, SavesAllOrNone, StandsFor, closed_of, device_of}
+use Rattle.stores.specs.Store.{Continues, KeepsSaved, MeansBy, SavesAllOrNone, StandsFor, closed_of, device_of}
 use Rattle.sessions.specs.Devices.{Becomes}
-use Rattle.embed.specs.Calls.{AllOrNone, KeepsBlocks, LeavesBlocks, MayRecover, meant_by}
+use Rattle.embed.specs.Calls.{AllOrNone, KeepsBlocks, LeavesBlocks, MayRecover, MeansOn, meant_by}
 use Rattle.embed.specs.Spilling.{all_spilled}
 use Rattle.embed.proofs.Devices.{Widens}
 use Rattle.embed.proofs.Spills.{closed_same, saved_same, saves}
@@ -21,6 +20,7 @@ module _ {D : Type 0} (G : Ghosts D) where
   pub continues_then : (a b d : Store D G) → Widens G → Continues a b → Continues b d → Continues a d
   continues_then a b d widens one two = record {
     blocks = two.blocks ∙ one.blocks;
+    sectors = two.sectors ∙ one.sectors;
     model = two.model ∙ one.model;
     time = elapses_then G.time G.left_since (device_of a) (device_of b) (device_of d) (widens (device_of d)) one.time two.time;
     failures = omega (arith, one.failures, two.failures);
@@ -29,55 +29,58 @@ module _ {D : Type 0} (G : Ghosts D) where
   -- Calls that keep the saved blocks, and then one more.
   pub keeps_then : (a b d : Store D G) (m now : Maps) → Continues a b → Continues b d → KeepsSaved a b → KeepsSaved b d
       → StandsFor a m → m.closed ≡ false → StandsFor b now → now.saved ≡ m.saved → now.closed ≡ m.closed
-      → StopsLeave G (device_of a) (device_of d) (Means m.saved)
+      → StopsLeave G (device_of a) (device_of d) (MeansBy a m.saved)
   keeps_then a b d m now one two first then stands live later saved closed =
-      leaves_then G.time G.left_since (device_of a) (device_of b) (device_of d) (Means m.saved) (Means m.saved) (Means m.saved) one.time two.time
+      leaves_then G.time G.left_since (device_of a) (device_of b) (device_of d) (MeansBy a m.saved) (MeansBy b m.saved) (MeansBy a m.saved) one.time two.time
       (first m stands live)
-      (subst (λ blocks. StopsLeave G (device_of b) (device_of d) (Means blocks)) saved (then now later (closed ∙ live)))
-      (λ image means. means) (λ image means. means)
+      (subst (λ blocks. StopsLeave G (device_of b) (device_of d) (MeansBy b blocks)) saved (then now later (closed ∙ live)))
+      (λ image means. means) (λ image means. subst (λ n. Means n m.saved image) one.sectors means)
 
   -- Spills, and then a commit of all of them.
   pub commits_then : (a b d : Store D G) (after : D) (m : Maps) (blocks bytes : List ℕ) → after ≡ device_of d → Continues a b → Continues b d
       → KeepsSaved a b → SavesAllOrNone b d → StandsFor a m → closed_of a ≡ false → StandsFor b (all_spilled m blocks bytes)
-      → StopsLeave G (device_of a) after (λ image. Means m.saved image ⊎ Means (latest (all_spilled m blocks bytes)) image)
+      → StopsLeave G (device_of a) after (λ image. MeansBy a m.saved image ⊎ MeansBy a (latest (all_spilled m blocks bytes)) image)
   commits_then a b d after m blocks bytes is one two first then stands live later =
       let spilled = all_spilled m blocks bytes in
       let same = saved_same m blocks bytes in
       let open_still = closed_same m blocks bytes ∙ stands.closed ∙ live in
-      subst (λ new. StopsLeave G (device_of a) new (λ image. Means m.saved image ⊎ Means (latest spilled) image)) (sym is)
-      (leaves_then G.time G.left_since (device_of a) (device_of b) (device_of d) (Means m.saved)
-      (λ image. Means spilled.saved image ⊎ Means (latest spilled) image)
-      (λ image. Means m.saved image ⊎ Means (latest spilled) image) one.time two.time
+      subst (λ new. StopsLeave G (device_of a) new (λ image. MeansBy a m.saved image ⊎ MeansBy a (latest spilled) image)) (sym is)
+      (leaves_then G.time G.left_since (device_of a) (device_of b) (device_of d) (MeansBy a m.saved)
+      (λ image. MeansBy b spilled.saved image ⊎ MeansBy b (latest spilled) image)
+      (λ image. MeansBy a m.saved image ⊎ MeansBy a (latest spilled) image) one.time two.time
       (first m stands (stands.closed ∙ live))
       (then spilled later open_still)
       (λ image means. inl means)
-      (λ image either. ⊎_elim (λ old. inl (subst (λ saved. Means saved image) same old)) (λ new. inr new) either))
+      (λ image either. subst (λ n. Means n m.saved image ⊎ Means n (latest spilled) image) one.sectors
+      (⊎_elim (λ old. inl (subst (λ saved. MeansBy b saved image) same old)) (λ new. inr new) either)))
 
   -- What an open store leaves.
   pub leaves : (store : Store D G) (after : D) (m : Maps) → after ≡ device_of store → closed_of store ≡ false → StandsFor store m
       → LeavesBlocks G after m.saved
-  leaves store after m is live stands image may = stands.left live image (subst (λ d. MayLeave (G.disk d) image) is may)
+  leaves store after m is live stands = subst (λ d. LeavesBlocks G d m.saved) (sym is) (stands.left live)
 
   -- A recovery, and then a call that keeps the blocks.
-  pub kept_then : (device begun after : D) → Becomes G device begun → Becomes G begun after
-      → StopsLeave G device begun (MayRecover G device) → StopsLeave G begun after (Means (meant_by G device))
+  pub kept_then : (device begun after : D) → G.sector_count begun ≡ G.sector_count device → Becomes G device begun → Becomes G begun after
+      → StopsLeave G device begun (MayRecover G device) → StopsLeave G begun after (MeansOn G begun (meant_by G device))
       → StopsLeave G device after (KeepsBlocks G device)
-  kept_then device begun after one two first then =
-      leaves_then G.time G.left_since device begun after (MayRecover G device) (Means (meant_by G device)) (KeepsBlocks G device) one.time two.time
-      first then (λ image may. inl may) (λ image means. inr means)
+  kept_then device begun after size one two first then =
+      leaves_then G.time G.left_since device begun after (MayRecover G device) (MeansOn G begun (meant_by G device)) (KeepsBlocks G device) one.time two.time
+      first then (λ image may. inl may) (λ image means. inr (subst (λ n. Means n (meant_by G device) image) size means))
 
   -- A recovery, and then a save.
-  pub saved_then : (device begun after : D) (blocks bytes : List ℕ) → Becomes G device begun → Becomes G begun after
+  pub saved_then : (device begun after : D) (blocks bytes : List ℕ) → G.sector_count begun ≡ G.sector_count device → Becomes G device begun → Becomes G begun after
       → StopsLeave G device begun (MayRecover G device)
-      → StopsLeave G begun after (λ image. Means (meant_by G device) image ⊎ Means (latest (all_spilled (fresh (meant_by G device)) blocks bytes)) image)
+      → StopsLeave G begun after
+      (λ image. MeansOn G begun (meant_by G device) image ⊎ MeansOn G begun (latest (all_spilled (fresh (meant_by G device)) blocks bytes)) image)
       → StopsLeave G device after (AllOrNone G device blocks bytes)
-  saved_then device begun after blocks bytes one two first then =
+  saved_then device begun after blocks bytes size one two first then =
       leaves_then G.time G.left_since device begun after (MayRecover G device)
-      (λ image. Means (meant_by G device) image ⊎ Means (latest (all_spilled (fresh (meant_by G device)) blocks bytes)) image)
+      (λ image. MeansOn G begun (meant_by G device) image ⊎ MeansOn G begun (latest (all_spilled (fresh (meant_by G device)) blocks bytes)) image)
       (AllOrNone G device blocks bytes) one.time two.time first then
       (λ image may. inl (inl may))
-      (λ image either. ⊎_elim (λ old. inl (inr old))
-      (λ new. inr (subst (λ saved. Means saved image) (saves (meant_by G device) blocks bytes) new)) either)
+      (λ image either. ⊎_elim (λ old. inl (inr (subst (λ n. Means n (meant_by G device) image) size old)))
+      (λ new. inr (subst (λ saved. MeansOn G device saved image) (saves (meant_by G device) blocks bytes)
+      (subst (λ n. Means n (latest (all_spilled (fresh (meant_by G device)) blocks bytes)) image) size new))) either)
 
   -- Refused arguments leave the device uncalled, so a stop leaves what it left.
   pub kept_still : (device : D) → StopsLeave G device device (MayRecover G device) → StopsLeave G device device (KeepsBlocks G device)

@@ -2,13 +2,14 @@
 use Rattle.std.specs.Prelude.{◌≡◌, ◌⊎◌, ℕ, false, IsTrue, List, Result, Ok, Err}
 use Rattle.sector_disk.specs.Disk.{Image, MayLeave}
 use Rattle.sector_disk.specs.declared.device.SectorDevice.{Ghosts}
-use Rattle.journal.specs.declared.store.Store.{Store}
+use Rattle.stores.specs.declared.store.Store.{Store}
 use Rattle.journal.specs.Calls.{StopsLeave}
-use Rattle.journal.specs.Images.{Means, meaning}
+use Rattle.journal.specs.Images as older_images
 use Rattle.journal.specs.Maps.{fresh}
-use Rattle.journal.specs.Store.{StandsFor, blocks_of, closed_of, device_of, is_pending}
-use Rattle.recovery.specs.Label.{blocks_in}
-use Rattle.recovery.specs.Opened.{RecoveryLeaves}
+use Rattle.stores.specs.Store.{StandsFor, blocks_of, closed_of, device_of, is_pending}
+use Rattle.shadow.specs.Upgraded.{known_blocks}
+use Rattle.stores.specs.Images.{Means, meaning}
+use Rattle.stores.specs.Opened.{OpeningLeaves}
 use Rattle.sessions.specs.Devices.{Becomes}
 use Rattle.embed.specs.declared.refusal.Refusal.{Refusal}
 use Rattle.embed.specs.Saving.{with_blocks}
@@ -21,32 +22,42 @@ device_after (Err refused) = refused.1
 module _ {D : Type 0} (G : Ghosts D) where
   -- how many blocks an image on the device has
   abbrev pub blocks_on : D → ℕ
-  blocks_on device = blocks_in (G.sector_count device)
+  blocks_on device = known_blocks (G.sector_count device)
 
   -- the blocks that the image on the device means
   abbrev pub meant_by : D → List (List ℕ)
-  meant_by device = meaning (blocks_on device) (G.disk device).content
+  meant_by device = meaning (G.sector_count device) (G.disk device).content
+
+  -- The image means these blocks, by the layout that the device's size tells.
+  abbrev pub MeansOn : D → List (List ℕ) → Image → Type 0
+  MeansOn device blocks image = Means (G.sector_count device) blocks image
 
   -- A stop now leaves these blocks.
   abbrev pub LeavesBlocks : D → List (List ℕ) → Type 0
-  LeavesBlocks device blocks = (image : Image) → MayLeave (G.disk device) image → Means blocks image
+  LeavesBlocks device blocks = (image : Image) → MayLeave (G.disk device) image → MeansOn device blocks image
 
-  -- A stop of a recovery of the device may leave the image: it follows one that a stop may leave now.
+  -- A stop now leaves these blocks, by layout 2.
+  abbrev pub LeavesOlder : D → List (List ℕ) → Type 0
+  LeavesOlder device blocks = (image : Image) → MayLeave (G.disk device) image → older_images.Means blocks image
+
+  -- A stop of an opening of the device may leave the image: by layout 2 it follows one that a stop may leave now, and by layout 3 it
+  -- is one.
   abbrev pub MayRecover : D → Image → Type 0
-  MayRecover device image = RecoveryLeaves (blocks_on device) (G.disk device) image
+  MayRecover device image = OpeningLeaves (G.sector_count device) (G.disk device) image
 
   -- The image is as a recovery may leave it, or means the blocks that the image on the device means.
   abbrev pub KeepsBlocks : D → Image → Type 0
-  KeepsBlocks device image = MayRecover device image ⊎ Means (meant_by device) image
+  KeepsBlocks device image = MayRecover device image ⊎ MeansOn device (meant_by device) image
 
   -- It keeps them, or means them with those put over them that are saved.
   abbrev pub AllOrNone : D → (blocks bytes : List ℕ) → Image → Type 0
   AllOrNone device blocks bytes image =
-      KeepsBlocks device image ⊎ Means (with_blocks (meant_by device) blocks bytes) image
+      KeepsBlocks device image ⊎ MeansOn device (with_blocks (meant_by device) blocks bytes) image
 
   -- The store was opened on the device: it has the blocks that the image there meant, nothing is pending, and it isn't closed.
   pub record OpensOn (device : D) (store : Store D G) : Type 0 where
     pub size : blocks_of store ≡ blocks_on device
+    pub sectors : G.sector_count (device_of store) ≡ G.sector_count device
     pub stands : IsTrue (G.keeps_model device) → StandsFor store (fresh (meant_by device))
     pub pending : (b : ℕ) → is_pending store b ≡ false
     pub closed : closed_of store ≡ false

@@ -2,10 +2,11 @@
 use Rattle.std.specs.Prelude.{ℕ, ◌*◌, ◌==◌, not, nat_lt, if◌then◌else◌, List, length, Option, Some, None, option_map, Result, Ok, Err, ⊤}
 use Rattle.std.specs.List.{list_all}
 use Rattle.sector_disk.specs.Disk.{Image}
-use Rattle.recovery.specs.Label.{blocks_in, is_size}
-use Rattle.recovery.specs.Opened.{image_refusal}
 use Rattle.recovery.specs.declared.fault.OpenFault.{OpenFault}
 use Rattle.recovery.specs.declared.fault.OpenFault.TheVariants as image
+use Rattle.shadow.specs.Label.{is_known_size}
+use Rattle.shadow.specs.Upgraded.{known_blocks}
+use Rattle.stores.specs.Opened.{image_refusal}
 use Rattle.sessions.specs.declared.run_fault.RunFault.{RunFault}
 use Rattle.sessions.specs.declared.run_fault.RunFault.TheVariants as run
 use Rattle.embed.specs.declared.refusal.Refusal.{Refusal}
@@ -46,15 +47,15 @@ of_run run.Write = Output
 -- the refusal of a block that is read, and of the room for its bytes: the first condition that holds
 abbrev pub read_refusal : (sectors block room : ℕ) → Option Refusal
 read_refusal sectors block room =
-    if not (is_size sectors) then Some BadSize
-    else (if not (nat_lt block (blocks_in sectors)) then Some NoBlock
+    if not (is_known_size sectors) then Some BadSize
+    else (if not (nat_lt block (known_blocks sectors)) then Some NoBlock
     else (if not (room == 1024) then Some BadLength else None))
 
 -- of blocks that are saved, and of their bytes
 abbrev pub save_refusal : (sectors : ℕ) (blocks : List ℕ) (room : ℕ) → Option Refusal
 save_refusal sectors blocks room =
-    if not (is_size sectors) then Some BadSize
-    else (if not (list_all (λ b. nat_lt b (blocks_in sectors)) blocks) then Some NoBlock
+    if not (is_known_size sectors) then Some BadSize
+    else (if not (list_all (λ b. nat_lt b (known_blocks sectors)) blocks) then Some NoBlock
     else (if not (room == 1024 * length blocks) then Some BadLength else None))
 
 -- of the image on a device of so many sectors

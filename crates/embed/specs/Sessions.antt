@@ -3,8 +3,8 @@ use Rattle.std.specs.Prelude.{◌≡◌, ℕ, false, IsTrue, List, [], ◌∷◌
 use Rattle.sector_disk.specs.declared.device.SectorDevice.{Ghosts}
 use Rattle.journal.specs.Calls.{StopsLeave}
 use Rattle.journal.specs.Maps.{Maps, fresh}
-use Rattle.journal.specs.Store.{StandsFor, device_of}
-use Rattle.journal.specs.declared.store.Store.{Store}
+use Rattle.stores.specs.Store.{StandsFor, device_of}
+use Rattle.stores.specs.declared.store.Store.{Store}
 use Rattle.block_words.specs.Words.{Save}
 use Rattle.interpreter.specs.State.{Forth}
 use Rattle.interpreter.specs.Lines.{new_forth}

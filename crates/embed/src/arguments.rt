@@ -1,12 +1,12 @@
 //! What a call is given, looked at before the device is asked for anything.
 ghost use Rattle.std.specs.Prelude.{◌≡◌, ◌<◌, ◌*◌, ◌==◌, true, nat_lt, None, Some, length, OnOk, MatchResult};
 ghost use Rattle.std.specs.List.{list_all};
-ghost use Rattle.recovery.specs.Label.{blocks_in, is_size};
+ghost use Rattle.shadow.specs.Label.{is_known_size};
+ghost use Rattle.shadow.specs.Upgraded.{known_blocks};
 ghost use Rattle.embed.specs.Refusals.{read_refusal, save_refusal};
 
 use crate::refusal::Refusal;
-use journal::layout::MOST_BLOCKS;
-use recovery::blocks_of_size;
+use stores::blocks_of_size;
 
 /// The bytes of a block.
 pub const BLOCK: usize = 1024;
@@ -15,11 +15,11 @@ pub const BLOCK: usize = 1024;
 pub fn check_read(sectors: u32, block: u16, room: usize) -> Result<(), Refusal>
     ensures exact { MatchResult result (λ _. read_refusal sectors block room ≡ None)
         (λ e. read_refusal sectors block room ≡ Some e) }
-    ensures sized { OnOk result (is_size sectors ≡ true) }
-    ensures there { OnOk result (block < blocks_in sectors) }
+    ensures sized { OnOk result (is_known_size sectors ≡ true) }
+    ensures there { OnOk result (block < known_blocks sectors) }
     ensures whole { OnOk result (room ≡ 1024) }
 {
-    let Some(count) = blocks_of_size(sectors, MOST_BLOCKS) else {
+    let Some(count) = blocks_of_size(sectors) else {
         return Err(Refusal::BadSize);
     };
     if block >= count {
@@ -35,11 +35,11 @@ pub fn check_read(sectors: u32, block: u16, room: usize) -> Result<(), Refusal>
 pub fn check_save(sectors: u32, blocks: &[u16], room: usize) -> Result<(), Refusal>
     ensures exact { MatchResult result (λ _. save_refusal sectors blocks.now room ≡ None)
         (λ e. save_refusal sectors blocks.now room ≡ Some e) }
-    ensures sized { OnOk result (is_size sectors ≡ true) }
-    ensures there { OnOk result (list_all (λ b. nat_lt b (blocks_in sectors)) blocks.now ≡ true) }
+    ensures sized { OnOk result (is_known_size sectors ≡ true) }
+    ensures there { OnOk result (list_all (λ b. nat_lt b (known_blocks sectors)) blocks.now ≡ true) }
     ensures whole { OnOk result (room ≡ 1024 * length blocks.now) }
 {
-    let Some(count) = blocks_of_size(sectors, MOST_BLOCKS) else {
+    let Some(count) = blocks_of_size(sectors) else {
         return Err(Refusal::BadSize);
     };
     if !are_below(blocks, count) {

@@ -3,29 +3,30 @@ ghost use Rattle.std.specs.Prelude.{◌≡◌, ◌≢◌, ◌⊎◌, ◌<◌, �
 ghost use Rattle.std.specs.List.{list_all};
 ghost use Rattle.sector_disk.specs.Counting.{count_up};
 ghost use Rattle.journal.specs.Calls.{StopsLeave};
-ghost use Rattle.journal.specs.Images.{Means};
 ghost use Rattle.journal.specs.Layout.{sectors_for};
 ghost use Rattle.journal.specs.Maps.{Maps, block_in, contents, latest};
-ghost use Rattle.journal.specs.Store.{StandsFor, Continues, KeepsSaved, DeviceFailed, DeviceWentWell, blocks_of, closed_of, device_of};
+ghost use Rattle.stores.specs.Store.{MeansBy, StandsFor, Continues, KeepsSaved, DeviceFailed, DeviceWentWell, blocks_of, closed_of, device_of};
 ghost use Rattle.recovery.specs.Formatted.{FormatLeaves, blank_blocks};
-ghost use Rattle.recovery.specs.Label.{is_size, is_size_for};
+ghost use Rattle.recovery.specs.Label.{is_size_for};
 ghost use Rattle.recovery.specs.Opened.{first_of};
+ghost use Rattle.shadow.specs.Label.{is_known_size};
 ghost use Rattle.sessions.specs.Devices.{Becomes};
-ghost use Rattle.embed.specs.Calls.{AllOrNone, KeepsBlocks, LeavesBlocks, MayRecover, OpensOn, blocks_on, device_after, meant_by};
+ghost use Rattle.embed.specs.Calls.{AllOrNone, KeepsBlocks, LeavesBlocks, LeavesOlder, MayRecover, OpensOn, blocks_on, device_after, meant_by};
 ghost use Rattle.embed.specs.Refusals.{IsOfImage, read_refusal, save_refusal, refusal_of};
 ghost use Rattle.embed.specs.Saving.{with_blocks};
 ghost use Rattle.embed.specs.Spilling.{all_spilled};
 
 use crate::arguments::{BLOCK, check_read, check_save};
 use crate::refusal::Refusal;
-use journal::{Store, StoreFault};
-use recovery::{format, open};
+use journal::StoreFault;
+use recovery::format;
 use sector_disk::SectorDevice;
+use stores::{Store, open};
 
 /// Makes an image of `blocks` blank blocks. A refusal hands the device back.
 pub fn make_image<D: SectorDevice>(device: D, blocks: u16) -> Result<D, (Refusal, D)>
     ensures blank { IsTrue (D.keeps_model device)
-        → IfOk result (λ after. LeavesBlocks D.SectorDevice after (blank_blocks blocks)) }
+        → IfOk result (λ after. LeavesOlder D.SectorDevice after (blank_blocks blocks)) }
     // At any moment a stop leaves no good label, or the blank image, or what was there.
     ensures stops { IsTrue (D.keeps_model device) → (n : ℕ) → D.sector_count device ≡ sectors_for n
         → StopsLeave D.SectorDevice device (device_after result) (FormatLeaves n (D.disk device)) }
@@ -46,8 +47,8 @@ pub fn make_image<D: SectorDevice>(device: D, blocks: u16) -> Result<D, (Refusal
 /// Opens the image: what a stop has left half done is finished first.
 pub fn opened<D: SectorDevice>(device: D) -> Result<Store<D>, (Refusal, D)>
     ensures ok { IfOk result (λ store. OpensOn D.SectorDevice device store) }
-    ensures sized { IfOk result (λ _. is_size (D.sector_count device) ≡ true) }
-    ensures bad_size { IfErr result (λ e. MatchBool (is_size (D.sector_count device))
+    ensures sized { IfOk result (λ _. is_known_size (D.sector_count device) ≡ true) }
+    ensures bad_size { IfErr result (λ e. MatchBool (is_known_size (D.sector_count device))
         (e.0 ≢ Refusal.BadSize) (e.0 ≡ Refusal.BadSize)) }
     ensures unasked { IfErr result (λ e. e.0 ≡ Refusal.BadSize → e.1 ≡ device) }
     ensures image { IfErr result (λ e. IsOfImage e.0) }
@@ -76,8 +77,8 @@ pub fn recover<D: SectorDevice>(device: D) -> Result<D, (Refusal, D)>
         → IfOk result (λ after. LeavesBlocks D.SectorDevice after (meant_by D.SectorDevice device)) }
     ensures stops { IsTrue (D.keeps_model device)
         → StopsLeave D.SectorDevice device (device_after result) (MayRecover D.SectorDevice device) }
-    ensures sized { IfOk result (λ _. is_size (D.sector_count device) ≡ true) }
-    ensures bad_size { IfErr result (λ e. MatchBool (is_size (D.sector_count device))
+    ensures sized { IfOk result (λ _. is_known_size (D.sector_count device) ≡ true) }
+    ensures bad_size { IfErr result (λ e. MatchBool (is_known_size (D.sector_count device))
         (e.0 ≢ Refusal.BadSize) (e.0 ≡ Refusal.BadSize)) }
     ensures unasked { IfErr result (λ e. e.0 ≡ Refusal.BadSize → e.1 ≡ device) }
     ensures exact { IsTrue (D.keeps_model device) → MatchResult result
@@ -142,7 +143,7 @@ fn read_from<D: SectorDevice>(
     ensures kept { OnErr result (out.new ≡ out.old) }
     ensures same { (m : Maps) → StandsFor store m → LeavesBlocks D.SectorDevice (device_after result) m.saved }
     ensures stops { (m : Maps) → StandsFor store m
-        → StopsLeave D.SectorDevice (device_of store) (device_after result) (Means m.saved) }
+        → StopsLeave D.SectorDevice (device_of store) (device_after result) (MeansBy store m.saved) }
     ensures refusal { IfErr result (λ e. e.0 ≡ Refusal.Device) }
     ensures well { IfOk result (λ after. D.failures after ≡ D.failures (device_of store)) }
     ensures failed { IfErr result (λ e. D.failures e.1 ≡ count_up (D.failures (device_of store))) }
@@ -203,7 +204,7 @@ fn save_to<D: SectorDevice>(
         LeavesBlocks D.SectorDevice after (latest (all_spilled m blocks.now bytes.now))) }
     ensures stops { (m : Maps) → StandsFor store m
         → StopsLeave D.SectorDevice (device_of store) (device_after result)
-        (λ image. Means m.saved image ⊎ Means (latest (all_spilled m blocks.now bytes.now)) image) }
+        (λ image. MeansBy store m.saved image ⊎ MeansBy store (latest (all_spilled m blocks.now bytes.now)) image) }
     ensures refusal { IfErr result (λ e. e.0 ≡ Refusal.Device) }
     ensures well { IfOk result (λ after. D.failures after ≡ D.failures (device_of store)) }
     ensures failed { IfErr result (λ e. D.failures e.1 ≡ count_up (D.failures (device_of store))) }

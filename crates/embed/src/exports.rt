@@ -1,6 +1,7 @@
 //! The calls that C makes. None has a condition but those of its parameters' types.
 ghost use Rattle.std.specs.Prelude.{◌≡◌, ◌≢◌, ◌≤◌, ◌↔◌, None, length, IfSome, MatchBool};
-ghost use Rattle.recovery.specs.Label.{is_size, is_size_for};
+ghost use Rattle.recovery.specs.Label.{is_size_for};
+ghost use Rattle.shadow.specs.Label.{is_known_size};
 ghost use Rattle.embed.specs.Refusals.{code_of, read_refusal, save_refusal};
 
 use crate::block_calls::{make_image, read_block, recover, save_blocks};
@@ -24,7 +25,7 @@ pub extern "C" fn silgwyrad_format(device: i32, sectors: u32, blocks: u16) -> u8
 #[unsafe(no_mangle)]
 pub extern "C" fn silgwyrad_recover(device: i32, sectors: u32) -> u8
     ensures listed { result ≤ 12 }
-    ensures size { MatchBool (is_size sectors) (result ≢ code_of Refusal.BadSize) (result ≡ code_of Refusal.BadSize) }
+    ensures size { MatchBool (is_known_size sectors) (result ≢ code_of Refusal.BadSize) (result ≡ code_of Refusal.BadSize) }
 {
     told(recover(disk(device, sectors)))
 }
@@ -62,7 +63,7 @@ pub extern "C" fn silgwyrad_run(
 ) -> u8
     ensures listed { result ≤ 12 }
     ensures steps { (result ≡ code_of Refusal.NoSteps) ↔ (steps ≡ 0) }
-    ensures size { steps ≢ 0 → MatchBool (is_size sectors) (result ≢ code_of Refusal.BadSize) (result ≡ code_of Refusal.BadSize) }
+    ensures size { steps ≢ 0 → MatchBool (is_known_size sectors) (result ≢ code_of Refusal.BadSize) (result ≡ code_of Refusal.BadSize) }
 {
     let mut reader = HostInput::new(input);
     let mut writer = HostOutput::new(output);

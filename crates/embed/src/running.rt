@@ -2,8 +2,8 @@
 ghost use Rattle.std.specs.Prelude.{◌≡◌, ◌≢◌, ◌⊎◌, ◌↔◌, ◌<◌, [], ◌∷◌, true, None, Some, IsTrue, IfOk, IfErr, MatchBool, MatchResult, OnOk};
 ghost use Rattle.sector_disk.specs.Counting.{count_up};
 ghost use Rattle.journal.specs.Calls.{StopsLeave};
-ghost use Rattle.journal.specs.Store.{device_of};
-ghost use Rattle.recovery.specs.Label.{is_size};
+ghost use Rattle.stores.specs.Store.{device_of};
+ghost use Rattle.shadow.specs.Label.{is_known_size};
 ghost use Rattle.sessions.specs.declared.run_fault.RunFault.TheVariants.{Read as ReadFault, Write as WriteFault};
 ghost use Rattle.sessions.specs.Devices.{Becomes};
 ghost use Rattle.embed.specs.Calls.{MayRecover, device_after};
@@ -14,11 +14,11 @@ use crate::block_calls::opened;
 use crate::refusal::Refusal;
 use interpreter::promise::Lines;
 use interpreter::{Forth, Memory};
-use journal::Store;
 use sector_disk::SectorDevice;
 use sessions::run;
 use std::alloc::Global;
 use std::io::{Read, Write};
+use stores::Store;
 
 /// Opens the image, and runs the lines of the input over it by a new system, at most `steps` steps a line, 1 or more. It
 /// answers the device where the input was run to its end. A refusal hands the device back.
@@ -41,8 +41,8 @@ pub fn run_image<D: SectorDevice + Drop, R: Read, W: Write>(
         (W.contents output.old) (W.contents output.new) device e.1) }
     ensures steps { MatchResult result (λ _. steps ≢ 0) (λ e. (e.0 ≡ Refusal.NoSteps) ↔ (steps ≡ 0)) }
     ensures unasked { IfErr result (λ e. e.0 ≡ Refusal.NoSteps → e.1 ≡ device) }
-    ensures sized { OnOk result (is_size (D.sector_count device) ≡ true) }
-    ensures bad_size { IfErr result (λ e. e.0 ≢ Refusal.NoSteps → MatchBool (is_size (D.sector_count device))
+    ensures sized { OnOk result (is_known_size (D.sector_count device) ≡ true) }
+    ensures bad_size { IfErr result (λ e. e.0 ≢ Refusal.NoSteps → MatchBool (is_known_size (D.sector_count device))
         (e.0 ≢ Refusal.BadSize) (e.0 ≡ Refusal.BadSize)) }
     ensures uncalled { IfErr result (λ e. e.0 ≡ Refusal.BadSize → e.1 ≡ device) }
     // An image is refused as at every other call.
@@ -96,8 +96,8 @@ fn begun<D: SectorDevice + Drop, F: Lines<D> + Drop>(
     ensures steps { IfErr result (λ e. e.0 ≢ Refusal.NoSteps) }
     ensures input { IfErr result (λ e. e.0 ≢ Refusal.Input) }
     ensures output { IfErr result (λ e. e.0 ≢ Refusal.Output) }
-    ensures sized { OnOk result (is_size (D.sector_count device) ≡ true) }
-    ensures bad_size { IfErr result (λ e. MatchBool (is_size (D.sector_count device))
+    ensures sized { OnOk result (is_known_size (D.sector_count device) ≡ true) }
+    ensures bad_size { IfErr result (λ e. MatchBool (is_known_size (D.sector_count device))
         (e.0 ≢ Refusal.BadSize) (e.0 ≡ Refusal.BadSize)) }
     ensures uncalled { IfErr result (λ e. e.0 ≡ Refusal.BadSize → e.1 ≡ device) }
     ensures memory { IsTrue (D.keeps_model device) → IfErr result (λ e. e.0 ≡ Refusal.NoMemory

@@ -1,7 +1,6 @@
 use Rattle.std.proofs.Common.{◌∙◌, sym, subst}
 use Rattle.journal.specs.Calls.{StopsLeave}
-use Rattle.journal.specs.Images.{Means}
-use Rattle.journal.specs.Store.{device_of}
+use Rattle.stores.specs.Store.{MeansBy, device_of}
 use Rattle.embed.proofs.Stores.{leaves}
 use Rattle.embed.proofs.block_calls.read_from.Goals as goal
 
@@ -15,10 +14,10 @@ returns-in-Err-clause-same g c = λ m stands.
 
 pub returns-in-Ok-clause-stops : goal.returns-in-Ok-clause-stops
 returns-in-Ok-clause-stops g c = λ m stands.
-    subst (λ d. StopsLeave g.D.SectorDevice (device_of c.args.store) d (Means m.saved)) (sym c.into_device.ensures.device)
+    subst (λ d. StopsLeave g.D.SectorDevice (device_of c.args.store) d (MeansBy c.args.store m.saved)) (sym c.into_device.ensures.device)
     (c.read_block.ensures.stops m stands (stands.closed ∙ c.requires.live))
 
 pub returns-in-Err-clause-stops : goal.returns-in-Err-clause-stops
 returns-in-Err-clause-stops g c = λ m stands.
-    subst (λ d. StopsLeave g.D.SectorDevice (device_of c.args.store) d (Means m.saved)) (sym c.into_device-in-Err.ensures.device)
+    subst (λ d. StopsLeave g.D.SectorDevice (device_of c.args.store) d (MeansBy c.args.store m.saved)) (sym c.into_device-in-Err.ensures.device)
     (c.read_block.ensures.stops m stands (stands.closed ∙ c.requires.live))

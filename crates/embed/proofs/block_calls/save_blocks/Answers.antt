@@ -1,12 +1,12 @@
-use Rattle.std.proofs.Common.{subst}
+use Rattle.std.proofs.Common.{inl, subst}
 use Rattle.std.specs.Prelude.{IfOk}
 use Rattle.journal.specs.Maps.{fresh}
-use Rattle.journal.specs.Store.{device_of}
+use Rattle.stores.specs.Store.{device_of}
 use Rattle.embed.specs.Calls.{LeavesBlocks, meant_by}
-use Rattle.embed.proofs.Devices.{becomes_then}
+use Rattle.embed.proofs.Devices.{becomes_then, untouched}
 use Rattle.embed.proofs.Outcomes.{never}
 use Rattle.embed.proofs.Spills.{saves}
-use Rattle.embed.proofs.Stores.{saved_then}
+use Rattle.embed.proofs.Stores.{kept_still, saved_then}
 use Rattle.embed.proofs.block_calls.save_blocks.Goals as goal
 
 pub returns-in-Ok-opened-clause-saved : goal.returns-in-Ok-opened-clause-saved
@@ -19,7 +19,7 @@ returns-in-Ok-opened-clause-saved g c = λ keeps.
 pub returns-in-Ok-opened-clause-stops : goal.returns-in-Ok-opened-clause-stops
 returns-in-Ok-opened-clause-stops g c = λ keeps.
     let opens = c.in-Ok-opened.ensures.ok in
-    saved_then g.D.SectorDevice c.args.device (device_of c.in-Ok-opened.store) _ c.args.blocks.now c.args.bytes.now opens.goes c.save_to.ensures.goes
+    saved_then g.D.SectorDevice c.args.device (device_of c.in-Ok-opened.store) _ c.args.blocks.now c.args.bytes.now opens.sectors opens.goes c.save_to.ensures.goes
     (opens.stops keeps) (c.save_to.ensures.stops (fresh (meant_by g.D.SectorDevice c.args.device)) (opens.stands keeps))
 
 pub returns-in-Ok-opened-clause-goes : goal.returns-in-Ok-opened-clause-goes
@@ -29,3 +29,7 @@ returns-in-Ok-opened-clause-goes g c =
 
 pub returns-in-Ok-opened-clause-content : goal.returns-in-Ok-opened-clause-content
 returns-in-Ok-opened-clause-content g c = λ keeps. never c.save_to.result _ c.save_to.ensures.refusal
+
+pub returns-in-Err-clause-stops : goal.returns-in-Err-clause-stops
+returns-in-Err-clause-stops g c = λ keeps image since.
+    inl (kept_still g.D.SectorDevice c.args.device (untouched g.D.SectorDevice c.args.device (g.met.D.SectorDevice.only_now c.args.device)) image since)

@@ -1,12 +1,14 @@
-use Rattle.std.proofs.Common.{subst}
-use Rattle.sector_disk.specs.Disk.{MayLeave}
+use Rattle.std.proofs.Common.{subst, sym}
+use Rattle.journal.specs.Maps.{latest}
+use Rattle.embed.specs.Calls.{LeavesBlocks}
+use Rattle.embed.specs.Spilling.{all_spilled}
 use Rattle.embed.proofs.Stores.{commits_then}
 use Rattle.embed.proofs.block_calls.save_to.Goals as goal
 
 pub returns-in-Ok-commit-clause-saved : goal.returns-in-Ok-commit-clause-saved
-returns-in-Ok-commit-clause-saved g c = λ m stands image may.
-    c.in-Ok-commit.ensures.after _ (c.in-Ok.ensures.ok m stands) image
-    (subst (λ device. MayLeave (g.D.SectorDevice.disk device) image) c.into_device.ensures.device may)
+returns-in-Ok-commit-clause-saved g c = λ m stands.
+    subst (λ device. LeavesBlocks g.D.SectorDevice device (latest (all_spilled m c.args.blocks.now c.args.bytes.now))) (sym c.into_device.ensures.device)
+    (c.in-Ok-commit.ensures.after _ (c.in-Ok.ensures.ok m stands))
 
 pub returns-in-Ok-commit-clause-stops : goal.returns-in-Ok-commit-clause-stops
 returns-in-Ok-commit-clause-stops g c = λ m stands.

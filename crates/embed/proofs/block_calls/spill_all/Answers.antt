@@ -2,7 +2,7 @@ use Rattle.std.proofs.Common.{◌∙◌}
 use Rattle.std.proofs.lemmas.Bool.{false_from_ne_true}
 use Rattle.std.specs.Prelude.{nat_lt}
 use Rattle.journal.specs.Maps.{spilled}
-use Rattle.journal.specs.Store.{blocks_of, closed_of}
+use Rattle.stores.specs.Store.{blocks_of, closed_of}
 use Rattle.embed.proofs.Spills.{fewer_left, holds_after, spilled_one}
 use Rattle.embed.proofs.Stores.{continues_then, keeps_then}
 use Rattle.embed.proofs.block_calls.spill_all.Goals as goal

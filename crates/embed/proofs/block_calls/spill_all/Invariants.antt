@@ -2,7 +2,7 @@ use Rattle.std.proofs.Common.{◌≡◌, ◌*◌, length, drop, true, false}
 use Rattle.std.specs.Prelude.{nat_lt}
 use Rattle.std.specs.List.{list_all}
 use Rattle.journal.specs.Maps.{Maps}
-use Rattle.journal.specs.Store.{Continues, DeviceWentWell, KeepsSaved, StandsFor, blocks_of, closed_of}
+use Rattle.stores.specs.Store.{Continues, DeviceWentWell, KeepsSaved, StandsFor, blocks_of, closed_of}
 use Rattle.embed.specs.Spilling.{all_spilled}
 use Rattle.embed.proofs.block_calls.spill_all.Given as goal
 
