@@ -11,6 +11,7 @@ use std::process::Abort;
 use std::rt::Files;
 use std::test::Fail;
 use std::{fs, io};
+use stores::Store;
 
 /// What a call of the program left.
 #[derive(Debug, Drop)]
@@ -175,7 +176,11 @@ pub(crate) fn run<R: Read, W: Write>(
         Ok(store) => {
             let memory = Memory::new(rt.alloc())?;
             let (_, end) = run_over::<MemoryDisk, Forth<MemoryDisk>, R, W>(
-                memory, store, steps, reader, writer,
+                memory,
+                Store::from(store),
+                steps,
+                reader,
+                writer,
             );
             Ok(end)
         }

@@ -1,13 +1,13 @@
 -- A command line that names a command is read by that command, whatever others there are.
-use Rattle.std.proofs.Common.{◌≡◌, ◌∙◌, true, false, List, [], ◌∷◌, length, map, nat_lt, true≢false, Option, Some, is_some, option_map, refl, sym, subst, ap, ap₂, arith}
+use Rattle.std.proofs.Common.{◌≡◌, ◌∙◌, true, false, List, [], ◌∷◌, length, map, nat_lt, true≢false, Some, is_some, option_map, refl, sym, subst, ap, ap₂, arith}
 use Rattle.std.proofs.lemmas.Bool.{ltb-false}
 use Rattle.std.specs.List.{find, fold}
 use Rattle.std.specs.Option.{option_map_or}
-use Rattle.clap.specs.Walk.{Names, Text, Walk, answers_to, finished, nothing_held, settled, stop_after, walk, walk_from, walked}
+use Rattle.clap.specs.Walk.{Text, Walk, answers_to, finished, nothing_held, settled, stop_after, walk, walk_from, walked}
 use Rattle.clap.specs.Simple.{App, Shape, built, entered, label_of, names_of, rows_at}
 use Rattle.clap.specs.Kinds.{Kinds, or_else}
 use Rattle.clap.specs.Faults.{built_fault, check_fault, defaults_fault, entered_fault, level_fault, settle_fault, turn_fault, walk_fault}
-use Rattle.clap.specs.Words.{fault_of, is_simple_and_free, subcommand_of, with_subcommand}
+use Rattle.clap.specs.Words.{with_subcommand}
 use Rattle.clap.proofs.FaultLemmas.{stopped_fault}
 use Rattle.clap.proofs.WalkLemmas.{walk_stopped}
 use Rattle.clap.proofs.OnLiterals.{clap_on_literals}

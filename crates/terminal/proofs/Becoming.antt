@@ -3,20 +3,22 @@ use Rattle.std.proofs.Common.{◌≡◌, ◌∙◌, ◌+◌, ◌-◌, ◌*◌, �
 use Rattle.std.specs.Prelude.{IfOk}
 use Rattle.std.specs.Io.KnownBytes.{Appends}
 use Rattle.sector_disk.specs.declared.device.SectorDevice.{Ghosts}
-use Rattle.journal.specs.declared.store.Store.{Store}
+use Rattle.stores.specs.declared.store.Store.{Store}
 use Rattle.journal.specs.Calls.{Proceeds, StopsLeave}
 use Rattle.journal.specs.Images.{meaning}
 use Rattle.journal.specs.Layout.{count_below, sectors_for}
 use Rattle.journal.specs.Maps.{Maps, contents}
-use Rattle.journal.specs.Store.{Continues, DeviceBegins, DeviceReads, KeepsSaved, StandsFor, blocks_of, device_of, pending_count}
+use Rattle.stores.specs.Store.{Continues, DeviceBegins, DeviceReads, KeepsSaved, StandsFor, blocks_of, device_of, pending_count}
 use Rattle.recovery.specs.Formatted.{MakingLeaves}
 use Rattle.recovery.specs.Label.{blocks_in}
+use Rattle.stores.specs.Images.{Means}
 use Rattle.recovery.specs.Upgraded.{OldLeaves}
 use Rattle.interpreter.specs.Lines.{new_forth}
-use Rattle.terminal.specs.Done.{Comes, Exports, ImportsBlocks, LeavesBlocks, ListsBlock, PutsBlock, RunsFrom, RunsSession, Upgrades, blocks_on, maps_on}
+use Rattle.terminal.specs.Done.{Comes, Exports, ImportsBlocks, ListsBlock, PutsBlock, RunsFrom, RunsSession, Upgrades, blocks_on, maps_on, meant_by}
 use Rattle.sessions.specs.Devices.{Becomes}
 use Rattle.terminal.specs.Files.{OpensAs}
 use Rattle.terminal.specs.Findings.{blocks_for, refusal, said, told}
+use Rattle.terminal.specs.Older as older
 use Rattle.terminal.specs.Imported.{ImportsSome}
 use Rattle.terminal.specs.Putting.{PutsSome}
 use Rattle.terminal.specs.Screen.{listing}
@@ -62,7 +64,8 @@ module _ {D : Type 0} (G : Ghosts D) where
     goes = continued old new on;
     there = there_on device old b opens below;
     listed = λ keeps. listed (maps_on G device) (opens.stands keeps);
-    stops = λ keeps. stops (maps_on G device) (opens.stands keeps) refl;
+    stops = λ keeps image since.
+        subst (λ n. Means n (meant_by G device) image) opens.recovers.sectors (stops (maps_on G device) (opens.stands keeps) refl image since);
     same = λ keeps. let now = state (maps_on G device) (opens.stands keeps) in now.left (sym now.closed);
     begins = few;
     reads = reads;
@@ -80,7 +83,8 @@ module _ {D : Type 0} (G : Ghosts D) where
     ordered = ordered;
     there = there_on device old last opens below;
     printed = λ keeps. printed (maps_on G device) (opens.stands keeps);
-    stops = λ keeps. read.stops (maps_on G device) (opens.stands keeps) refl;
+    stops = λ keeps image since.
+        subst (λ n. Means n (meant_by G device) image) opens.recovers.sectors (read.stops (maps_on G device) (opens.stands keeps) refl image since);
     same = λ keeps. let now = read.state (maps_on G device) (opens.stands keeps) in now.left (sym now.closed);
     begins = read.begins;
     reads = read.reads;
@@ -122,24 +126,24 @@ module _ {D : Type 0} (G : Ghosts D) where
   proceeded old new on = record { model = on.model; time = on.time; failures = on.failures }
 
   -- The image on the first device was upgraded onto the second one.
-  pub upgrades : (source source' device after : D) (n : ℕ) → n ≡ blocks_on G source → G.sector_count source ≡ sectors_for n
+  pub upgrades : (source source' device after : D) (n : ℕ) → n ≡ older.blocks_on G source → G.sector_count source ≡ sectors_for n
       → G.sector_count device ≡ G.sector_count source → Proceeds G source source' → Proceeds G device after
       → (IsTrue (G.keeps_model source) → (n : ℕ) → G.sector_count source ≡ sectors_for n
       → StopsLeave G source source' (OldLeaves n (G.disk source)))
       → (IsTrue (G.keeps_model source) → IsTrue (G.keeps_model device) → (n : ℕ) → G.sector_count device ≡ sectors_for n
       → StopsLeave G device after (MakingLeaves n (meaning n (G.disk source).content) (G.disk device)))
       → (IsTrue (G.keeps_model source) → IsTrue (G.keeps_model device) → (n : ℕ) → G.sector_count device ≡ sectors_for n
-      → LeavesBlocks G after (meaning n (G.disk source).content))
+      → older.LeavesBlocks G after (meaning n (G.disk source).content))
       → Upgrades G source source' device after
   upgrades source source' device after n are size same reads goes old stops new =
-      let sized : G.sector_count source ≡ sectors_for (blocks_on G source) =
+      let sized : G.sector_count source ≡ sectors_for (older.blocks_on G source) =
       subst (λ (m : ℕ). G.sector_count source ≡ sectors_for m) are size in
       record {
         reads = proceeded source source' reads;
-        old = λ keeps. old keeps (blocks_on G source) sized;
+        old = λ keeps. old keeps (older.blocks_on G source) sized;
         goes = proceeded device after goes;
-        stops = λ keeps keeps'. stops keeps keeps' (blocks_on G source) (same ∙ sized);
-        new = λ keeps keeps'. new keeps keeps' (blocks_on G source) (same ∙ sized);
+        stops = λ keeps keeps'. stops keeps keeps' (older.blocks_on G source) (same ∙ sized);
+        new = λ keeps keeps'. new keeps keeps' (older.blocks_on G source) (same ∙ sized);
       }
 
 pub blocks_are : (sectors n : ℕ) → sectors ≡ sectors_for n → n ≡ blocks_in sectors

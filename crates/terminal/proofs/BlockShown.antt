@@ -1,5 +1,5 @@
 -- What `list` promises of a block, of what was read and printed, and of how the file of its image was opened.
-use Rattle.std.proofs.Common.{◌≡◌, ◌≢◌, ◌⊎◌, ◌∙◌, ℕ, ◌+◌, ◌<◌, List, [], Option, None, Result, Ok, Err, IsTrue, ap, inl, inr, refl, subst, sym}
+use Rattle.std.proofs.Common.{◌≡◌, ◌≢◌, ◌∙◌, ℕ, ◌+◌, ◌<◌, List, Option, Result, Ok, Err, IsTrue, ap, inl, inr, refl, subst, sym}
 use Rattle.std.specs.Prelude.{IfErr, IfOk, OnOk, unwrap_or}
 use Rattle.std.specs.Io.KnownBytes.{Appends}
 use Rattle.sector_disk.specs.Disk.{Image, MayLeave}
@@ -12,7 +12,8 @@ use Rattle.journal.specs.Images.{block_of, meaning}
 use Rattle.journal.specs.Maps.{block_in, contents, fresh}
 use Rattle.journal.proofs.Blocks.{at_below, at_none}
 use Rattle.image_care.specs.Examined.{reads_to_list}
-use Rattle.terminal.specs.Done.{DoneOn, ListsBlock, blocks_on, maps_on}
+use Rattle.terminal.specs.Done.{DoneOn, ListsBlock}
+use Rattle.terminal.specs.Older.{blocks_on}
 use Rattle.terminal.specs.Failures.{of_file}
 use Rattle.terminal.specs.Screen.{listing}
 use Rattle.terminal.specs.Shown.{ListDone, ShowsBlock}

@@ -1,5 +1,5 @@
 -- What a copy and a salvage of image_care promise is what the commands do.
-use Rattle.std.proofs.Common.{◌≡◌, ◌≢◌, ◌⊎◌, ◌∙◌, ◌&&◌, ◌+◌, ◌*◌, ℕ, Bool, true, false, not, cond, List, Option, None, Some, IsTrue, inl, inr, refl, sym, subst, ap, arith}
+use Rattle.std.proofs.Common.{◌≡◌, ◌≢◌, ◌⊎◌, ◌∙◌, ◌&&◌, ◌+◌, ◌*◌, ℕ, Bool, true, false, not, List, Option, None, Some, IsTrue, inl, inr, refl, sym, subst, ap}
 use Rattle.std.specs.Prelude.{◌==◌, if◌then◌else◌, nat_le, option_map}
 use Rattle.std.specs.Io.KnownBytes.{Appends}
 use Rattle.std.proofs.lemmas.Bool.{eqb-true}
@@ -19,9 +19,8 @@ use Rattle.recovery.specs.declared.fault.UpgradeFault.{UpgradeFault}
 use Rattle.recovery.specs.declared.fault.UpgradeFault.TheVariants.{Old, New}
 use Rattle.image_care.specs.Copied.{copy_refusal, copy_size_refusal, grown, salvage_refusal, salvaged_blocks}
 use Rattle.image_care.specs.Examined.{reads_to_list}
-use Rattle.sessions.specs.Devices.{Becomes}
 use Rattle.terminal.specs.Copying.{Copies, Salvages, no_recovery}
-use Rattle.terminal.specs.Done.{LeavesBlocks}
+use Rattle.terminal.specs.Older.{LeavesBlocks}
 use Rattle.terminal.specs.Failures.{of_upgrade}
 use Rattle.terminal.specs.declared.failure.Failure.{Failure}
 use Rattle.terminal.specs.declared.failure.Failure.TheVariants.{CannotWrite, Device}

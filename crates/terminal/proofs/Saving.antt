@@ -1,17 +1,17 @@
 -- Blocks that are imported one after another.
-use Rattle.std.proofs.Common.{◌≡◌, ◌∙◌, ◌⊎◌, ◌+◌, ◌-◌, ◌/◌, ◌≤◌, ◌<◌, ℕ, zero, suc, false, List, [], ◌∷◌, ◌++◌, drop, length, refl, sym, ap, subst, arith, true, inl, inr, length-append, append-nil, add-zero}
+use Rattle.std.proofs.Common.{◌≡◌, ◌∙◌, ◌⊎◌, ◌+◌, ◌≤◌, ◌<◌, ℕ, zero, suc, false, List, [], ◌∷◌, ◌++◌, drop, length, refl, sym, ap, subst, arith, true, inl, inr, length-append, append-nil, add-zero}
 use Rattle.std.proofs.lemmas.List.{length-drop}
 use Rattle.sector_disk.specs.Counting.{count_up}
 use Rattle.sector_disk.specs.Disk.{Image, MayLeave}
 use Rattle.sector_disk.specs.declared.device.SectorDevice.{Ghosts}
-use Rattle.sector_disk.proofs.Moments.{elapses_refl, leaves_then}
-use Rattle.journal.specs.declared.store.Store.{Store}
+use Rattle.sector_disk.proofs.Moments.{leaves_then}
+use Rattle.stores.specs.declared.store.Store.{Store}
 use Rattle.journal.specs.declared.store.StoreFault.{StoreFault}
 use Rattle.journal.specs.declared.store.StoreFault.TheVariants.{Closed, Device}
 use Rattle.journal.specs.Calls.{StopsLeave}
-use Rattle.journal.specs.Images.{Means}
+use Rattle.stores.specs.Images.{Means}
 use Rattle.journal.specs.Maps.{Maps, latest, spilled}
-use Rattle.journal.specs.Store.{KeepsSaved, SavesAllOrNone, Continues, DeviceFailed, StandsFor, closed_of, device_of}
+use Rattle.stores.specs.Store.{KeepsSaved, MeansBy, SavesAllOrNone, Continues, DeviceFailed, StandsFor, closed_of, device_of}
 use Rattle.terminal.specs.Findings.{blocks_for}
 use Rattle.terminal.specs.Transfer.{as_blocks, block_of, cut, spilled_from}
 
@@ -58,28 +58,30 @@ spilled_closed m b (bytes ∷ blocks) = spilled_closed (spilled m b bytes) (suc 
 
 module _ {D : Type 0} {G : Ghosts D} where
   pub keeps_none : (only_now : (d : D) (c : Image) → G.left_since d (G.time d) c → MayLeave (G.disk d) c) (store : Store D G) → KeepsSaved store store
-  keeps_none only_now store m stands live image left = stands.left (sym stands.closed ∙ live) image (only_now store.device image left)
+  keeps_none only_now store m stands live image left = stands.left (sym stands.closed ∙ live) image (only_now (device_of store) image left)
 
   -- a spill after others
   pub keeps_then : (old mid new : Store D G) (b : ℕ) (blocks : List (List ℕ)) → Continues old mid → Continues mid new
       → ((m : Maps) → StandsFor old m → StandsFor mid (spilled_from m b blocks)) → KeepsSaved old mid → KeepsSaved mid new → KeepsSaved old new
   keeps_then old mid new b blocks first then stands p q = λ m from live.
-      leaves_then G.time G.left_since old.device mid.device new.device (Means m.saved) (Means m.saved) (Means m.saved) first.time then.time (p m from live)
-      (subst (λ l. StopsLeave G mid.device new.device (Means l)) (spilled_saved m b blocks) (q (spilled_from m b blocks) (stands m from) (spilled_closed m b blocks ∙ live)))
-      (λ x means. means) (λ x means. means)
+      leaves_then G.time G.left_since (device_of old) (device_of mid) (device_of new) (MeansBy old m.saved) (MeansBy mid m.saved) (MeansBy old m.saved)
+      first.time then.time (p m from live)
+      (subst (λ l. StopsLeave G (device_of mid) (device_of new) (MeansBy mid l)) (spilled_saved m b blocks) (q (spilled_from m b blocks) (stands m from) (spilled_closed m b blocks ∙ live)))
+      (λ x means. means) (λ x means. subst (λ n. Means n m.saved x) first.sectors means)
 
   -- a commit after spills
   pub saves_then : (old mid new : Store D G) (b : ℕ) (blocks : List (List ℕ)) → Continues old mid → Continues mid new
       → ((m : Maps) → StandsFor old m → StandsFor mid (spilled_from m b blocks)) → KeepsSaved old mid → SavesAllOrNone mid new
       → (m : Maps) → StandsFor old m → m.closed ≡ false
-      → StopsLeave G old.device new.device (λ image. Means m.saved image ⊎ Means (latest (spilled_from m b blocks)) image)
+      → StopsLeave G (device_of old) (device_of new) (λ image. MeansBy old m.saved image ⊎ MeansBy old (latest (spilled_from m b blocks)) image)
   saves_then old mid new b blocks first then stands p q m from live =
       let all = spilled_from m b blocks in
-      leaves_then G.time G.left_since old.device mid.device new.device (Means m.saved) (λ x. Means m.saved x ⊎ Means (latest all) x)
-      (λ x. Means m.saved x ⊎ Means (latest all) x) first.time then.time (p m from live)
-      (subst (λ l. StopsLeave G mid.device new.device (λ x. Means l x ⊎ Means (latest all) x)) (spilled_saved m b blocks)
+      leaves_then G.time G.left_since (device_of old) (device_of mid) (device_of new) (MeansBy old m.saved)
+      (λ x. MeansBy mid m.saved x ⊎ MeansBy mid (latest all) x)
+      (λ x. MeansBy old m.saved x ⊎ MeansBy old (latest all) x) first.time then.time (p m from live)
+      (subst (λ l. StopsLeave G (device_of mid) (device_of new) (λ x. MeansBy mid l x ⊎ MeansBy mid (latest all) x)) (spilled_saved m b blocks)
       (q all (stands m from) (spilled_closed m b blocks ∙ live)))
-      (λ x means. inl means) (λ x means. means)
+      (λ x means. inl means) (λ x means. subst (λ n. Means n m.saved x ⊎ Means n (latest all) x) first.sectors means)
 
   -- a commit that fails after spills
   pub fails_then : (old mid new : Store D G) (fault : StoreFault) → closed_of mid ≡ closed_of old → G.failures (device_of mid) ≡ G.failures (device_of old)

@@ -5,7 +5,7 @@ use Rattle.terminal.specs.declared.findings.Finding.{Finding}
 use Rattle.terminal.specs.declared.failure.Failure.{Failure}
 use Rattle.terminal.specs.declared.orders.Form.{Form}
 use Rattle.terminal.specs.declared.orders.Form.TheVariants.{Text, Raw}
-use Rattle.terminal.specs.Findings.{all_rows, blocks_for, failure_of, findings, first_of, is_full, of_form, place, refusal, row_findings, said, told, unplaced, when}
+use Rattle.terminal.specs.Findings.{all_rows, blocks_for, failure_of, findings, first_of, of_form, place, refusal, row_findings, said, told, unplaced, when}
 use Rattle.terminal.specs.Screen.{row, texts_of}
 
 -- nothing of what comes later is refused either

@@ -1,13 +1,14 @@
 -- Blocks that are exported one after another.
-use Rattle.std.proofs.Common.{◌≡◌, ◌∙◌, ◌+◌, ◌-◌, ◌≤◌, ℕ, zero, suc, false, List, [], ◌∷◌, ◌++◌, Option, map, take, drop, refl, sym, ap, subst, arith, append-nil, append_assoc, add-zero}
+use Rattle.std.proofs.Common.{◌≡◌, ◌∙◌, ◌+◌, ◌-◌, ◌≤◌, ℕ, zero, suc, List, [], ◌∷◌, ◌++◌, Option, map, take, drop, refl, sym, ap, subst, arith, append-nil, append_assoc, add-zero}
 use Rattle.std.proofs.lemmas.Grind.{common_steps}
 use Rattle.std.specs.Io.KnownBytes.{Appends}
 use Rattle.std.proofs.KnownBytes.{Appends-trans}
 use Rattle.sector_disk.specs.Disk.{Image, MayLeave}
 use Rattle.sector_disk.specs.declared.device.SectorDevice.{Ghosts}
 use Rattle.sector_disk.proofs.Moments.{elapses_refl, leaves_then}
-use Rattle.journal.specs.declared.store.Store.{Store}
-use Rattle.journal.specs.Images.{Means}
+use Rattle.stores.specs.declared.store.Store.{Store}
+use Rattle.stores.specs.Images.{Means}
+use Rattle.stores.specs.Store.{MeansBy, device_of}
 use Rattle.journal.specs.Maps.{Maps, contents}
 use Rattle.block_words.proofs.Saves.{continues_then}
 use Rattle.terminal.specs.declared.orders.Form.{Form}
@@ -45,20 +46,21 @@ module _ {D : Type 0} {G : Ghosts D} where
   reads_none only_now store = record {
     state = λ m stands. stands;
     shuts = refl;
-    stops = λ m stands live image left. stands.left (sym stands.closed ∙ live) image (only_now store.device image left);
-    continues = record { blocks = refl; model = refl; time = elapses_refl G.time G.left_since store.device; failures = omega arith };
+    stops = λ m stands live image left. stands.left (sym stands.closed ∙ live) image (only_now (device_of store) image left);
+    continues = record { blocks = refl; sectors = refl; model = refl; time = elapses_refl G.time G.left_since (device_of store); failures = omega arith };
     begins = record { few_writes = omega arith; few_syncs = omega arith };
     reads = omega arith;
   }
 
   -- two readings, one after the other
-  pub reads_then : (a b d : Store D G) (x y z : ℕ) → ((s t : ℕ) (c : Image) → s ≤ t → G.left_since d.device t c → G.left_since d.device s c)
+  pub reads_then : (a b d : Store D G) (x y z : ℕ) → ((s t : ℕ) (c : Image) → s ≤ t → G.left_since (device_of d) t c → G.left_since (device_of d) s c)
       → ReadsStore a b x → ReadsStore b d y → x + y ≤ z → ReadsStore a d z
   reads_then a b d x y z widens first then few = record {
     state = λ m stands. then.state m (first.state m stands);
     shuts = then.shuts ∙ first.shuts;
-    stops = λ m stands live. leaves_then G.time G.left_since a.device b.device d.device (Means m.saved) (Means m.saved) (Means m.saved)
-        first.continues.time then.continues.time (first.stops m stands live) (then.stops m (first.state m stands) live) (λ c is. is) (λ c is. is);
+    stops = λ m stands live. leaves_then G.time G.left_since (device_of a) (device_of b) (device_of d) (MeansBy a m.saved) (MeansBy b m.saved) (MeansBy a m.saved)
+        first.continues.time then.continues.time (first.stops m stands live) (then.stops m (first.state m stands) live)
+        (λ c is. is) (λ c is. subst (λ n. Means n m.saved c) first.continues.sectors is);
     continues = continues_then a b d widens first.continues then.continues;
     begins = record {
       few_writes = omega (arith, first.begins.few_writes, then.begins.few_writes);

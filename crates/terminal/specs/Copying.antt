@@ -1,5 +1,5 @@
 -- What a copy and a salvage leave, on any two devices: the image that is only read, and the one that is made.
-use Rattle.std.specs.Prelude.{◌≡◌, ℕ, ◌+◌, ◌*◌, ◌==◌, ◌&&◌, ◌++◌, nat_le, false, true, if◌then◌else◌, IsTrue, List, [], ◌∷◌, Option, Some, None, codes, option_and_then}
+use Rattle.std.specs.Prelude.{◌≡◌, ℕ, ◌+◌, ◌*◌, ◌==◌, ◌&&◌, ◌++◌, nat_le, false, if◌then◌else◌, IsTrue, List, [], ◌∷◌, Option, Some, None, codes, option_and_then}
 use Rattle.std.specs.Io.KnownBytes.{Appends}
 use Rattle.sector_disk.specs.declared.device.SectorDevice.{Ghosts}
 use Rattle.journal.specs.Calls.{BeginsAtMost, ReadsAtMost, StopsLeave}
@@ -12,7 +12,7 @@ use Rattle.recovery.specs.Steps.{OnlyRead}
 use Rattle.image_care.specs.Copied.{grown, salvaged_blocks}
 use Rattle.image_care.specs.Examined.{reads_to_list}
 use Rattle.sessions.specs.Devices.{Becomes}
-use Rattle.terminal.specs.Done.{LeavesBlocks, blocks_on, meant_by}
+use Rattle.terminal.specs.Older.{LeavesBlocks, blocks_on, meant_by}
 
 -- how many blocks the image on a device of so many sectors has, if it has the size of one
 abbrev pub count_on : (sectors : ℕ) → Option ℕ

@@ -4,56 +4,61 @@ use Rattle.std.specs.Io.KnownBytes.{Appends}
 use Rattle.sector_disk.specs.Disk.{Image, MayLeave}
 use Rattle.sector_disk.specs.declared.device.SectorDevice.{Ghosts}
 use Rattle.journal.specs.Calls.{BeginsAtMost, ReadsAtMost, StopsLeave}
-use Rattle.journal.specs.Images.{Means, meaning}
-use Rattle.journal.specs.Layout.{sectors_for}
 use Rattle.journal.specs.Maps.{Maps, contents, fresh, latest, spilled}
 use Rattle.block_words.specs.Words.{Save}
 use Rattle.recovery.specs.Formatted.{FormatLeaves, MakingLeaves, blank_blocks}
-use Rattle.recovery.specs.Label.{blocks_in}
-use Rattle.recovery.specs.Opened.{RecoveryLeaves, reads_for, syncs_for, writes_for}
 use Rattle.recovery.specs.Upgraded.{OldLeaves}
+use Rattle.shadow.specs.Upgraded.{known_blocks}
+use Rattle.stores.specs.Images.{Means, meaning}
+use Rattle.stores.specs.Opened.{OpeningLeaves, reads_for, syncs_for, writes_for}
 use Rattle.interpreter.specs.State.{Forth}
 use Rattle.interpreter.specs.Lines.{new_forth}
 use Rattle.interpreter.specs.Promise.{Keeps}
 use Rattle.terminal.specs.declared.orders.Form.{Form}
 use Rattle.terminal.specs.Findings.{blocks_for, refusal, said, told}
+use Rattle.terminal.specs.Older as older
 use Rattle.terminal.specs.Screen.{listing, screen_of}
 use Rattle.terminal.specs.Transfer.{as_blocks, exports, spilled_from}
 use Rattle.sessions.specs.Devices.{Becomes}
 use Rattle.sessions.specs.Sessions.{Completes}
 
 module _ {D : Type 0} (G : Ghosts D) where
+  -- The image means these blocks, by the layout that the device's size tells.
+  abbrev pub MeansOn : D → List (List ℕ) → Image → Type 0
+  MeansOn device blocks image = Means (G.sector_count device) blocks image
+
   -- A stop now leaves these blocks.
   abbrev pub LeavesBlocks : D → List (List ℕ) → Type 0
-  LeavesBlocks device blocks = (image : Image) → MayLeave (G.disk device) image → Means blocks image
+  LeavesBlocks device blocks = (image : Image) → MayLeave (G.disk device) image → MeansOn device blocks image
 
   -- how many blocks an image on the device has
   abbrev pub blocks_on : D → ℕ
-  blocks_on device = blocks_in (G.sector_count device)
+  blocks_on device = known_blocks (G.sector_count device)
 
   -- the blocks that the image on the device means
   abbrev pub meant_by : D → List (List ℕ)
-  meant_by device = meaning (blocks_on device) (G.disk device).content
+  meant_by device = meaning (G.sector_count device) (G.disk device).content
 
   -- A store that is opened on the device has these maps.
   abbrev pub maps_on : D → Maps
   maps_on device = fresh (meant_by device)
 
   -- A recovery of the image on the device. A stop at any moment of it leaves an image that follows one which could be left
-  -- before, and no more writes, syncs and reads are begun than this image asks for.
+  -- before, or by layout 3 such an image itself, and no more writes, syncs and reads are begun than this image asks for.
   pub record Recovers (device begun : D) : Type 0 where
     pub goes : Becomes G device begun
-    pub stops : IsTrue (G.keeps_model device) → StopsLeave G device begun (RecoveryLeaves (blocks_on device) (G.disk device))
-    pub begins : IsTrue (G.keeps_model device)
-        → BeginsAtMost G device begun (writes_for (blocks_on device) (G.disk device).content) (syncs_for (G.disk device).content)
+    pub sectors : G.sector_count begun ≡ G.sector_count device
+    pub stops : IsTrue (G.keeps_model device) → StopsLeave G device begun (OpeningLeaves (G.sector_count device) (G.disk device))
+    pub begins : IsTrue (G.keeps_model device) → BeginsAtMost G device begun
+        (writes_for (G.sector_count device) (G.disk device).content) (syncs_for (G.sector_count device) (G.disk device).content)
     pub reads : IsTrue (G.keeps_model device)
-        → ReadsAtMost G device begun (reads_for (blocks_on device) (G.disk device).content)
+        → ReadsAtMost G device begun (reads_for (G.sector_count device) (G.disk device).content)
 
-  -- `new`: the device was formatted, and has become an image of n blank blocks.
+  -- `new`: the device was formatted, and has become an image of n blank blocks, of layout 2.
   pub record MakesBlank (n : ℕ) (device after : D) : Type 0 where
     pub goes : Becomes G device after
     pub stops : IsTrue (G.keeps_model device) → StopsLeave G device after (FormatLeaves n (G.disk device))
-    pub blank : IsTrue (G.keeps_model device) → LeavesBlocks after (blank_blocks n)
+    pub blank : IsTrue (G.keeps_model device) → older.LeavesBlocks G after (blank_blocks n)
     pub begins : BeginsAtMost G device after (2 * n + 4) 4
     pub reads : ReadsAtMost G device after 1
 
@@ -82,7 +87,7 @@ module _ {D : Type 0} (G : Ghosts D) where
     pub goes : Becomes G begun after
     pub there : b < blocks_on device
     pub listed : IsTrue (G.keeps_model device) → Appends written written' (listing (contents (maps_on device) b))
-    pub stops : IsTrue (G.keeps_model device) → StopsLeave G begun after (Means (meant_by device))
+    pub stops : IsTrue (G.keeps_model device) → StopsLeave G begun after (MeansOn device (meant_by device))
     pub same : IsTrue (G.keeps_model device) → LeavesBlocks after (meant_by device)
     pub begins : BeginsAtMost G begun after 0 0
     pub reads : ReadsAtMost G begun after 2
@@ -90,12 +95,13 @@ module _ {D : Type 0} (G : Ghosts D) where
   -- From one device to the other these bytes were made a block of these maps, in one save: a stop at any moment of it leaves
   -- the saved blocks, or these with the bytes in that block, and once it has returned the latter.
   pub record SavesBlock (m : Maps) (b : ℕ) (bytes : List ℕ) (old new : D) : Type 0 where
-    pub stops : StopsLeave G old new (λ image. Means m.saved image ⊎ Means (latest (spilled m b bytes)) image)
+    pub stops : StopsLeave G old new (λ image. MeansOn old m.saved image ⊎ MeansOn old (latest (spilled m b bytes)) image)
     pub after : LeavesBlocks new (latest (spilled m b bytes))
 
   -- The same of these blocks from block b on, where no fault has closed the store.
   pub record SavesBlocks (m : Maps) (b : ℕ) (blocks : List (List ℕ)) (old new : D) : Type 0 where
-    pub stops : m.closed ≡ false → StopsLeave G old new (λ image. Means m.saved image ⊎ Means (latest (spilled_from m b blocks)) image)
+    pub stops : m.closed ≡ false → StopsLeave G old new
+        (λ image. MeansOn old m.saved image ⊎ MeansOn old (latest (spilled_from m b blocks)) image)
     pub after : LeavesBlocks new (latest (spilled_from m b blocks))
 
   -- The same of the lines of some text.
@@ -122,7 +128,7 @@ module _ {D : Type 0} (G : Ghosts D) where
     pub ordered : first ≤ last
     pub there : last < blocks_on device
     pub printed : IsTrue (G.keeps_model device) → Appends written written' (exports form (maps_on device) first (last + 1 - first))
-    pub stops : IsTrue (G.keeps_model device) → StopsLeave G begun after (Means (meant_by device))
+    pub stops : IsTrue (G.keeps_model device) → StopsLeave G begun after (MeansOn device (meant_by device))
     pub same : IsTrue (G.keeps_model device) → LeavesBlocks after (meant_by device)
     pub begins : BeginsAtMost G begun after 0 0
     pub reads : ReadsAtMost G begun after (2 * (last + 1 - first))
@@ -149,15 +155,15 @@ module _ {D : Type 0} (G : Ghosts D) where
     pub below : first < blocks_on device
     pub there : first + blocks_for (length (said form file)) ≤ blocks_on device
 
-  -- `upgrade`: the one device has become an image of the blocks that the image of layout 1 on the other means. That one was
-  -- recovered, and means the same.
+  -- `upgrade`: the one device has become an image of layout 2 of the blocks that the image of layout 1 on the other means. That one
+  -- was recovered, and means the same.
   pub record Upgrades (source source' device after : D) : Type 0 where
     pub reads : Becomes G source source'
-    pub old : IsTrue (G.keeps_model source) → StopsLeave G source source' (OldLeaves (blocks_on source) (G.disk source))
+    pub old : IsTrue (G.keeps_model source) → StopsLeave G source source' (OldLeaves (older.blocks_on G source) (G.disk source))
     pub goes : Becomes G device after
     pub stops : IsTrue (G.keeps_model source) → IsTrue (G.keeps_model device)
-        → StopsLeave G device after (MakingLeaves (blocks_on source) (meant_by source) (G.disk device))
-    pub new : IsTrue (G.keeps_model source) → IsTrue (G.keeps_model device) → LeavesBlocks after (meant_by source)
+        → StopsLeave G device after (MakingLeaves (older.blocks_on G source) (older.meant_by G source) (G.disk device))
+    pub new : IsTrue (G.keeps_model source) → IsTrue (G.keeps_model device) → older.LeavesBlocks G after (older.meant_by G source)
 
   -- The device was such a one, and has become this by what P says.
   abbrev pub Comes : (first : D → Type 0) (P : D → D → Type 0) (after : D) → Type 0

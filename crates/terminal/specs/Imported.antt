@@ -1,11 +1,10 @@
 -- Blocks of a store that were made those of a file.
 use Rattle.std.specs.Prelude.{◌≡◌, ◌⊎◌, ◌<◌, ◌≤◌, ◌+◌, ◌-◌, ◌*◌, ℕ, false, List, None, length}
 use Rattle.sector_disk.specs.declared.device.SectorDevice.{Ghosts}
-use Rattle.journal.specs.declared.store.Store.{Store}
+use Rattle.stores.specs.declared.store.Store.{Store}
 use Rattle.journal.specs.Calls.{StopsLeave}
-use Rattle.journal.specs.Images.{Means}
 use Rattle.journal.specs.Maps.{Maps, committed, latest, spilled}
-use Rattle.journal.specs.Store.{DeviceBegins, DeviceReads, StandsFor, blocks_of, closed_of, device_of, pending_count}
+use Rattle.stores.specs.Store.{DeviceBegins, DeviceReads, MeansBy, StandsFor, blocks_of, closed_of, device_of, pending_count}
 use Rattle.terminal.specs.Done.{SavesBlocks}
 use Rattle.terminal.specs.Findings.{blocks_for, refusal, said, told}
 use Rattle.terminal.specs.Transfer.{as_blocks, spilled_from}
@@ -46,6 +45,6 @@ module _ {D : Type 0} {G : Ghosts D} where
   -- A stop of an open store at any moment leaves the saved blocks, or these with all blocks that some such file says.
   abbrev pub LeavesImported : (form : Form) (b : ℕ) (old new : Store D G) → Type 0
   LeavesImported form b old new = (m : Maps) → StandsFor old m → m.closed ≡ false
-      → StopsLeave G (device_of old) (device_of new) (λ image. Means m.saved image
+      → StopsLeave G (device_of old) (device_of new) (λ image. MeansBy old m.saved image
       ⊎ ((file : List ℕ) × (refusal (told form (blocks_of old - b) file) ≡ None)
-      × Means (latest (spilled_from m b (as_blocks (said form file)))) image))
+      × MeansBy old (latest (spilled_from m b (as_blocks (said form file)))) image))

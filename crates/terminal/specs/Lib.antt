@@ -5,6 +5,7 @@ pub mod CommandRows
 pub mod InMemory
 pub mod Failures
 pub mod Done
+pub mod Older
 pub mod Copying
 pub mod Shown
 pub mod Files

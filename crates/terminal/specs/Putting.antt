@@ -1,11 +1,10 @@
 -- A text that was made a block of a store, whatever its bytes are.
 use Rattle.std.specs.Prelude.{◌≡◌, ◌⊎◌, ℕ, false, List, Some}
 use Rattle.sector_disk.specs.declared.device.SectorDevice.{Ghosts}
-use Rattle.journal.specs.declared.store.Store.{Store}
+use Rattle.stores.specs.declared.store.Store.{Store}
 use Rattle.journal.specs.Calls.{StopsLeave}
-use Rattle.journal.specs.Images.{Means}
 use Rattle.journal.specs.Maps.{Maps, committed, latest, spilled}
-use Rattle.journal.specs.Store.{StandsFor, device_of}
+use Rattle.stores.specs.Store.{MeansBy, StandsFor, device_of}
 use Rattle.terminal.specs.Done.{SavesBlock}
 use Rattle.terminal.specs.Screen.{screen_of}
 
@@ -19,4 +18,4 @@ module _ {D : Type 0} {G : Ghosts D} where
   pub record LeavesSome (old new : Store D G) (block : ℕ) : Type 0 where
     pub left : (m : Maps) → StandsFor old m → m.closed ≡ false
         → StopsLeave G (device_of old) (device_of new)
-        (λ image. Means m.saved image ⊎ ((bytes : List ℕ) × Means (latest (spilled m block bytes)) image))
+        (λ image. MeansBy old m.saved image ⊎ ((bytes : List ℕ) × MeansBy old (latest (spilled m block bytes)) image))

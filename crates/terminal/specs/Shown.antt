@@ -9,7 +9,8 @@ use Rattle.journal.specs.Maps.{contents}
 use Rattle.image_care.specs.Examined.{reads_to_list}
 use Rattle.recovery.specs.Label.{blocks_in}
 use Rattle.recovery.specs.Opened.{first_of, image_refusal}
-use Rattle.terminal.specs.Done.{DoneOn, ListsBlock, blocks_on, maps_on}
+use Rattle.terminal.specs.Done.{DoneOn, ListsBlock}
+use Rattle.terminal.specs.Older.{blocks_on, maps_on}
 use Rattle.terminal.specs.Failures.{of_image}
 use Rattle.terminal.specs.Screen.{listing}
 use Rattle.terminal.specs.declared.failure.Failure.{Failure}

@@ -9,7 +9,7 @@ ghost use Rattle.recovery.specs.Formatted.{MakingLeaves};
 ghost use Rattle.recovery.specs.Steps.{OnlyRead, WentWell};
 ghost use Rattle.image_care.specs.Copied.{copy_refusal, grown, salvage_refusal, salvaged_blocks};
 ghost use Rattle.terminal.specs.Copying.{Copied, Copies, Salvaged, Salvages, copied_count, count_for_copy, count_for_salvage, no_recovery, salvaged_count};
-ghost use Rattle.terminal.specs.Done.{LeavesBlocks};
+ghost use Rattle.terminal.specs.Older.{LeavesBlocks};
 ghost use Rattle.terminal.specs.Failures.{of_upgrade};
 ghost use Rattle.terminal.specs.Files.{IsMade, IsOpened};
 

@@ -4,7 +4,7 @@ ghost use Rattle.std.specs.Io.KnownBytes.{Appends};
 ghost use Rattle.arrayvec.specs.ArrayVec.{array_vec_len};
 ghost use Rattle.cell_machine.specs.Effects.{trimmed};
 ghost use Rattle.journal.specs.Maps.{Maps, contents};
-ghost use Rattle.journal.specs.Store.{StandsFor, DeviceFailed, DeviceWentWell, blocks_of, closed_of};
+ghost use Rattle.stores.specs.Store.{StandsFor, DeviceFailed, DeviceWentWell, blocks_of, closed_of};
 ghost use Rattle.terminal.specs.Screen.{shown};
 ghost use Rattle.terminal.specs.Transfer.{ReadsStore, exported, exported_text, exports, unpadded};
 
@@ -12,10 +12,10 @@ use super::failure::Failure;
 use super::orders::Form;
 use super::screen::{BLOCK, COLUMNS, LISTING, ROWS, add_line};
 use arrayvec::ArrayVec;
-use journal::Store;
 use sector_disk::SectorDevice;
 use sessions::streams::{flush, write_bytes};
 use std::io::Write;
+use stores::Store;
 
 /// Prints the blocks from `first` to `last`, one after another. Where one of them isn't there, nothing is printed.
 pub fn export_blocks<D: SectorDevice, W: Write>(

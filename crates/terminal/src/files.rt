@@ -1,7 +1,7 @@
 //! The commands over images that are files of a system: each gives back what it has opened or made.
 ghost use Rattle.std.specs.Prelude.{◌≡◌, ◌≢◌, ◌⊎◌, ◌<◌, ◌≤◌, ◌+◌, ◌*◌, ◌↔◌, true, OnOk, IfOk, IfErr, IsErrOf};
 ghost use Rattle.journal.specs.Layout.{sectors_for};
-ghost use Rattle.journal.specs.Store.{Continues, DeviceBegins, DeviceFailed, DeviceReads, blocks_of, closed_of, device_of, pending_count};
+ghost use Rattle.stores.specs.Store.{Continues, DeviceBegins, DeviceFailed, DeviceReads, blocks_of, closed_of, device_of, pending_count};
 ghost use Rattle.terminal.specs.Done.{Comes, Exports, ImportsBlocks, LooksAt, MakesBlank, PutsBlock, RunsSession, Upgraded};
 ghost use Rattle.terminal.specs.Files.{IsMade, IsOpened, OpensOn};
 ghost use Rattle.terminal.specs.Putting.{LeavesSome, PutsSome};
@@ -13,16 +13,16 @@ use super::importing::{import_file, read_blocks};
 use super::orders::Form;
 use super::program::run_session;
 use interpreter::promise::Lines;
-use journal::Store;
-use journal::layout::{MOST_BLOCKS, MOST_BLOCKS_1};
-use recovery::{blocks_of_size, upgrade};
+use journal::layout::MOST_BLOCKS_1;
+use recovery::upgrade;
 use sector_disk::{HostFile, HostFiles, SectorDevice, SectorFile, create_disk, open_disk};
 use sessions::Tracer;
 use std::alloc::Global;
 use std::fs::{File, Files};
 use std::io::{BufReader, Read, Write};
+use stores::{Store, blocks_of_size};
 
-/// Makes a file that is an image of blank blocks. Whatever has that name already stays as it is.
+/// Makes a file that is an image of blank blocks, of layout 2. Whatever has that name already stays as it is.
 pub fn make_image<H: HostFile + Drop, O: HostFiles<H>>(
     files: &O,
     path: &str,
@@ -166,7 +166,7 @@ pub fn check_import<H: HostFile + Drop, O: HostFiles<H>, E: Write>(
         (LooksAt ⟦<SectorFile<H> as SectorDevice>⟧ form first) disk) }
 {
     let disk = open_disk(files, path)?;
-    let Some(blocks) = blocks_of_size(disk.sectors(), MOST_BLOCKS) else {
+    let Some(blocks) = blocks_of_size(disk.sectors()) else {
         return Err(Failure::BadSize);
     };
     match read_blocks(rt, blocks, first, source, form, true, errors) {
@@ -191,7 +191,7 @@ pub fn upgrade_image<H: HostFile + Drop, O: HostFiles<H>>(
 {
     let mut source = open_disk(files, old)?;
     let sectors = source.sectors();
-    let Some(_) = blocks_of_size(sectors, MOST_BLOCKS_1) else {
+    let Some(_) = recovery::blocks_of_size(sectors, MOST_BLOCKS_1) else {
         return Err(Failure::BadSize);
     };
     let mut target = create_disk(files, new, sectors)?;

@@ -6,13 +6,13 @@ ghost use Rattle.arrayvec.specs.ArrayVec.{array_vec_len};
 ghost use Rattle.sector_disk.specs.Disk.{Image, MayLeave};
 ghost use Rattle.sector_disk.specs.Counting.{count_up};
 ghost use Rattle.journal.specs.Calls.{BeginsAtMost, ReadsAtMost, StopsLeave};
-ghost use Rattle.journal.specs.Images.{Means};
 ghost use Rattle.journal.specs.Maps.{Maps, contents, fresh, latest, spilled, committed, shut};
-ghost use Rattle.journal.specs.Store.{blocks_of, closed_of, device_of, disk_of, pending_count, StandsFor, DeviceBegins, DeviceReads};
-ghost use Rattle.journal.specs.Store.{Continues, DeviceFailed, KeepsSaved};
+ghost use Rattle.stores.specs.Store.{blocks_of, closed_of, device_of, disk_of, pending_count, MeansBy, StandsFor, DeviceBegins, DeviceReads};
+ghost use Rattle.stores.specs.Store.{Continues, DeviceFailed, KeepsSaved};
 ghost use Rattle.recovery.specs.Formatted.{blank_blocks};
-ghost use Rattle.recovery.specs.Label.{is_size, is_size_for};
-ghost use Rattle.recovery.specs.Opened.{image_refusal};
+ghost use Rattle.recovery.specs.Label.{is_size_for};
+ghost use Rattle.shadow.specs.Label.{is_known_size};
+ghost use Rattle.stores.specs.Opened.{image_refusal};
 ghost use Rattle.terminal.specs.Done.{ListsBlock, MakesBlank};
 ghost use Rattle.terminal.specs.Failures.{of_image};
 ghost use Rattle.terminal.specs.Files.{OpensAs};
@@ -23,16 +23,17 @@ use super::failure::Failure;
 use super::screen::{BLOCK, listing, screen_of};
 use arrayvec::ArrayVec;
 use interpreter::IoFault;
-use journal::{Store, StoreFault};
-use recovery::{format, open};
+use journal::StoreFault;
+use recovery::format;
 use sector_disk::SectorDevice;
 use sessions::streams::{flush, read_byte, write_bytes};
 use std::io::{Read, Write};
+use stores::{Store, open};
 
 /// One byte more than the longest text of a screen: each of its 16 lines has 64 bytes, a carriage return and a line feed.
 const TEXT_ROOM: usize = 1057;
 
-/// Makes a device an image of blank blocks. A failure hands the device back.
+/// Makes a device an image of blank blocks, of layout 2. A failure hands the device back.
 pub fn make_over<D: SectorDevice + Drop>(device: D, blocks: u16) -> Result<Store<D>, (Failure, D)>
     ensures made { IfOk result (λ store. MakesBlank D.SectorDevice blocks device (device_of store)) }
     ensures stands { IsTrue (D.keeps_model device) → IfOk result (λ store. StandsFor store (fresh (blank_blocks blocks))) }
@@ -45,7 +46,7 @@ pub fn make_over<D: SectorDevice + Drop>(device: D, blocks: u16) -> Result<Store
     ensures device { IfErr result (λ e. e.0 ≡ Failure.Device → D.failures e.1 ≡ count_up (D.failures device)) }
 {
     match format(device, blocks) {
-        Ok(store) => Ok(store),
+        Ok(store) => Ok(Store::from(store)),
         Err((fault, device)) => Err((Failure::from(fault), device)),
     }
 }
@@ -60,7 +61,7 @@ pub fn open_over<D: SectorDevice + Drop>(device: D) -> Result<Store<D>, (Failure
         (λ _. image_refusal (D.sector_count device) (D.disk device).content ≡ None)
         (λ e. (e.0 ≡ Failure.Device) ⊎ (Some e.0 ≡ option_map of_image
         (image_refusal (D.sector_count device) (D.disk device).content))) }
-    ensures bad_size { IfErr result (λ e. MatchBool (is_size (D.sector_count device))
+    ensures bad_size { IfErr result (λ e. MatchBool (is_known_size (D.sector_count device))
         (e.0 ≢ Failure.BadSize) (e.0 ≡ Failure.BadSize)) }
     // A fault of the device is told just where one of its calls failed.
     ensures device { IfErr result (λ e. e.0 ≡ Failure.Device → D.failures e.1 ≡ count_up (D.failures device)) }
@@ -138,14 +139,14 @@ pub fn put_text<D: SectorDevice, R: Read>(
     ensures ok { (m : Maps) (input : List ℕ) → StandsFor store.old m → R.remaining text.old ≡ Some input
         → OnOk result ((bytes : List ℕ) × (screen_of input ≡ Some bytes)
         × StandsFor store.new (committed (spilled m block bytes))
-        × ((image : Image) → MayLeave (disk_of store.new) image → Means (latest (spilled m block bytes)) image)) }
+        × ((image : Image) → MayLeave (disk_of store.new) image → MeansBy store.new (latest (spilled m block bytes)) image)) }
     ensures refused { IfErr result (λ e. e ≡ Failure.NotAScreen → (input : List ℕ)
         → R.remaining text.old ≡ Some input → screen_of input ≡ None) }
     ensures unread { IfErr result (λ e. e ≢ Failure.Device → store.new ≡ store.old) }
     ensures others { IfErr result (λ e. e ≢ Failure.NoBlock) }
     ensures stops { (m : Maps) (input : List ℕ) → StandsFor store.old m → m.closed ≡ false → R.remaining text.old ≡ Some input
-        → StopsLeave D.SectorDevice (device_of store.old) (device_of store.new) (λ image. Means m.saved image
-        ⊎ ((bytes : List ℕ) × (screen_of input ≡ Some bytes) × Means (latest (spilled m block bytes)) image)) }
+        → StopsLeave D.SectorDevice (device_of store.old) (device_of store.new) (λ image. MeansBy store.old m.saved image
+        ⊎ ((bytes : List ℕ) × (screen_of input ≡ Some bytes) × MeansBy store.old (latest (spilled m block bytes)) image)) }
     // Whatever the text is, it is one save of one block.
     ensures some { OnOk result (PutsSome store.old store.new block) }
     ensures kept { LeavesSome store.old store.new block }
@@ -194,10 +195,10 @@ fn put_block<D: SectorDevice>(
     ensures ok { (m : Maps) → StandsFor store.old m
         → OnOk result (StandsFor store.new (committed (spilled m block bytes.now))) }
     ensures after { (m : Maps) → StandsFor store.old m → OnOk result ((image : Image)
-        → MayLeave (disk_of store.new) image → Means (latest (spilled m block bytes.now)) image) }
+        → MayLeave (disk_of store.new) image → MeansBy store.new (latest (spilled m block bytes.now)) image) }
     ensures stops { (m : Maps) → StandsFor store.old m → m.closed ≡ false
         → StopsLeave D.SectorDevice (device_of store.old) (device_of store.new)
-        (λ image. Means m.saved image ⊎ Means (latest (spilled m block bytes.now)) image) }
+        (λ image. MeansBy store.old m.saved image ⊎ MeansBy store.old (latest (spilled m block bytes.now)) image) }
     ensures continues { Continues store.old store.new }
     ensures begins { DeviceBegins store.old store.new (2 * pending_count store.old + 7) 4 }
     ensures reads { DeviceReads store.old store.new (4 * pending_count store.old + 4) }

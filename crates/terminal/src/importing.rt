@@ -2,9 +2,8 @@
 ghost use Rattle.std.specs.Prelude.{◌≡◌, ◌≢◌, ◌⊎◌, ◌<◌, ◌≤◌, ◌+◌, ◌-◌, ◌*◌, ◌++◌, ℕ, List, Some, None, length, take, drop, replicate, true, false, OnOk, IfErr, IfOk, MatchResult, vec_len};
 ghost use Rattle.std.specs.Io.KnownBytes.{Consumes, IsAtEnd};
 ghost use Rattle.journal.specs.Calls.{StopsLeave};
-ghost use Rattle.journal.specs.Images.{Means};
 ghost use Rattle.journal.specs.Maps.{Maps, latest};
-ghost use Rattle.journal.specs.Store.{Continues, DeviceBegins, DeviceFailed, DeviceReads, DeviceWentWell, KeepsSaved, StandsFor, blocks_of, closed_of, device_of, pending_count};
+ghost use Rattle.stores.specs.Store.{Continues, DeviceBegins, DeviceFailed, DeviceReads, DeviceWentWell, KeepsSaved, MeansBy, StandsFor, blocks_of, closed_of, device_of, pending_count};
 ghost use Rattle.terminal.specs.Findings.{blocks_for, refusal, said, told};
 ghost use Rattle.terminal.specs.Imported.{Imports, ImportsSome, LeavesImported, Spills, SpillsNext};
 ghost use Rattle.terminal.specs.Transfer.{as_blocks, block_of, spilled_from};
@@ -14,12 +13,12 @@ use super::findings::{Finding, Screens, read_screens, refusal};
 use super::orders::Form;
 use super::screen::{BLOCK, add_blanks};
 use arrayvec::ArrayVec;
-use journal::Store;
 use sector_disk::SectorDevice;
 use sessions::streams::read_byte;
 use std::alloc::Global;
 use std::fs::{File, Files};
 use std::io::{BufReader, Read, Write};
+use stores::Store;
 
 /// The bytes of the longest text for an image: 61,440 lines of 64 bytes, a carriage return and a line feed.
 const MOST_BYTES: usize = 4_055_040;
@@ -131,8 +130,8 @@ fn import_bytes<D: SectorDevice>(
     requires there { first + blocks_for (length bytes.now) ≤ blocks_of store.old }
     ensures imported { OnOk result (Imports first (as_blocks bytes.now) store.old store.new) }
     ensures kept { (m : Maps) → StandsFor store.old m → m.closed ≡ false
-        → StopsLeave D.SectorDevice (device_of store.old) (device_of store.new) (λ image. Means m.saved image
-        ⊎ Means (latest (spilled_from m first (as_blocks bytes.now))) image) }
+        → StopsLeave D.SectorDevice (device_of store.old) (device_of store.new) (λ image. MeansBy store.old m.saved image
+        ⊎ MeansBy store.old (latest (spilled_from m first (as_blocks bytes.now))) image) }
     ensures only { IfErr result (λ e. e ≡ Failure.Device) }
     ensures device { IfErr result (λ e. (closed_of store.old ≡ true) ⊎ DeviceFailed store.old store.new) }
     ensures continues { Continues store.old store.new }

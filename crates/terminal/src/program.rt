@@ -2,7 +2,7 @@
 ghost use Rattle.std.specs.Prelude.{◌≡◌, ◌≢◌, ◌⊎◌, ◌<◌, List, [], map, Err, IsOk, IsErr, IfOk, IfErr, IsErrOf, MatchResult, OnOk};
 ghost use Rattle.clap.specs.Words.{fault_of, kind_of};
 ghost use Rattle.journal.specs.Maps.{Maps};
-ghost use Rattle.journal.specs.Store.{StandsFor, device_of};
+ghost use Rattle.stores.specs.Store.{StandsFor, device_of};
 ghost use Rattle.block_words.specs.Words.{Save};
 ghost use Rattle.interpreter.specs.State.{Forth as Abstract};
 ghost use Rattle.interpreter.specs.Lines.{new_forth};
@@ -29,7 +29,6 @@ use clap::error::ErrorKind;
 use image_care::ReadingFiles;
 use interpreter::Memory;
 use interpreter::promise::Lines;
-use journal::Store;
 use recovery::format;
 use sector_disk::{FileDisk, HostFile, HostFiles, MemoryDisk, SectorDevice, SectorFile, StdFiles};
 use sessions::{Tracer, Traces, Untraced, run_over_traced};
@@ -37,6 +36,7 @@ use std::alloc::Global;
 use std::convert::AsStr;
 use std::fs::{File, Files};
 use std::io::{Read, Write};
+use stores::Store;
 
 /// How many steps a line may take over blocks in memory.
 const STEPS: u32 = 1_000_000;
@@ -214,7 +214,7 @@ fn run_in_memory<M: Lines<MemoryDisk>, R: Read, W: Write>(
         Ok(disk) => match format(disk, BLOCKS) {
             Ok(store) => closed(run_session::<MemoryDisk, M, R, W, Untraced>(
                 rt.alloc(),
-                store,
+                Store::from(store),
                 STEPS,
                 input,
                 output,

@@ -2,13 +2,13 @@
 use crate::image::with_block;
 use crate::report::{Report, past_same_lines};
 use interpreter::{Forth, Memory};
-use journal::Store;
 use recovery::open;
 use sector_disk::{Counts, Fused, MemoryDisk};
 use sessions::run_over;
 use std::alloc::Global;
 use std::io;
 use std::io::{Error, ErrorKind};
+use stores::Store;
 
 /// Which calls of the device fail.
 #[derive(Clone, Copy)]
@@ -153,7 +153,7 @@ impl Session {
         let mut input = self.input.as_bytes();
         let (store, end) = run_over::<_, Forth<Fused<MemoryDisk>>, _, _>(
             Memory::new(alloc)?,
-            Store::adopt(device, blocks),
+            Store::from(journal::Store::adopt(device, blocks)),
             self.steps.max(1),
             &mut input,
             written,

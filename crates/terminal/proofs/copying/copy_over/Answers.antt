@@ -1,5 +1,4 @@
-use Rattle.std.proofs.Common.{◌∙◌, inl, inr, sym}
-use Rattle.image_care.specs.Copied.{copy_refusal}
+use Rattle.std.proofs.Common.{◌∙◌, sym}
 use Rattle.terminal.proofs.Copies.{copied, either_failed, no_new_device, no_old_device, told_device, told_first}
 use Rattle.terminal.proofs.copying.copy_over.Goals as goal
 

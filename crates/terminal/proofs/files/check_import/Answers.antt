@@ -1,12 +1,12 @@
 use Rattle.std.proofs.Common.{◌≡◌, ◌∙◌, ◌+◌, ◌-◌, ◌<◌, ◌≤◌, ℕ, List, None, ap, length, refl, subst}
-use Rattle.recovery.specs.Label.{blocks_in}
+use Rattle.shadow.specs.Upgraded.{known_blocks}
 use Rattle.terminal.specs.Findings.{blocks_for, refusal, said, told}
 use Rattle.terminal.proofs.files.check_import.Goals as goal
 
 pub returns-in-Ok : goal.returns-in-Ok
 returns-in-Ok g c =
     let disk = c.in_ok-disk.disk in
-    let are : c.in-Some.blocks ≡ blocks_in disk.sectors = c.in-Some.ensures.count ∙ ap blocks_in c.sectors.ensures in
+    let are : c.in-Some.blocks ≡ known_blocks disk.sectors = c.in-Some.ensures.count ∙ ap known_blocks c.sectors.ensures in
     let read = c.in-Ok.ensures.said in
     record {
       looked = (

@@ -1,7 +1,8 @@
-use Rattle.std.proofs.Common.{inl, arith}
+use Rattle.std.proofs.Common.{◌⊎◌, inl, subst, arith}
 use Rattle.terminal.proofs.Pending.{spilled_one}
 use Rattle.sector_disk.proofs.Moments.{leaves_then}
-use Rattle.journal.specs.Maps.{spilled}
+use Rattle.journal.specs.Maps.{latest, spilled}
+use Rattle.stores.specs.Images.{Means}
 use Rattle.terminal.proofs.images.put_block.Goals as goal
 
 pub returns-in-Ok-clause-ok : goal.returns-in-Ok-clause-ok
@@ -12,10 +13,11 @@ returns-in-Ok-clause-after g c = λ m stands. c.commit.ensures.after (spilled m 
 
 pub returns-in-Ok-clause-stops : goal.returns-in-Ok-clause-stops
 returns-in-Ok-clause-stops g c = λ m stands live.
+    let next = latest (spilled m c.args.block c.args.bytes.now) in
     leaves_then g.D.SectorDevice.time g.D.SectorDevice.left_since _ _ _ _ _ _ c.in-Ok.ensures.continues.time c.commit.ensures.continues.time
     (c.in-Ok.ensures.stops m stands live)
     (c.commit.ensures.stops (spilled m c.args.block c.args.bytes.now) (c.in-Ok.ensures.ok m stands) live)
-    (λ image old. inl old) (λ image either. either)
+    (λ image old. inl old) (λ image either. subst (λ n. Means n m.saved image ⊎ Means n next image) c.in-Ok.ensures.continues.sectors either)
 
 pub returns-in-Ok-clause-begins : goal.returns-in-Ok-clause-begins
 returns-in-Ok-clause-begins g c =

@@ -1,4 +1,4 @@
-use Rattle.std.proofs.Common.{◌≡◌, ◌≤◌, ◌+◌, ◌++◌, length}
+use Rattle.std.proofs.Common.{◌≡◌, ◌+◌, ◌++◌, length}
 use Rattle.arrayvec.specs.ArrayVec.{array_vec_len}
 use Rattle.terminal.proofs.importing.filled.Given as goal
 

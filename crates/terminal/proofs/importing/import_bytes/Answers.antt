@@ -1,4 +1,4 @@
-use Rattle.std.proofs.Common.{◌∙◌, Err, ap, inl, arith}
+use Rattle.std.proofs.Common.{Err, ap, arith}
 use Rattle.terminal.specs.Transfer.{as_blocks, spilled_from}
 use Rattle.terminal.proofs.Saving.{fails_then, saves_then}
 use Rattle.terminal.proofs.importing.import_bytes.Goals as goal

@@ -1,6 +1,6 @@
 use Rattle.std.proofs.Common.{◌≡◌, ◌∙◌, ◌+◌, ◌-◌, ◌<◌, ◌≤◌, ℕ, List, None, inl, inr, ⊎_elim, length, subst}
 use Rattle.std.proofs.lemmas.Result.{on_ok_weaker}
-use Rattle.journal.specs.Images.{Means}
+use Rattle.stores.specs.Store.{MeansBy}
 use Rattle.journal.specs.Maps.{latest}
 use Rattle.terminal.specs.Findings.{blocks_for, refusal, said, told}
 use Rattle.terminal.specs.Imported.{Imports}
@@ -30,7 +30,7 @@ returns-in-Ok-clause-kept g c = λ m stands live image left.
     (λ new. inr (
       read.0,
       subst (λ (n : ℕ). refusal (told c.args.form (n - c.args.first) read.0) ≡ None) c.blocks-2.ensures.value read.1,
-      subst (λ (l : List ℕ). Means (latest (spilled_from m c.args.first (as_blocks l))) image) is new,
+      subst (λ (l : List ℕ). MeansBy c.args.store.now (latest (spilled_from m c.args.first (as_blocks l))) image) is new,
     ))
     (c.import_bytes.ensures.kept m stands live image left)
 

@@ -1,12 +1,12 @@
-use Rattle.std.proofs.Common.{◌≡◌, ◌∙◌, ◌+◌, ◌-◌, ◌<◌, ◌++◌, ◌∷◌, [], ℕ, List, length, length-append, append-nil, append_assoc, refl, ap, sym, subst, arith}
+use Rattle.std.proofs.Common.{◌≡◌, ◌∙◌, ◌+◌, ◌<◌, ◌++◌, ◌∷◌, [], length, length-append, append-nil, append_assoc, refl, ap, sym, subst, arith}
 use Rattle.std.proofs.lemmas.Grind.{common_steps}
 use Rattle.sector_disk.proofs.Moments.{elapses_refl}
 use Rattle.block_words.proofs.Saves.{continues_then}
 use Rattle.journal.specs.Maps.{spilled}
-use Rattle.journal.specs.Store.{StandsFor}
+use Rattle.stores.specs.Store.{StandsFor, device_of}
 use Rattle.terminal.specs.Imported.{Spills}
 use Rattle.terminal.specs.Transfer.{as_blocks, block_of, spilled_from}
-use Rattle.terminal.proofs.Saving.{blocks_done, blocks_next, keeps_none, keeps_then, length_blocks, none_left, spilled_more}
+use Rattle.terminal.proofs.Saving.{blocks_done, blocks_next, keeps_none, keeps_then, none_left, spilled_more}
 use Rattle.terminal.proofs.importing.spill_blocks.Goals as goal
 
 pub loop-block-init : goal.loop-block-init
@@ -21,8 +21,9 @@ loop-block-init g c = record {
   stops = keeps_none g.met.D.SectorDevice.only_now c.args.store.now;
   continues = record {
     blocks = refl;
+    sectors = refl;
     model = refl;
-    time = elapses_refl g.D.SectorDevice.time g.D.SectorDevice.left_since c.args.store.now.device;
+    time = elapses_refl g.D.SectorDevice.time g.D.SectorDevice.left_since (device_of c.args.store.now);
     failures = omega arith;
   };
   begins = record { few_writes = omega arith; few_syncs = omega arith };
@@ -75,7 +76,7 @@ loop-block-preserved g c =
       well = c.in_ok-left.ensures.well ∙ inv.well;
       stops = keeps_then c.args.store.now c.loop-block.store new c.args.first inv.done inv.continues c.spill_next.ensures.continues
           inv.stands inv.stops c.spill_next.ensures.stops;
-      continues = continues_then c.args.store.now c.loop-block.store new (g.met.D.SectorDevice.widens new.device) inv.continues c.spill_next.ensures.continues;
+      continues = continues_then c.args.store.now c.loop-block.store new (g.met.D.SectorDevice.widens (device_of new)) inv.continues c.spill_next.ensures.continues;
       begins = record {
         few_writes = omega (arith, count, inv.begins.few_writes, c.spill_next.ensures.begins.few_writes);
         few_syncs = omega (arith, inv.begins.few_syncs, c.spill_next.ensures.begins.few_syncs);

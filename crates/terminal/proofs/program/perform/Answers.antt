@@ -1,4 +1,4 @@
-use Rattle.journal.specs.Store.{device_of}
+use Rattle.stores.specs.Store.{device_of}
 use Rattle.terminal.proofs.Closing.{done_of}
 use Rattle.terminal.proofs.program.perform.Goals as goal
 
