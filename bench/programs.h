@@ -54,6 +54,45 @@ static uint16_t sieve_code[] = {
 };
 static const struct word sieve_words[] = {{0, 8190}, {0, 1280}, {1, 0}, {1, 47}};
 
+// 200 CONSTANT SIZE  CREATE ITEMS 400 ALLOT
+// : FILLED 12345 SIZE 0 DO 25173 * 13849 + DUP I DUP + ITEMS + ! LOOP DROP ;
+// : PASS ITEMS SWAP 0 DO
+//     DUP @ OVER 2+ @ OVER OVER > IF ROT SWAP OVER ! SWAP OVER 2+ ! ELSE DROP DROP THEN 2+ LOOP DROP ;
+// : SORTED FILLED SIZE 1- 0 DO SIZE 1- I - PASS LOOP ;
+// : CHECKED 0 SIZE 1- 0 DO ITEMS I DUP + + DUP @ SWAP 2+ @ > + LOOP ITEMS SIZE + @ + ;
+// : TURNS n 0 DO SORTED LOOP SORTED CHECKED ;
+static uint16_t sort_code[] = {
+    LITERAL, 12345, 133, LITERAL, 0, DO, LITERAL, 25173, 2, LITERAL, 13849, 5, 36, 40, 36, 5, 134, 5, 1, LOOP, 6, 35,
+    END,
+    134, 54, LITERAL, 0, DO, 36, 23, 48, 15, 23, 48, 48, 20, TEST, 48, 53, 54, 48, 1, 54, 48, 15, 1, JUMP, 50, 35,
+    35, 15, LOOP, 28, 35, END,
+    135, 133, 14, LITERAL, 0, DO, 133, 14, 40, 7, 136, LOOP, 61, END,
+    LITERAL, 0, 133, 14, LITERAL, 0, DO, 134, 40, 36, 5, 5, 36, 23, 54, 15, 23, 20, 5, LOOP, 76, 134, 133, 5, 23, 5,
+    END,
+    LITERAL, 1, LITERAL, 0, DO, 137, LOOP, 101, 137, 138, END,
+};
+static const struct word sort_words[] = {{0, 200}, {0, 1280}, {1, 0}, {1, 23}, {1, 55}, {1, 69}, {1, 96}};
+
+// 20 CONSTANT SIZE  40 CONSTANT ROW  CREATE A 800 ALLOT  CREATE B 800 ALLOT  CREATE C 800 ALLOT
+// : FILLED 400 0 DO I 7 AND I DUP + A + ! I 5 AND I DUP + B + ! LOOP ;
+// : DOT 0 SIZE 0 DO >R OVER @ OVER @ * R> + ROT 2+ ROT ROW + ROT LOOP >R DROP DROP R> ;
+// : LINE SIZE 0 DO OVER B I DUP + + DOT OVER ! 2+ LOOP DROP DROP ;
+// : MULTIPLIED SIZE 0 DO A ROW I * + C ROW I * + LINE LOOP ;
+// : SUM 0 400 0 DO I DUP + C + @ + LOOP ;
+// : TURNS FILLED n 0 DO MULTIPLIED LOOP MULTIPLIED SUM ;
+static uint16_t matrix_code[] = {
+    LITERAL, 400, LITERAL, 0, DO, 40, LITERAL, 7, 25, 40, 36, 5, 135, 5, 1, 40, LITERAL, 5, 25, 40, 36, 5, 136, 5, 1,
+    LOOP, 5, END,
+    LITERAL, 0, 133, LITERAL, 0, DO, 21, 48, 23, 48, 23, 2, 50, 5, 53, 15, 53, 134, 5, 53, LOOP, 34, 21, 35, 35, 50,
+    END,
+    133, LITERAL, 0, DO, 48, 136, 40, 36, 5, 5, 139, 48, 1, 15, LOOP, 59, 35, 35, END,
+    133, LITERAL, 0, DO, 135, 134, 40, 2, 5, 137, 134, 40, 2, 5, 140, LOOP, 78, END,
+    LITERAL, 0, LITERAL, 400, LITERAL, 0, DO, 40, 36, 5, 137, 5, 23, 5, LOOP, 99, END,
+    138, LITERAL, 1, LITERAL, 0, DO, 141, LOOP, 115, 141, 142, END,
+};
+static const struct word matrix_words[] = {{0, 20}, {0, 40}, {0, 1280}, {0, 2080}, {0, 2880}, {1, 0},
+                                           {1, 28}, {1, 55}, {1, 74}, {1, 92}, {1, 109}};
+
 #define PROGRAM(name, turns, result)                                                                                   \
     {                                                                                                                  \
         #name, name##_code, sizeof name##_code / sizeof name##_code[0], name##_words,                                  \
@@ -64,4 +103,6 @@ static const struct program programs[] = {
     PROGRAM(calls, 20, 8000),
     PROGRAM(fib, 16, 6765),
     PROGRAM(sieve, 48, 1899),
+    PROGRAM(sort, 97, 64483),
+    PROGRAM(matrix, 111, 6064),
 };

@@ -100,4 +100,6 @@ loop 2 4 200
 calls 10 20 300
 fib 1 2 20
 sieve 1 2 15
+sort 1 2 10
+matrix 1 2 20
 END

@@ -29,6 +29,19 @@ static const char *sources[][2] = {
               "FLAGS I + C@ IF I DUP + 3 + DUP I + "
               "BEGIN DUP SIZE < WHILE 0 OVER FLAGS + C! OVER + REPEAT DROP DROP 1+ THEN LOOP ; "
               ": TURNS %d 0 DO SIEVE DROP LOOP SIEVE ;"},
+    {"sort", "SIZE-IS 200 CREATE ITEMS 400 : FILLED 12345 SIZE 0 DO 25173 * 13849 + DUP I DUP + ITEMS + ! LOOP DROP ; "
+             ": PASS ITEMS SWAP 0 DO DUP @ OVER 2+ @ OVER OVER > IF ROT SWAP OVER ! SWAP OVER 2+ ! "
+             "ELSE DROP DROP THEN 2+ LOOP DROP ; "
+             ": SORTED FILLED SIZE 1- 0 DO SIZE 1- I - PASS LOOP ; "
+             ": CHECKED 0 SIZE 1- 0 DO ITEMS I DUP + + DUP @ SWAP 2+ @ > + LOOP ITEMS SIZE + @ + ; "
+             ": TURNS %d 0 DO SORTED LOOP SORTED CHECKED ;"},
+    {"matrix", "SIZE-IS 20 ROW-IS 40 CREATE A 800 CREATE B 800 CREATE C 800 "
+               ": FILLED 400 0 DO I 7 AND I DUP + A + ! I 5 AND I DUP + B + ! LOOP ; "
+               ": DOT 0 SIZE 0 DO >R OVER @ OVER @ * R> + ROT 2+ ROT ROW + ROT LOOP >R DROP DROP R> ; "
+               ": LINE SIZE 0 DO OVER B I DUP + + DOT OVER ! 2+ LOOP DROP DROP ; "
+               ": MULTIPLIED SIZE 0 DO A ROW I * + C ROW I * + LINE LOOP ; "
+               ": SUM 0 400 0 DO I DUP + C + @ + LOOP ; "
+               ": TURNS FILLED %d 0 DO MULTIPLIED LOOP MULTIPLIED SUM ;"},
 };
 
 static uint64_t now(void) {
@@ -45,7 +58,7 @@ int main(int argc, char **argv) {
     for (size_t i = 0; argc == 4 && i < sizeof sources / sizeof sources[0]; i++) {
         if (strcmp(argv[2], sources[i][0]) != 0)
             continue;
-        char text[600];
+        char text[900];
         snprintf(text, sizeof text, sources[i][1], atoi(argv[3]));
         struct outcome outcome = {1000000000, 0, 0};
         uint16_t cells[1] = {0};

@@ -31,3 +31,4 @@ pub mod Wides
 pub mod Stores
 pub mod Standing
 pub mod Called
+pub mod Fusing
