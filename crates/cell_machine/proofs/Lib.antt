@@ -32,3 +32,5 @@ pub mod Stores
 pub mod Standing
 pub mod Called
 pub mod Fusing
+pub mod Executing
+pub mod Due

@@ -2,9 +2,11 @@
 use Rattle.std.proofs.Common.{◌≡◌, ℕ, zero, suc, ◌+◌, ◌*◌, ◌<◌, ◌≤◌, List, [], ◌∷◌, Option, Some, None, Result, Ok, Err, refl, sym, ap, subst, ◌∙◌, arith}
 use Rattle.dictionary.specs.Words.{Kind, Primitive, Colon, Created, Constant, Vocabulary, entry}
 use Rattle.compiler.specs.Definition.{Body}
-use Rattle.std.specs.Prelude.{Bool, true, false, nat_lt, length}
+use Rattle.std.specs.Prelude.{Bool, true, false, not, nat_lt, ◌==◌, length, option_map}
+use Rattle.std.proofs.lemmas.Bool.{eqb-true}
+use Rattle.dictionary.specs.System.{is_marked_only}
 use Rattle.cell_machine.specs.Limits.{data_cells, return_units}
-use Rattle.cell_machine.specs.Fault.{StackFull, ReturnStack, Quits}
+use Rattle.cell_machine.specs.Fault.{StackFull, ReturnStack, Token, Quits}
 use Rattle.cell_machine.specs.Tree.{Prints, AbortsWith, Trees, End, Lit, Call, Text, If, Until, While, Loop, Leave, Exit, Compile, append}
 use Rattle.cell_machine.specs.declared.event.Op.{Op}
 use Rattle.cell_machine.specs.declared.event.Op.TheVariants as op
@@ -13,11 +15,10 @@ use Rattle.stacks.specs.declared.return_stack.Entry.{Entry}
 use Rattle.lexicon.specs.Falling.{fall_of, Paid}
 use Rattle.interpreter.specs.FreeServices.{WhereFree}
 use Rattle.system_words.specs.declared.words.Meaning.{Meaning as RowMeaning}
-use Rattle.system_words.specs.declared.words.Meaning.TheVariants.{Runs, Asks, Exits, Marks}
-use Rattle.system_words.specs.declared.words.Service.{Service}
-use Rattle.system_words.specs.Rows.{meaning_of as meaning_at}
-use Rattle.cell_machine.specs.Frames.{Core, Around, Level, Due, Word, Next, Goes, Asked, Finished, Stopped, around_of, need, push, on_next}
-use Rattle.cell_machine.specs.Value.{Ends, Serve, body_value}
+use Rattle.system_words.specs.declared.words.Mark.{Mark}
+use Rattle.system_words.specs.Rows.{rows, at_token, meaning_of as meaning_at}
+use Rattle.cell_machine.specs.Frames.{Core, Around, Level, Due, Word, Next, Goes, Asked, Finished, Stopped, around_of, charge, need, push, machine_word, own_or, on_next}
+use Rattle.cell_machine.specs.Value.{Outcome, Did, Ends, Serve, body_value, word_value}
 use Rattle.cell_machine.specs.Effects.{Item}
 use Rattle.cell_machine.specs.Frames.{Turning, Frame, Once, Load, Print, AbortWith, Add, Give, in_body, step, step_end, step_trees, step_leave, nothing_aside}
 use Rattle.cell_machine.proofs.Rules.{need-rel, charge-rel, push-rel, test-rel, do_word-rel, do_loop-rel, end_loop-rel, leave_loop-rel, nothing_aside-rel, do_text-rel}
@@ -25,20 +26,24 @@ use Rattle.interpreter.specs.declared.fault.Stop.{Stop}
 use Rattle.interpreter.specs.declared.interpreting.Round.{Round}
 use Rattle.interpreter.specs.declared.interpreting.Round.TheVariants.{GoesOn, Over}
 use Rattle.cell_machine.specs.Calling.{Meaning, Outside, GivesCell, RunsBody, RunsPart, with_body, call, or_call, calling_step, calling_steps}
-use Rattle.cell_machine.specs.Served.{by_meaning, ServesAsMeant}
+use Rattle.cell_machine.specs.Served.{by_meaning, executed_as, executed, as_meant, ServesAsMeant}
+use Rattle.cell_machine.specs.Layout.{execute_token}
+use Rattle.cell_machine.specs.Events.{core_of}
+use Rattle.cell_machine.proofs.Due.{due_has}
 use Rattle.cell_machine.proofs.Keeps.{step_keeps}
 use Rattle.cell_machine.proofs.Served.{calling_keeps}
 use Rattle.cell_machine.proofs.Same.{body_value-same}
 use Rattle.interpreter.specs.State.{World, Part, ForthWord, needing}
-use Rattle.interpreter.specs.Text.{serve, text, back, service_of, due_word, user_kind, user_word}
+use Rattle.interpreter.specs.Text.{serve, text, back, service_of, may_execute, due_word, user_kind, user_word}
 use Rattle.interpreter.specs.Law.{left, next}
 use Rattle.lexicon.specs.declared.language.Lexicon.{Lexicon}
 use Rattle.lexicon.specs.Language.{Language}
 use Rattle.lexicon.specs.Stands.{Stands as Means}
-use Rattle.lexicon.specs.Laws.{ServicesAreOutside}
+use Rattle.lexicon.specs.Laws.{SystemWordsAreOutside}
 use Rattle.lexicon.specs.Running.{meanings, meaning_of, word_meaning, AsksFor}
 use Rattle.interpreter.specs.Lexicon.{language_of, IsDue}
 use Rattle.interpreter.specs.RoundContract.{IsAtText, Decreases}
+use Rattle.interpreter.proofs.Entering.{may_word}
 use Rattle.interpreter.proofs.Frugal.{serve-frugal}
 use Rattle.interpreter.proofs.Same.{serve_agrees}
 
@@ -115,31 +120,85 @@ module _ (n w : ℕ) (a : Around) (c : Core) (x : World) (small : c.steps ≤ n)
   word_meant None e = e
   word_meant (Some word) e = kind_meant word.kind e
 
-  due_meant : (s : Option Service) → service_of (meaning_at w) ≡ s → ((s : Service) → service_of (meaning_at w) ≡ Some s → meanings (language_of x) w ≡ Outside)
-      → due_word (suc n) inner w s a c x ≡ by_meaning (suc n) all (meanings (language_of x) w) w a c x
-  due_meant (Some s) is system =
-      ap (λ o. due_word (suc n) inner w o a c x) (sym is) ∙ ap (λ m. by_meaning (suc n) all m w a c x) (sym (system s is))
-  due_meant None is system = word_meant (entry x.words w) (ap (λ o. due_word (suc n) inner w o a c x) (sym is))
+  due_meant : (o : Option (Mark × RowMeaning)) → at_token rows w ≡ o → ((row : Mark × RowMeaning) → at_token rows w ≡ Some row → meanings (language_of x) w ≡ Outside)
+      → all a (Word w) c x ≡ by_meaning (suc n) all (meanings (language_of x) w) w a c x
+  due_meant (Some row) is system = ap (λ m. by_meaning (suc n) all m w a c x) (sym (system row is))
+  due_meant None is system =
+      let no_service : service_of (meaning_at w) ≡ None = ap (λ o. service_of (option_map (λ row. row.1) o)) is in
+      let user : all a (Word w) c x ≡ user_word (suc n) inner w (entry x.words w) a c x = ap (λ s. due_word (suc n) inner w s a c x) no_service in
+      user ∙ word_meant (entry x.words w) (sym user)
 
-pub serves_as_meant : (n : ℕ) (x : World) → ((w : ℕ) (s : Service) → service_of (meaning_at w) ≡ Some s → meanings (language_of x) w ≡ Outside)
+-- and EXECUTE does the word on the data stack as that is meant
+module _ (n : ℕ) (a : Around) (x : World) (system : (w : ℕ) (row : Mark × RowMeaning) → at_token rows w ≡ Some row → meanings (language_of x) w ≡ Outside) where
+  abbrev below : Serve World
+  below a due c x = serve n a due c x
+
+  abbrev every : Serve World
+  every a due c x = serve (suc n) a due c x
+
+  meant : (w : ℕ) (c : Core) → c.steps ≤ n → every a (Word w) c x ≡ by_meaning (suc n) every (meanings (language_of x) w) w a c x
+  meant w c h = due_meant n w a c x h (at_token rows w) refl (system w)
+
+  -- a word that can be called is there, and has no row
+  is_there : (w : ℕ) (words : List ForthWord) → (word_meaning (entry words w) ≡ Outside → ⊥) → (0 < w) × (w ≤ length words)
+  is_there zero words inside = absurd (inside refl)
+  is_there (suc k) words inside = (omega arith, there k words inside)
+    where
+      there : (k : ℕ) (words : List ForthWord) → (word_meaning (entry words (suc k)) ≡ Outside → ⊥) → suc k ≤ length words
+      there k [] inside = absurd (inside refl)
+      there zero (v ∷ words) inside = omega arith
+      there (suc k) (v ∷ words) inside = let b = there k words inside in omega (arith, b)
+
+  no_row : (w : ℕ) (o : Option (Mark × RowMeaning)) → at_token rows w ≡ o → (meanings (language_of x) w ≡ Outside → ⊥) → at_token rows w ≡ None
+  no_row w (Some row) is inside = absurd (inside (system w row is))
+  no_row w None is inside = is
+
+  may : (w : ℕ) → at_token rows w ≡ None → (0 < w) × (w ≤ length x.words) → true ≡ may_execute w x
+  may w none there = ap (λ o. not (is_marked_only (option_map (λ row. row.0) o))) (sym none) ∙ may_word w x there.0 there.1
+
+  -- it is done by itself as by a call
+  by_itself : (w : ℕ) (c : Core) → c.steps < n → at_token rows w ≡ None → word_value (suc n) below a w c x ≡ charge 1 c (λ e c. Ends e c x) (λ c. by_meaning (suc n) every (meanings (language_of x) w) w a c x)
+  by_itself w c h none =
+      charge-rel (λ (r : Outcome World) (s : Outcome World). r ≡ s) c.steps (λ e c. Ends e c x) (λ e c. Ends e c x) (λ e d k. refl) 1 c
+      (λ c. own_or (machine_word (meaning_at w)) a.units [] c (λ e c. Ends e c x) (λ own c. Did c x) (λ c. below a (Word w) c x))
+      (λ c. by_meaning (suc n) every (meanings (language_of x) w) w a c x) (omega arith) (λ d hd.
+      ap (λ o. own_or (machine_word (option_map (λ row. row.1) o)) a.units [] d (λ e c. Ends e c x) (λ own c. Did c x) (λ c. below a (Word w) c x)) none
+      ∙ (serve_agrees n).below a (Word w) d x (omega (arith, h, hd)) ∙ meant w d (omega (arith, h, hd)))
+
+  callable : (w : ℕ) (c : Core) → c.steps < n → (meanings (language_of x) w ≡ Outside → ⊥)
+      → needing (may_execute w x) Token c x (λ c. word_value (suc n) below a w c x) ≡ charge 1 c (λ e c. Ends e c x) (λ c. by_meaning (suc n) every (meanings (language_of x) w) w a c x)
+  callable w c h inside =
+      let none = no_row w (at_token rows w) refl inside in
+      ap (λ b. needing b Token c x (λ c. word_value (suc n) below a w c x)) (sym (may w none (is_there w x.words inside))) ∙ by_itself w c h none
+
+  executed_meant : (w : ℕ) (c untokened : Core) → untokened.steps < n → every a (Word execute_token) c x ≡ needing (may_execute w x) Token untokened x (λ c. word_value (suc n) below a w c x)
+      → (m : Meaning) → meanings (language_of x) w ≡ m → every a (Word execute_token) c x ≡ executed_as (suc n) every m w a c untokened x
+  executed_meant w c untokened h is Outside e = refl
+  executed_meant w c untokened h is (GivesCell v) e = refl
+  executed_meant w c untokened h is (RunsBody parts) e =
+      is ∙ callable w untokened h (λ z. let k = sym e ∙ z in cc) ∙ ap (λ m. charge 1 untokened (λ e c. Ends e c x) (λ c. by_meaning (suc n) every m w a c x)) e
+  executed_meant w c untokened h is (RunsPart owner d parts) e = refl
+
+  execute_meant : (stack space : List ℕ) (steps : ℕ) → steps < n → every a (Word execute_token) (core_of stack space steps) x ≡ executed (suc n) every (meanings (language_of x)) stack a (core_of stack space steps) x
+  execute_meant [] space steps h = refl
+  execute_meant (w ∷ stack) space steps h =
+      executed_meant w (core_of (w ∷ stack) space steps) (core_of stack space steps) h refl (meanings (language_of x) w) refl
+
+  word_or_execute : (is_execute : Bool) (w : ℕ) (c : Core) → (w == execute_token) ≡ is_execute → c.steps < n → every a (Word w) c x ≡ as_meant (suc n) every is_execute (meanings (language_of x)) w a c x
+  word_or_execute true w c e h = ap (λ v. every a (Word v) c x) (eqb-true w execute_token e) ∙ execute_meant c.stack c.space c.steps h
+  word_or_execute false w c e h = meant w c (omega (arith, h))
+
+pub serves_as_meant : (n : ℕ) (x : World) → ((w : ℕ) (row : Mark × RowMeaning) → at_token rows w ≡ Some row → meanings (language_of x) w ≡ Outside)
     → ServesAsMeant n (λ a due c x. serve n a due c x) (meanings (language_of x)) x
 serves_as_meant zero x system = λ a w c h. absurd (omega (arith, h))
-serves_as_meant (suc n) x system = λ a w c h. due_meant n w a c x (omega (arith, h)) (service_of (meaning_at w)) refl (system w)
-
--- a word that is a service asks for it in its row
-asks : (o : Option RowMeaning) (s : Service) → service_of o ≡ Some s → (a : Service) × (o ≡ Some (Asks a))
-asks (Some (Asks a)) s e = (a, refl)
-asks (Some (Runs p)) s e = absurd (cc)
-asks (Some Exits) s e = absurd (cc)
-asks (Some Marks) s e = absurd (cc)
-asks None s e = absurd (cc)
+serves_as_meant (suc n) x system = λ a w c h. word_or_execute n a x system (w == execute_token) w c refl (omega (arith, h))
 
 -- frame steps that call too keep the value of what is left
-pub left_calls : ServicesAreOutside → (n : ℕ) (l : Lexicon) (x : World) (k : ℕ) (levels : List Level) (c : Core) → Means l (language_of x) → c.steps < n → left n levels c x ≡ next n (calling_steps (meanings (language_of x)) k levels c) x
+pub left_calls : SystemWordsAreOutside → (n : ℕ) (l : Lexicon) (x : World) (k : ℕ) (levels : List Level) (c : Core) → Means l (language_of x) → c.steps < n → left n levels c x ≡ next n (calling_steps (meanings (language_of x)) k levels c) x
 left_calls outside n l x k levels c means h =
     calling_keeps n (λ a due c x. serve n a due c x) (λ a c x. text n (λ a due c x. serve n a due c x) n a c x) back (meanings (language_of x)) x
     (step_keeps n (λ a due c x. serve n a due c x) (λ a due c x. serve-frugal n a due c x) (λ a c x. text n (λ a due c x. serve n a due c x) n a c x) back)
-    (serves_as_meant n x (λ w s is. let a = asks (meaning_at w) s is in outside l (language_of x) means w a.0 a.1)) k levels c h
+    (serves_as_meant n x (λ w row is. outside l (language_of x) means w row is)) k levels c h
 
 -- ---- where nothing is left to do above the text
 
@@ -205,7 +264,8 @@ call_ends (RunsPart owner d parts) w levels c =
 
 or_call_ends : (words : ℕ → Meaning) (n : Next) → EndsAtText n → EndsAtText (or_call words n)
 or_call_ends words (Goes levels c) h = tt
-or_call_ends words (Asked (Word w) levels c) h = call_ends (words w) w levels c
+or_call_ends words (Asked (Word w) levels c) h =
+    due_has EndsAtText words levels c tt (λ e d h. tt) (λ w d h. call_ends (words w) w levels d) (w == execute_token) w
 or_call_ends words (Asked (Print s) levels c) h = tt
 or_call_ends words (Asked (AbortWith s) levels c) h = tt
 or_call_ends words (Asked (Add w) levels c) h = tt

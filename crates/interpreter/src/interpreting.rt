@@ -8,7 +8,7 @@ use crate::fault::{Fault, Stop};
 use crate::forth::Forth;
 use crate::terminal::Terminal;
 use cell_machine::event::{Event, MachineFault};
-use lexicon::laws::services;
+use lexicon::laws::system_words;
 use sector_disk::SectorDevice;
 
 /// What a round of the loop leaves to do.
@@ -63,7 +63,7 @@ impl<D: SectorDevice> Forth<D> {
         ensures down { Decreases result (measure self.old) (measure self.new) }
         ensures continues { ContinuesRound T.Terminal result self.old self.new terminal.old terminal.new }
     {
-        services();
+        system_words();
         let event = self.lexicon.resume(
             &mut self.machine,
             &mut self.stack,

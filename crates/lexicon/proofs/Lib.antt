@@ -10,3 +10,4 @@ pub mod Calls
 pub mod Looking
 pub mod Adding
 pub mod Falling
+pub mod SystemWords

@@ -3,9 +3,9 @@ use Rattle.std.specs.Prelude.{◌≡◌, ℕ, List, [], ◌∷◌, Some, None}
 use Rattle.stacks.specs.declared.return_stack.Entry.{Entry}
 use Rattle.stacks.specs.declared.return_stack.Entry.TheVariants.{Load as LoadOf}
 use Rattle.cell_machine.specs.declared.event.Work.TheVariants as work
-use Rattle.system_words.specs.declared.words.Meaning.TheVariants.{Asks}
-use Rattle.system_words.specs.declared.words.Service.{Service}
-use Rattle.system_words.specs.Rows.{meaning_of}
+use Rattle.system_words.specs.declared.words.Mark.{Mark}
+use Rattle.system_words.specs.declared.words.Meaning.{Meaning}
+use Rattle.system_words.specs.Rows.{rows, at_token}
 use Rattle.cell_machine.specs.Calling.{Outside}
 use Rattle.cell_machine.specs.Frames.{Level, Once, Load}
 use Rattle.cell_machine.specs.Events.{Doing, Entered}
@@ -35,7 +35,7 @@ LoadsLeave =
     (l : Lexicon) (x : Language) (doing : Doing) (entries : List Entry) (levels : List Level) (blk to_in : ℕ) → doing.pending ≡ None →
     IsLeft l x doing entries (Load blk to_in ∷ levels) → (below : List Entry) × ((entries ≡ LoadOf blk to_in ∷ below) × IsLeft l x doing below levels)
 
--- a system word that asks for a service is none that the machine can call
-abbrev pub ServicesAreOutside : Type 0
-ServicesAreOutside =
-    (l : Lexicon) (x : Language) → Stands l x → (w : ℕ) (s : Service) → meaning_of w ≡ Some (Asks s) → meanings x w ≡ Outside
+-- a system word, which has a row, is none that the machine can call
+abbrev pub SystemWordsAreOutside : Type 0
+SystemWordsAreOutside =
+    (l : Lexicon) (x : Language) → Stands l x → (w : ℕ) (row : Mark × Meaning) → at_token rows w ≡ Some row → meanings x w ≡ Outside

@@ -1,6 +1,6 @@
 //! Laws over the definitions alone. The functions do nothing; a caller's proof cites their clauses.
 
-ghost use Rattle.lexicon.specs.Laws.{NothingIsLeft, WordsEnter, LoadsEnter, LoadsLeave, ServicesAreOutside};
+ghost use Rattle.lexicon.specs.Laws.{NothingIsLeft, WordsEnter, LoadsEnter, LoadsLeave, SystemWordsAreOutside};
 
 /// What is left to do, as words are entered by themselves and loads come and go.
 pub fn levels()
@@ -10,7 +10,7 @@ pub fn levels()
     ensures left { LoadsLeave }
 {}
 
-/// The machine calls no word that is a service.
-pub fn services()
-    ensures { ServicesAreOutside }
+/// The machine calls no system word.
+pub fn system_words()
+    ensures { SystemWordsAreOutside }
 {}

@@ -27,7 +27,7 @@ returns-in-Service-clause-round g c = λ n levels x less stands.
     let due = due_of _ _ _ _ _ _ runs.1.1.1 in
     let paid = paid_least c.in-Service.op _ _ c.in-Service.ensures.paid in
     round_as g.T.Terminal n _ c.args.self.now
-    (λ r. left_calls c.services.ensures n c.args.self.now.lexicon (with_run r x) runs.0 levels (core c.args.self.now) stands.rests.meant less ∙ ap (λ e. next n e (with_run r x)) due.1.1)
+    (λ r. left_calls c.system_words.ensures n c.args.self.now.lexicon (with_run r x) runs.0 levels (core c.args.self.now) stands.rests.meant less ∙ ap (λ e. next n e (with_run r x)) due.1.1)
     paid refl
     (c.serve.ensures.round n runs.1.0 x due.0 (omega (arith, paid, less)) (record { rests = stands.rests; left = runs.1.1.0 }) due.1.0)
 
@@ -50,7 +50,7 @@ returns-in-Fault-clause-round g c = λ n levels x less stands.
     let runs = ran (language_of x) levels stands.rests.meant stands.left in
     round_left g.D.SectorDevice g.T.Terminal g.met.D.SectorDevice.only_now n (stop.Fault c.machine_fault.result) c.args.self.now _ c.args.terminal.now stands.rests refl c.in-Fault.ensures.paid
     (left_so _ _ runs.1.0 _ x runs.1.1.1.0
-    (λ r. left_calls c.services.ensures n c.args.self.now.lexicon (with_run r x) runs.0 levels (core c.args.self.now) stands.rests.meant less ∙ ap (λ e. next n e (with_run r x)) runs.1.1.0 ∙ ap (λ f. Ends (Faults f) runs.1.0 (with_run r x)) (sym c.machine_fault.ensures.fault)))
+    (λ r. left_calls c.system_words.ensures n c.args.self.now.lexicon (with_run r x) runs.0 levels (core c.args.self.now) stands.rests.meant less ∙ ap (λ e. next n e (with_run r x)) runs.1.1.0 ∙ ap (λ f. Ends (Faults f) runs.1.0 (with_run r x)) (sym c.machine_fault.ensures.fault)))
     refl (Appends-nil _)
 
 pub returns-in-Quit-clause-round : goal.returns-in-Quit-clause-round
@@ -59,7 +59,7 @@ returns-in-Quit-clause-round g c = λ n levels x less stands.
     let runs = ran (language_of x) levels stands.rests.meant stands.left in
     round_left g.D.SectorDevice g.T.Terminal g.met.D.SectorDevice.only_now n stop.Quit c.args.self.now _ c.args.terminal.now stands.rests refl c.in-Quit.ensures.paid
     (left_so _ Quits _ _ x refl
-    (λ r. left_calls c.services.ensures n c.args.self.now.lexicon (with_run r x) runs.0 levels (core c.args.self.now) stands.rests.meant less ∙ ap (λ e. next n e (with_run r x)) runs.1))
+    (λ r. left_calls c.system_words.ensures n c.args.self.now.lexicon (with_run r x) runs.0 levels (core c.args.self.now) stands.rests.meant less ∙ ap (λ e. next n e (with_run r x)) runs.1))
     refl (Appends-nil _)
 
 pub returns-in-Abort-clause-round : goal.returns-in-Abort-clause-round
@@ -68,7 +68,7 @@ returns-in-Abort-clause-round g c = λ n levels x less stands.
     let runs = ran (language_of x) levels stands.rests.meant stands.left in
     round_left g.D.SectorDevice g.T.Terminal g.met.D.SectorDevice.only_now n stop.Abort c.args.self.now _ c.args.terminal.now stands.rests refl c.in-Abort.ensures.paid
     (left_so _ Aborts _ _ x refl
-    (λ r. left_calls c.services.ensures n c.args.self.now.lexicon (with_run r x) runs.0 levels (core c.args.self.now) stands.rests.meant less ∙ ap (λ e. next n e (with_run r x)) runs.1))
+    (λ r. left_calls c.system_words.ensures n c.args.self.now.lexicon (with_run r x) runs.0 levels (core c.args.self.now) stands.rests.meant less ∙ ap (λ e. next n e (with_run r x)) runs.1))
     refl (Appends-nil _)
 
 pub advance-requires : goal.advance-requires
@@ -83,7 +83,7 @@ returns-in-Done-clause-round g c = λ n levels x less stands.
     let ran = rw c.lend.ensures.value at c.in-Done.ensures.runs in
     let runs = ran (language_of x) levels stands.rests.meant stands.left in
     round_as g.T.Terminal n _ c.args.self.now
-    (λ r. left_calls c.services.ensures n c.args.self.now.lexicon (with_run r x) runs.0 levels (core c.args.self.now) stands.rests.meant less ∙ ap (λ e. next n e (with_run r x)) runs.1.1.1)
+    (λ r. left_calls c.system_words.ensures n c.args.self.now.lexicon (with_run r x) runs.0 levels (core c.args.self.now) stands.rests.meant less ∙ ap (λ e. next n e (with_run r x)) runs.1.1.1)
     c.in-Done.ensures.paid refl
     (round_at_text g.T.Terminal n c.round_of_text.ensures c.args.terminal.now
     (c.advance.ensures.advanced n runs.1.0 x (omega (arith, c.in-Done.ensures.paid, less)) (record { rests = stands.rests; left = runs.1.1.0 }) (finished_at_text _ runs.0 levels runs.1.0 _ _ runs.1.1.1)))
