@@ -31,20 +31,20 @@ for crate in bench_machine bench_lexicon; do
     }
 done
 
-flags="-std=c11 -Wall -Wextra -O2 -DWITH_MACHINE -DWITH_CALLING"
+flags="-std=c11 -Wall -Wextra -O2"
 machines="machine calling"
 compilers="gcc"
 if command -v clang > /dev/null; then
     compilers="gcc clang"
 fi
 for compiler in $compilers; do
-    $compiler $flags -o "$work/$compiler" "$here/main.c" "$here/limit.c" \
+    $compiler $flags -o "$work/$compiler" "$here/main.c" "$here/bodies.c" "$here/limit.c" \
         "$work/crates/bench_machine/out/libbench_machine.a" "$kit/c/liblibc_c.a"
 done
 
 # The machine over a table of all four kinds of words, and over the lexicon.
 lexicon=$work/crates/bench_lexicon/out/libbench_lexicon.a
-gcc $flags -o "$work/kinds" "$here/main.c" "$here/limit.c" "$lexicon" "$kit/c/liblibc_c.a"
+gcc $flags -o "$work/kinds" "$here/main.c" "$here/bodies.c" "$here/limit.c" "$lexicon" "$kit/c/liblibc_c.a"
 gcc -std=c11 -Wall -Wextra -O2 -o "$work/lexicon" "$here/lexicon/main.c" "$lexicon" "$kit/c/liblibc_c.a"
 
 "$work/gcc" check "$bodies"
@@ -99,7 +99,12 @@ done <<END
 loop 2 4 200
 calls 10 20 300
 fib 1 2 20
+execute 1 2 15
+deferred 1 2 15
 sieve 1 2 15
 sort 1 2 10
 matrix 1 2 20
+gcd 1 2 8
+scale 2 4 200
+records 2 4 400
 END
