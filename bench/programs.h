@@ -39,6 +39,25 @@ static uint16_t fib_code[] = {
 };
 static const struct word fib_words[] = {{1, 0}, {1, 15}};
 
+// CREATE SELF 2 ALLOT
+// : FIB DUP 2 < IF EXIT THEN 1- DUP SELF @ EXECUTE SWAP 1- SELF @ EXECUTE + ;
+// : TURNS ['] FIB SELF ! n 0 DO 20 FIB DROP LOOP 20 FIB ;
+static uint16_t execute_code[] = {
+    36, LITERAL, 2, 18, TEST, 7, 38, 14, 36, 133, 23, 37, 54, 14, 133, 23, 37, 5, END,
+    LITERAL, 134, 133, 1, LITERAL, 1, LITERAL, 0, DO, LITERAL, 20, 134, 35, LOOP, 28, LITERAL, 20, 134, END,
+};
+static const struct word execute_words[] = {{0, 1280}, {1, 0}, {1, 19}};
+
+// CREATE SELF 2 ALLOT  : FIB' SELF @ EXECUTE ;
+// : FIB DUP 2 < IF EXIT THEN 1- DUP FIB' SWAP 1- FIB' + ;
+// : TURNS ['] FIB SELF ! n 0 DO 20 FIB DROP LOOP 20 FIB ;
+static uint16_t deferred_code[] = {
+    133, 23, 37, END,
+    36, LITERAL, 2, 18, TEST, 11, 38, 14, 36, 134, 54, 14, 134, 5, END,
+    LITERAL, 135, 133, 1, LITERAL, 1, LITERAL, 0, DO, LITERAL, 20, 135, 35, LOOP, 28, LITERAL, 20, 135, END,
+};
+static const struct word deferred_words[] = {{0, 1280}, {1, 0}, {1, 4}, {1, 19}};
+
 // 8190 CONSTANT SIZE  CREATE FLAGS SIZE ALLOT
 // : SIEVE FLAGS SIZE 1 FILL 0 SIZE 0 DO
 //     FLAGS I + C@ IF I DUP + 3 + DUP I +
@@ -93,6 +112,39 @@ static uint16_t matrix_code[] = {
 static const struct word matrix_words[] = {{0, 20}, {0, 40}, {0, 1280}, {0, 2080}, {0, 2880}, {1, 0},
                                            {1, 28}, {1, 55}, {1, 74}, {1, 92}, {1, 109}};
 
+// : GCD BEGIN DUP WHILE SWAP OVER MOD REPEAT DROP ;
+// : GCDS 0 100 1 DO 100 1 DO J 97 * I 89 * GCD + LOOP LOOP ;
+// : TURNS n 0 DO GCDS DROP LOOP GCDS ;
+static uint16_t gcd_code[] = {
+    36, TEST, 8, 54, 48, 44, BACK, 0, 35, END,
+    LITERAL, 0, LITERAL, 100, LITERAL, 1, DO, LITERAL, 100, LITERAL, 1, DO, 41, LITERAL, 97, 2, 40, LITERAL, 89, 2,
+    133, 5, LOOP, 22, LOOP, 17, END,
+    LITERAL, 1, LITERAL, 0, DO, 134, 35, LOOP, 42, 134, END,
+};
+static const struct word gcd_words[] = {{1, 0}, {1, 10}, {1, 37}};
+
+// : SCALED 330 4096 */ 50 - 0 MAX 500 MIN ;
+// : READINGS 0 1000 0 DO I 7 * SCALED + LOOP ;
+// : TURNS n 0 DO READINGS DROP LOOP READINGS ;
+static uint16_t scale_code[] = {
+    LITERAL, 330, LITERAL, 4096, 3, LITERAL, 50, 7, LITERAL, 0, 42, LITERAL, 500, 43, END,
+    LITERAL, 0, LITERAL, 1000, LITERAL, 0, DO, 40, LITERAL, 7, 2, 133, 5, LOOP, 22, END,
+    LITERAL, 1, LITERAL, 0, DO, 134, 35, LOOP, 36, 134, END,
+};
+static const struct word scale_words[] = {{1, 0}, {1, 15}, {1, 31}};
+
+// CREATE A 768 ALLOT  CREATE B 768 ALLOT
+// : FILLED 768 0 DO I A I + C! LOOP ;
+// : REVERSED A B 756 + 64 0 DO OVER OVER 12 CMOVE 12 - SWAP 12 + SWAP LOOP DROP DROP ;
+// : TURNS FILLED n 0 DO REVERSED LOOP REVERSED B @ ;
+static uint16_t records_code[] = {
+    LITERAL, 768, LITERAL, 0, DO, 40, 133, 40, 5, 26, LOOP, 5, END,
+    133, 134, LITERAL, 756, 5, LITERAL, 64, LITERAL, 0, DO, 48, 48, LITERAL, 12, 28, LITERAL, 12, 7, 54, LITERAL,
+    12, 5, 54, LOOP, 23, 35, 35, END,
+    135, LITERAL, 1, LITERAL, 0, DO, 136, LOOP, 47, 136, 134, 23, END,
+};
+static const struct word records_words[] = {{0, 1280}, {0, 2048}, {1, 0}, {1, 13}, {1, 41}};
+
 #define PROGRAM(name, turns, result)                                                                                   \
     {                                                                                                                  \
         #name, name##_code, sizeof name##_code / sizeof name##_code[0], name##_words,                                  \
@@ -102,7 +154,12 @@ static const struct program programs[] = {
     PROGRAM(loop, 9, 30000),
     PROGRAM(calls, 20, 8000),
     PROGRAM(fib, 16, 6765),
+    PROGRAM(execute, 24, 6765),
+    PROGRAM(deferred, 24, 6765),
     PROGRAM(sieve, 48, 1899),
     PROGRAM(sort, 97, 64483),
     PROGRAM(matrix, 111, 6064),
+    PROGRAM(gcd, 38, 56620),
+    PROGRAM(scale, 32, 36725),
+    PROGRAM(records, 43, 62964),
 };

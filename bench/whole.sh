@@ -21,20 +21,29 @@ for other in gforth gforth-fast pforth; do
 done
 echo "load: $(cut -d' ' -f1-3 /proc/loadavg); rounds: $rounds; beside forth83:${others:- no other Forth is installed}"
 
-# SYSTEM INPUT: nanoseconds of the processor. The others are given their text as a file: from standard input they take lines far slower.
+# SYSTEM INPUT: nanoseconds of the processor. The others are given their text as a file: from standard input they take lines far slower. It is
+# INPUT.fth where that is there, with INPUT.others before it; Lua's is INPUT.lua.
 once() {
     case $1 in
     forth83) ./whole run 1 "$2" "$program" run image --steps "$steps" ;;
-    *) { if [ -f "$2.others" ]; then cat "$2.others"; fi; cat "$2"; echo bye; } > "$2.fs" && ./whole run 1 empty "$1" "$2.fs" ;;
+    lua) ./whole run 1 empty lua "$2.lua" ;;
+    *) as_file "$2" && ./whole run 1 empty "$1" "$2.fs" ;;
     esac | cut -d' ' -f3
+}
+as_file() {
+    text=$1
+    if [ -f "$1.fth" ]; then text=$1.fth; fi
+    { if [ -f "$1.others" ]; then cat "$1.others"; fi; cat "$text"; echo bye; } > "$1.fs"
 }
 row() {
     printf '%-44s %-12s %12s %s\n' "$1" "$2" "$3" "$4"
 }
 # WHAT INPUT BASE UNITS UNIT: the processor's time over that of the input BASE, by units. The systems take turns; the least of the rounds counts.
 compared() {
+    systems="forth83 $others"
+    if [ -f "$2.lua" ] && command -v lua > /dev/null; then systems="$systems lua"; fi
     for _ in $(seq "$rounds"); do
-        for system in forth83 $others; do
+        for system in $systems; do
             echo "$system $(once "$system" "$2") $(once "$system" "$3")"
         done
     done | awk -v units="$4" '
@@ -47,7 +56,7 @@ compared() {
                 printf "%s %.1f %.3f %s\n", s, each[s], long[s] / 1e9, over
             }
         }' > took
-    for system in forth83 $others; do
+    for system in $systems; do
         row "$1" "$system" "$(awk -v s="$system" '$1 == s { print $2 }' took) ns" \
             "a $5; in all $(awk -v s="$system" '$1 == s { print $3 }' took) s$(sed -n "s/^$system [^,]*,/,/p" took)"
     done
@@ -108,18 +117,25 @@ compared "LOAD of 100 full blocks, 20 times" load empty 2000 block
 compared "the same beside 3900 words" load.3900 defined.3900 2000 block
 others=$saved
 
-# ---- the four programs
-echo ': EMPTY 30000 0 DO LOOP ; : TURNS 0 DO EMPTY LOOP ;' > loop
-echo ': NOTHING ; : EIGHT NOTHING NOTHING NOTHING NOTHING NOTHING NOTHING NOTHING NOTHING ;' > calls
-echo ': MANY 1000 0 DO EIGHT LOOP ; : TURNS 0 DO MANY LOOP ;' >> calls
-echo 'VARIABLE SELF : FIB DUP 2 < IF EXIT THEN 1- DUP SELF @ EXECUTE SWAP 1- SELF @ EXECUTE + ;' > fib
-printf '%s\n' "' FIB SELF !" ': TURNS 0 DO 20 FIB DROP LOOP ;' >> fib
-cat > sieve <<'END'
-8190 CONSTANT SIZE  CREATE FLAGS SIZE ALLOT
-: STRIKE BEGIN DUP SIZE < WHILE 0 OVER FLAGS + C! OVER + REPEAT DROP DROP ;
-: SIEVE FLAGS SIZE 1 FILL 0 SIZE 0 DO FLAGS I + C@ IF I DUP + 3 + DUP I + STRIKE 1+ THEN LOOP ;
-: TURNS 0 DO SIEVE DROP LOOP ;
-END
+# ---- the programs: whole/NAME.fth for every Forth, whole/NAME.lua in Lua where it has one
+# NAME KIND LINE CALL: the program with a line of Forth at its end, or a call of Lua, as NAME.KIND and what else `once` takes
+written() {
+    { cat "$here/whole/$1.fth"; echo "$3"; } > "$1.$2.fth"
+    # a cell has two bytes here
+    sed 's/CELL+/2+/g; s/CELLS/DUP +/g' "$1.$2.fth" > "$1.$2"
+    if [ -f "$here/whole/$1.lua" ]; then { cat "$here/whole/$1.lua"; echo "$4"; } > "$1.$2.lua"; fi
+}
+# NAME: whether all systems say the same result of the program
+agree() {
+    {
+        "$program" run image --steps "$steps" < "$1.result"
+        for other in $others; do as_file "$1.result" && "$other" "$1.result.fs" < empty; done
+        if [ -f "$1.result.lua" ] && command -v lua > /dev/null; then lua "$1.result.lua"; fi
+    } | tr -s '[:space:]' ' ' | grep -o 'result -\?[0-9]*' > said
+    # shellcheck disable=SC2086
+    set -- forth83 $others
+    [ "$(wc -l < said)" -ge $# ] && [ "$(sort -u said | wc -l)" -eq 1 ]
+}
 # INPUT: whether it ends within so many steps
 within() {
     ! "$program" run image --steps "$2" < "$1" | grep -q STEPS
@@ -138,21 +154,33 @@ instructions() {
         awk '/Collected/ { print $4 }'
 }
 while read -r name few many long; do
-    for turns in "$few" "$many" "$long"; do { cat "$name"; echo "$turns TURNS"; } > "$name.$turns"; done
+    written "$name" result RESULT 'print("result", result())'
+    if ! agree "$name"; then
+        echo "$name: the systems disagree: $(tr '\n' ' ' < said)"
+        exit 1
+    fi
+    written "$name" base '' ''
+    for turns in "$few" "$many" "$long"; do written "$name" "$turns" "$turns TURNS" "turns($turns)"; done
     a=$(steps_of "$name.$few")
     b=$(steps_of "$name.$many")
     each=$(((b - a) / (many - few)))
-    compared "$name" "$name.$long" "$name" "$((each * long))" step
+    compared "$name" "$name.$long" "$name.base" "$((each * long))" step
     if command -v valgrind > /dev/null; then
         echo "$(instructions "$name.$few") $(instructions "$name.$many") $a $b" |
             awk '{ printf "%.1f\n", ($2 - $1) / ($4 - $3) }' > took
         row "$name, instructions" forth83 "$(cat took)" "a step, of $each a turn"
     fi
 done <<END
-loop 2 4 200
-calls 10 20 300
-fib 1 2 20
-sieve 1 2 15
+loop 2 4 2000
+calls 10 20 3000
+fib 1 2 150
+deferred 1 2 150
+sieve 1 2 150
+sort 1 2 100
+matrix 1 2 300
+gcd 1 2 80
+scale 2 4 2500
+records 10 20 5000
 END
 
 # ---- saves: a hundred of each size in one session, the same on the same disk by others, in turn; the least of the rounds

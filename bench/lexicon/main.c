@@ -25,23 +25,40 @@ static const char *sources[][2] = {
               ": MANY 1000 0 DO EIGHT LOOP ; : TURNS %d 0 DO MANY LOOP 8000 ;"},
     {"fib", ": FIB DUP 2 < IF EXIT THEN 1- DUP ITSELF SWAP 1- ITSELF + ; "
             ": TURNS %d 0 DO 20 FIB DROP LOOP 20 FIB ;"},
-    {"sieve", "SIZE-IS 8190 CREATE FLAGS : SIEVE FLAGS SIZE 1 FILL 0 SIZE 0 DO "
+    {"execute", "CREATE SELF 2 ALLOT "
+                ": FIB DUP 2 < IF EXIT THEN 1- DUP SELF @ EXECUTE SWAP 1- SELF @ EXECUTE + ; "
+                ": TURNS ['] FIB SELF ! %d 0 DO 20 FIB DROP LOOP 20 FIB ;"},
+    {"deferred", "CREATE SELF 2 ALLOT : FIB' SELF @ EXECUTE ; "
+                 ": FIB DUP 2 < IF EXIT THEN 1- DUP FIB' SWAP 1- FIB' + ; "
+                 ": TURNS ['] FIB SELF ! %d 0 DO 20 FIB DROP LOOP 20 FIB ;"},
+    {"sieve", "8190 CONSTANT SIZE CREATE FLAGS 8190 ALLOT : SIEVE FLAGS SIZE 1 FILL 0 SIZE 0 DO "
               "FLAGS I + C@ IF I DUP + 3 + DUP I + "
               "BEGIN DUP SIZE < WHILE 0 OVER FLAGS + C! OVER + REPEAT DROP DROP 1+ THEN LOOP ; "
               ": TURNS %d 0 DO SIEVE DROP LOOP SIEVE ;"},
-    {"sort", "SIZE-IS 200 CREATE ITEMS 400 : FILLED 12345 SIZE 0 DO 25173 * 13849 + DUP I DUP + ITEMS + ! LOOP DROP ; "
+    {"sort", "200 CONSTANT SIZE CREATE ITEMS 400 ALLOT "
+             ": FILLED 12345 SIZE 0 DO 25173 * 13849 + DUP I DUP + ITEMS + ! LOOP DROP ; "
              ": PASS ITEMS SWAP 0 DO DUP @ OVER 2+ @ OVER OVER > IF ROT SWAP OVER ! SWAP OVER 2+ ! "
              "ELSE DROP DROP THEN 2+ LOOP DROP ; "
              ": SORTED FILLED SIZE 1- 0 DO SIZE 1- I - PASS LOOP ; "
              ": CHECKED 0 SIZE 1- 0 DO ITEMS I DUP + + DUP @ SWAP 2+ @ > + LOOP ITEMS SIZE + @ + ; "
              ": TURNS %d 0 DO SORTED LOOP SORTED CHECKED ;"},
-    {"matrix", "SIZE-IS 20 ROW-IS 40 CREATE A 800 CREATE B 800 CREATE C 800 "
+    {"matrix", "20 CONSTANT SIZE 40 CONSTANT ROW CREATE A 800 ALLOT CREATE B 800 ALLOT CREATE C 800 ALLOT "
                ": FILLED 400 0 DO I 7 AND I DUP + A + ! I 5 AND I DUP + B + ! LOOP ; "
                ": DOT 0 SIZE 0 DO >R OVER @ OVER @ * R> + ROT 2+ ROT ROW + ROT LOOP >R DROP DROP R> ; "
                ": LINE SIZE 0 DO OVER B I DUP + + DOT OVER ! 2+ LOOP DROP DROP ; "
                ": MULTIPLIED SIZE 0 DO A ROW I * + C ROW I * + LINE LOOP ; "
                ": SUM 0 400 0 DO I DUP + C + @ + LOOP ; "
                ": TURNS FILLED %d 0 DO MULTIPLIED LOOP MULTIPLIED SUM ;"},
+    {"gcd", ": GCD BEGIN DUP WHILE SWAP OVER MOD REPEAT DROP ; "
+            ": GCDS 0 100 1 DO 100 1 DO J 97 * I 89 * GCD + LOOP LOOP ; "
+            ": TURNS %d 0 DO GCDS DROP LOOP GCDS ;"},
+    {"scale", ": SCALED 330 4096 */ 50 - 0 MAX 500 MIN ; "
+              ": READINGS 0 1000 0 DO I 7 * SCALED + LOOP ; "
+              ": TURNS %d 0 DO READINGS DROP LOOP READINGS ;"},
+    {"records", "CREATE A 768 ALLOT CREATE B 768 ALLOT "
+                ": FILLED 768 0 DO I A I + C! LOOP ; "
+                ": REVERSED A B 756 + 64 0 DO OVER OVER 12 CMOVE 12 - SWAP 12 + SWAP LOOP DROP DROP ; "
+                ": TURNS FILLED %d 0 DO REVERSED LOOP REVERSED B @ ;"},
 };
 
 static uint64_t now(void) {

@@ -1,0 +1,3 @@
+: EMPTY 30000 0 DO LOOP ;
+: TURNS 0 DO EMPTY LOOP ;
+: RESULT ." result " 30000 . ;
