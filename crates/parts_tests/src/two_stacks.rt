@@ -145,6 +145,7 @@ impl Entries {
         match row.word {
             "index" => row.is(self.stack.set_index(row.cell(0))),
             "end" => gives_place(row, self.stack.end_call()),
+            "inner" => row.is(self.stack.is_inner_call()),
             "units" => gives_place(row, Some(self.stack.units())),
             "clear" => self.clear(),
             _ => false,
@@ -289,12 +290,22 @@ top | empty";
 fn a_call_on_top_is_ended(rt: HostRuntime) {
     let text = "peek | load 0 0
 end | none
+inner | false
 push call 9 | ok
+inner | false
 push value 7 | ok
+inner | false
+push call 8 | ok
+inner | true
+end | 8
 peek | value 7
 end | none
 pop | value 7
 end | 9
-units | 0";
+push load 1 64 | ok
+push call 6 | ok
+inner | false
+end | 6
+units | 2";
     follow(&rt, &mut Entries::new(), text);
 }

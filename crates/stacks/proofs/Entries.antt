@@ -1,10 +1,10 @@
 -- The entries that lie in places.
-use Rattle.std.proofs.Common.{◌≡◌, ◌∙◌, refl, sym, ap, subst, ℕ, zero, suc, ◌+◌, ◌-◌, ◌<◌, ◌≤◌, false, if◌then◌else◌, List, [], ◌∷◌, length, slice_set, arith}
+use Rattle.std.proofs.Common.{◌≡◌, ◌∙◌, refl, sym, ap, subst, ℕ, zero, suc, ◌+◌, ◌-◌, ◌<◌, ◌≤◌, false, not, if◌then◌else◌, List, [], ◌∷◌, length, slice_set, arith}
 use Rattle.std.proofs.lemmas.List.{get_or-set_same, get_or-set_other, length-set, set-get_or}
 use Rattle.stacks.specs.declared.return_stack.Entry.{Entry}
 use Rattle.stacks.specs.declared.return_stack.Entry.TheVariants.{Call, Value, Loop, Load}
-use Rattle.stacks.specs.Stacks.{entry_units, units, has_loop, with_index, top_or_load}
-use Rattle.stacks.specs.Entries.{is_loop, indexed, entry_at, entries_in, IsGround}
+use Rattle.stacks.specs.Stacks.{entry_units, units, is_inner_call, has_loop, with_index, top_or_load}
+use Rattle.stacks.specs.Entries.{is_load, is_loop, indexed, entry_at, entries_in, IsGround}
 use Rattle.stacks.proofs.Units.{at_least_one}
 
 pub none : (most : ℕ) (p : List Entry) → entries_in most p 0 ≡ []
@@ -191,3 +191,18 @@ called p u es h back e =
       lies = subst (λ k. Lies p (u - k) (entries_in 256 p (u - k))) one (taken p u es h n);
       is = has_top p u es h n ∙ ap (λ x. x ∷ entries_in 256 p (u - entry_units x)) e;
     }
+
+-- what lies below the bottom is a load
+pub inner : (back : ℕ) (es : List Entry) → not (is_load (top_or_load es)) ≡ is_inner_call (Call back ∷ es)
+inner back [] = refl
+inner back (Call y ∷ es) = refl
+inner back (Value y ∷ es) = refl
+inner back (Loop l i ∷ es) = refl
+inner back (Load y z ∷ es) = refl
+
+pub not_inner : (es : List Entry) → ((back : ℕ) → top_or_load es ≡ Call back → ⊥) → is_inner_call es ≡ false
+not_inner [] n = refl
+not_inner (Call y ∷ es) n = absurd (n y refl)
+not_inner (Value y ∷ es) n = refl
+not_inner (Loop l i ∷ es) n = refl
+not_inner (Load y z ∷ es) n = refl

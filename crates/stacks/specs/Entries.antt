@@ -9,6 +9,11 @@ abbrev pub is_loop : Entry → Bool
 is_loop (Loop limit index) = true
 is_loop _ = false
 
+-- a load
+abbrev pub is_load : Entry → Bool
+is_load (Load block to_in) = true
+is_load _ = false
+
 -- a loop with this index, and any other entry as it is
 abbrev pub indexed : ℕ → Entry → Entry
 indexed index (Loop limit old) = Loop limit index

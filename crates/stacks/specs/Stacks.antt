@@ -30,6 +30,13 @@ abbrev pub has_loop : List Entry → Bool
 has_loop (LoopOf limit index ∷ entries) = true
 has_loop _ = false
 
+-- the top is a call, and an entry that is no load lies below it
+abbrev pub is_inner_call : List Entry → Bool
+is_inner_call (CallOf back ∷ []) = false
+is_inner_call (CallOf back ∷ LoadOf block to_in ∷ entries) = false
+is_inner_call (CallOf back ∷ entry ∷ entries) = true
+is_inner_call _ = false
+
 -- the loop on top with this index
 abbrev pub with_index : ℕ → List Entry → List Entry
 with_index index (LoopOf limit old ∷ entries) = LoopOf limit index ∷ entries

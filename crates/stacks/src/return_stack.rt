@@ -1,7 +1,7 @@
 //! The return stack.
 ghost use Rattle.std.specs.Prelude.{◌≡◌, ◌≢◌, ◌+◌, ◌<◌, ◌≤◌, ◌↔◌, [], ◌∷◌, ℕ, length, slice_get, IsTrue, IsOk, OnOk, OnErr, IfOk, IfErr, IfSome, IfNone, if◌then◌else◌};
-ghost use Rattle.stacks.specs.Entries.{is_loop, indexed};
-ghost use Rattle.stacks.specs.Stacks.{units, entry_units, has_loop, with_index, top_or_load, calls_below, loads};
+ghost use Rattle.stacks.specs.Entries.{is_load, is_loop, indexed};
+ghost use Rattle.stacks.specs.Stacks.{units, entry_units, is_inner_call, has_loop, with_index, top_or_load, calls_below, loads};
 
 use crate::StackFault;
 use std::marker::Model;
@@ -52,6 +52,17 @@ impl Entry {
                 *kept = index;
                 true
             }
+            _ => false,
+        }
+    }
+
+    /// Whether it is a load.
+    #[inline(always)]
+    fn is_load(self) -> bool
+        ensures { result ≡ is_load self }
+    {
+        match self {
+            Entry::Load { .. } => true,
             _ => false,
         }
     }
@@ -160,6 +171,17 @@ impl ReturnStack {
         };
         self.units -= 1;
         Some(back)
+    }
+
+    /// Whether the top is a call, and an entry that is no load lies below it: whether the end of that call goes on in a body.
+    #[inline(always)]
+    pub fn is_inner_call(&self) -> bool
+        ensures { result ≡ is_inner_call self.now }
+    {
+        let Entry::Call(_) = self.places[self.units] else {
+            return false;
+        };
+        !self.places[self.units - 1].is_load()
     }
 
     /// The top entry. `Empty` where there is none.
