@@ -34,3 +34,4 @@ pub mod Called
 pub mod Fusing
 pub mod Executing
 pub mod Due
+pub mod Closing
