@@ -134,7 +134,7 @@ impl Compiler {
         self.outside()?; // an open IF is UNBALANCED
         self.room(1)?;
         code.set(self.here, marks::END);
-        code.prepare(self.start.saturating_sub(7), self.here + 1);
+        code.prepare(self.start, self.here + 1);
         let place = self.start;
         self.close(self.here + 1);
         Ok(place)
