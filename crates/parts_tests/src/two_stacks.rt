@@ -144,9 +144,9 @@ impl Entries {
     fn other(&mut self, row: Row<'_>) -> bool {
         match row.word {
             "index" => row.is(self.stack.set_index(row.cell(0))),
-            "end" => gives_place(row, self.stack.end_call()),
+            "end" => row.gives(self.stack.end_call()),
             "inner" => row.is(self.stack.is_inner_call()),
-            "units" => gives_place(row, Some(self.stack.units())),
+            "units" => row.gives(u32::try_from(self.stack.units()).ok()),
             "clear" => self.clear(),
             _ => false,
         }
@@ -183,7 +183,7 @@ fn entry_in(text: &str) -> Entry {
             block: first,
             to_in: second,
         },
-        _ => Entry::Call(usize::from(first)),
+        _ => Entry::Call(u32::from(first)),
     }
 }
 
@@ -192,10 +192,6 @@ fn gives_entry(row: Row<'_>, entry: Result<Entry, StackFault>) -> bool {
         Ok(entry) => row.answer.contains(" ") && entry == entry_in(row.answer),
         Err(fault) => is_fault(row, fault),
     }
-}
-
-fn gives_place(row: Row<'_>, place: Option<usize>) -> bool {
-    row.gives(place.and_then(|place| u32::try_from(place).ok()))
 }
 
 #[test]

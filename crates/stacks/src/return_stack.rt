@@ -19,8 +19,8 @@ pub enum Entry {
     /// A load, with the block number and the input position to go back to: two units. It is the first, so that the places of a new
     /// stack are zeros, which are written where they shall lie.
     Load { block: u16, to_in: u16 },
-    /// A call of a body, with the place to go on at: one unit.
-    Call(usize),
+    /// A call of a body, with the place to go on at: one unit. The place has 32 bits, so that an entry takes 8 bytes.
+    Call(u32),
     /// A cell that the body put aside: one unit.
     Value(u16),
     /// A loop with its limit and its present index: three units.
@@ -160,7 +160,7 @@ impl ReturnStack {
 
     /// Takes the call on top, and gives the place to go on at. None where the top is no call; then nothing is changed.
     #[inline(always)]
-    pub fn end_call(&mut self) -> Option<usize>
+    pub fn end_call(&mut self) -> Option<u32>
         ensures ok { IfSome result (λ back. self.old ≡ Entry.Call back ∷ self.new) }
         ensures other { IfNone result ((back : ℕ) → top_or_load self.old ≢ Entry.Call back) }
         ensures none { IfNone result (self.new ≡ self.old) }
@@ -247,7 +247,7 @@ impl ReturnStack {
             if place >= limit {
                 return false;
             }
-            place = back;
+            place = back as usize;
         }
         true
     }
