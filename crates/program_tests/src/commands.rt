@@ -26,8 +26,19 @@ new A --blocks 3841 : error: invalid value '3841' for '--blocks <N>': 3841 is no
 new A --blocks : error: a value is required
 new A --blocks 32 --blocks 32 : error: the argument '--blocks <N>' cannot be used multiple times
 new --blocks 32 : error: the following required arguments
+new A --blocks 32 --layout 1 : error: invalid value '1' for '--layout <L>': 1 is not in 2..=3
+new A --blocks 32 --layout 4 : error: invalid value '4' for '--layout <L>': 4 is not in 2..=3
+new A --blocks 32 --layout three : error: invalid value 'three' for '--layout <L>'
+new A --blocks 32 --layout : error: a value is required
+new A --blocks 32 --layout 2 --layout 2 : error: the argument '--layout <L>' cannot be used multiple times
+new A --layout 3 : error: the following required arguments
 upgrade A : error: the following required arguments
+upgrade A B --layout 1 : error: invalid value '1' for '--layout <L>': 1 is not in 2..=3
+upgrade A B --layout 4 : error: invalid value '4' for '--layout <L>': 4 is not in 2..=3
+upgrade A B --layout : error: a value is required
+upgrade A --layout 3 : error: the following required arguments
 copy A : error: the following required arguments
+copy A B --layout 3 : error: unexpected argument '--layout'
 copy A B C : error: unexpected argument 'C'
 copy A B --blocks 31 : error: invalid value '31' for '--blocks <N>': 31 is not in 32..=3840
 copy A B --blocks 3841 : error: invalid value '3841' for '--blocks <N>': 3841 is not in 32..=3840
@@ -52,6 +63,7 @@ import A 1 F 2 : error: unexpected argument '2'
 import A 1 F --check=1 : error: unexpected value '1' for '--check'
 put A 1 : error: the following required arguments
 run : error: the following required arguments
+run A --layout 3 : error: unexpected argument '--layout'
 run A --steps 0 : error: invalid value '0'
 run A --steps 1000000001 : error: invalid value '1000000001'
 run A --trace=yes : error: unexpected value 'yes' for '--trace' found; no more were expected

@@ -48,7 +48,7 @@ pub(crate) fn check_block(
 }
 
 /// Runs a transcript over the image.
-fn check_run(
+pub(crate) fn check_run(
     rt: &(impl Files<File = File> + AllocGlobal + Abort),
     path: &str,
     text: &str,

@@ -10,6 +10,8 @@ mod images;
 #[cfg(test)]
 mod lines;
 #[cfg(test)]
+mod newer_images;
+#[cfg(test)]
 mod stopping;
 #[cfg(test)]
 mod streams;

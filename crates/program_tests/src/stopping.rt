@@ -10,7 +10,7 @@ use std::rt::Files;
 use std::test::Fail;
 
 /// The bytes of an image of 32 blocks.
-const LENGTH: usize = 67_072;
+pub(crate) const LENGTH: usize = 67_072;
 
 /// The call that makes the name of such a file stay, counted from 0: two writes of zeros and a sync come before it.
 pub(crate) const NAMED: u64 = 3;
@@ -109,9 +109,14 @@ pub(crate) struct Disk {
 
 impl Disk {
     pub(crate) fn new(rt: &impl AllocGlobal) -> Result<Disk, Fail> {
-        let content = vec![in rt.alloc(); 0u8; LENGTH]?;
-        let synced = vec![in rt.alloc(); 0u8; LENGTH]?;
-        let unsynced = vec![in rt.alloc(); false; LENGTH / 512]?;
+        Disk::of_length(rt, LENGTH)
+    }
+
+    /// A disk whose file has so many bytes.
+    pub(crate) fn of_length(rt: &impl AllocGlobal, length: usize) -> Result<Disk, Fail> {
+        let content = vec![in rt.alloc(); 0u8; length]?;
+        let synced = vec![in rt.alloc(); 0u8; length]?;
+        let unsynced = vec![in rt.alloc(); false; length / 512]?;
         Ok(Disk {
             bytes: RefCell::new(Bytes {
                 content,
@@ -206,7 +211,10 @@ impl HostFile for Opened<'_> {
     ghost widens = { λ f s t c le since. since };
 
     fn len(&self) -> Result<u64, HostFault> {
-        Ok(LENGTH as u64)
+        match self.disk.bytes.try_borrow() {
+            Ok(bytes) => Ok(bytes.content.len() as u64),
+            Err(_) => Err(HostFault::Failed),
+        }
     }
 
     fn read_at(&mut self, position: u64, buffer: &mut [u8]) -> Result<usize, HostFault> {
@@ -366,36 +374,64 @@ fn recovery_is_stopped(
     Ok(())
 }
 
+/// How an image of 32 blank blocks is made.
+#[derive(Clone, Copy, Debug)]
+pub(crate) struct Making {
+    pub(crate) words: &'static [&'static str],
+    /// How many bytes its file has.
+    pub(crate) length: usize,
+    /// The call that makes the name of the file stay, counted from 0.
+    pub(crate) named: u64,
+}
+
+const MAKING: Making = Making {
+    words: &["forth83", "new", "A", "--blocks", "32"],
+    length: LENGTH,
+    named: NAMED,
+};
+
 /// `new` is stopped at each sixteenth call, and at the last ones: the file is no image, or a whole one of blank blocks.
 #[test]
 fn makings_that_are_stopped(rt: HostRuntime) -> Result<(), Fail> {
-    let disk = Disk::new(&rt)?;
-    make_over(&rt, &OneDisk::new(&disk));
+    let calls = making_is_stopped_now_and_then(&rt, MAKING)?;
+    assert_eq!(rt; calls, 4 + 71);
+    Ok(())
+}
+
+/// Gives how many calls there are.
+pub(crate) fn making_is_stopped_now_and_then(
+    rt: &(impl Files<File = File> + AllocGlobal + Abort),
+    making: Making,
+) -> Result<u64, Fail> {
+    let disk = Disk::of_length(rt, making.length)?;
+    let left = call_over(rt, &OneDisk::new(&disk), making.words, b"");
+    assert_eq!(rt; (left.status, left.errors.as_slice()), (0, b"".as_slice()));
     let calls = disk.made.get();
     for k in (0..calls).rev().step_by(16) {
         for fate in FATES {
-            making_is_stopped(&rt, k, fate)?;
+            making_is_stopped(rt, making, k, fate)?;
         }
     }
     for k in calls.saturating_sub(8)..calls {
-        making_is_stopped(&rt, k, Fate::EvenKept)?;
+        making_is_stopped(rt, making, k, Fate::EvenKept)?;
     }
-    Ok(())
+    Ok(calls)
 }
 
 fn making_is_stopped(
     rt: &(impl Files<File = File> + AllocGlobal + Abort),
+    making: Making,
     k: u64,
     fate: Fate,
 ) -> Result<(), Fail> {
-    let disk = Disk::new(rt)?;
+    let disk = Disk::of_length(rt, making.length)?;
     let files = OneDisk::new(&disk);
     disk.begin(k);
-    let left = call_over(rt, &files, &["forth83", "new", "A", "--blocks", "32"], b"");
+    let left = call_over(rt, &files, making.words, b"");
     assert_eq!(rt; left.status, 3, "at {k}");
     assert_eq!(rt;
         left.errors.as_slice(),
-        told_of_making(k, NAMED).as_bytes(),
+        told_of_making(k, making.named).as_bytes(),
         "at {k}"
     );
     disk.restart(fate);

@@ -1,6 +1,6 @@
 //! Upgrades whose calls fail or are stopped, over an old image of which a save is under way: what is told, and what stays of both images.
 use super::images::{make_old, overwrite};
-use super::stopping::{Disk, FATES, Fate, NAMED, OneDisk, Opened};
+use super::stopping::{Disk, FATES, Fate, LENGTH, NAMED, OneDisk, Opened};
 use super::support::{DEVICE_FAULT, call_over, told_of_making};
 use super::systems::{BOTH, SEVENS};
 use sector_disk::{FileFault, HostFault, HostFiles};
@@ -9,7 +9,31 @@ use std::process::Abort;
 use std::rt::Files;
 use std::test::Fail;
 
-const UPGRADE: [&str; 4] = ["forth83", "upgrade", "OLD", "NEW"];
+/// An upgrade of an image of 32 blocks.
+#[derive(Clone, Copy, Debug)]
+pub(crate) struct Upgrade {
+    pub(crate) words: &'static [&'static str],
+    /// How many bytes the new file has.
+    pub(crate) length: usize,
+    /// The call of it that makes its name stay, counted from 0.
+    pub(crate) named: u64,
+    /// Of the calls after that one, those are tried whose number this divides.
+    pub(crate) each: u64,
+}
+
+impl Upgrade {
+    /// Whether it is tried with a failure of this call.
+    fn fails_at(self, k: u64) -> bool {
+        k <= self.named || k.checked_rem(self.each).unwrap_or(0) == 0
+    }
+}
+
+const UPGRADE: Upgrade = Upgrade {
+    words: &["forth83", "upgrade", "OLD", "NEW"],
+    length: LENGTH,
+    named: NAMED,
+    each: 1,
+};
 
 /// A system of two files: `OLD`, and `NEW`, which is there once it was made.
 #[derive(Drop)]
@@ -67,17 +91,24 @@ fn old_image(rt: &impl AllocGlobal) -> Result<Disk, Fail> {
 }
 
 /// How many calls of the old image an upgrade makes, and how many of the new one.
-fn calls_of_both(rt: &(impl Files<File = File> + AllocGlobal + Abort)) -> Result<(u64, u64), Fail> {
-    let (old, new) = (old_image(rt)?, Disk::new(rt)?);
+fn calls_of_both(
+    rt: &(impl Files<File = File> + AllocGlobal + Abort),
+    upgrade: Upgrade,
+) -> Result<(u64, u64), Fail> {
+    let (old, new) = (old_image(rt)?, Disk::of_length(rt, upgrade.length)?);
     old.begin(u64::MAX);
-    let left = call_over(rt, &TwoDisks::of(&old, &new), UPGRADE.as_slice(), b"");
+    let left = call_over(rt, &TwoDisks::of(&old, &new), upgrade.words, b"");
     assert_eq!(rt; left.status, 0);
     Ok((old.calls(), new.calls()))
 }
 
 /// Upgrades the old image, and finds its blocks in the new one.
-fn check_upgrade(rt: &(impl Files<File = File> + AllocGlobal + Abort), files: &TwoDisks<'_>) {
-    let left = call_over(rt, files, UPGRADE.as_slice(), b"");
+fn check_upgrade(
+    rt: &(impl Files<File = File> + AllocGlobal + Abort),
+    upgrade: Upgrade,
+    files: &TwoDisks<'_>,
+) {
+    let left = call_over(rt, files, upgrade.words, b"");
     assert_eq!(rt; (left.status, left.output.is_empty()), (0, true));
     assert!(rt; left.errors.is_empty());
     assert!(rt; is_whole(rt, files));
@@ -101,35 +132,37 @@ fn is_whole(rt: &(impl Files<File = File> + AllocGlobal + Abort), files: &TwoDis
 /// power comes back: the old image still has its blocks. Gives whether the new one is whole; else it is none.
 fn upgrade_fails(
     rt: &(impl Files<File = File> + AllocGlobal + Abort),
+    upgrade: Upgrade,
     at: (u64, u64),
     fate: Fate,
     told: &str,
 ) -> Result<bool, Fail> {
-    let (old, new) = (old_image(rt)?, Disk::new(rt)?);
+    let (old, new) = (old_image(rt)?, Disk::of_length(rt, upgrade.length)?);
     let files = TwoDisks::of(&old, &new);
     old.begin(at.0);
     new.begin(at.1);
-    let left = call_over(rt, &files, UPGRADE.as_slice(), b"");
+    let left = call_over(rt, &files, upgrade.words, b"");
     assert_eq!(rt; (left.status, left.output.is_empty()), (3, true), "{at:?}");
     assert_eq!(rt; left.errors.as_slice(), told.as_bytes(), "{at:?}");
     old.restart(fate);
     new.restart(fate);
-    new_file_stays(rt, &files, &old, &new)?;
+    new_file_stays(rt, upgrade, &files, &old, &new)?;
     let whole = is_whole(rt, &files);
-    let again = Disk::new(rt)?;
-    check_upgrade(rt, &TwoDisks::of(&old, &again));
+    let again = Disk::of_length(rt, upgrade.length)?;
+    check_upgrade(rt, upgrade, &TwoDisks::of(&old, &again));
     Ok(whole)
 }
 
 /// A second upgrade to the new name is refused, with no call of either image.
 fn new_file_stays(
     rt: &(impl Files<File = File> + AllocGlobal + Abort),
+    upgrade: Upgrade,
     files: &TwoDisks<'_>,
     old: &Disk,
     new: &Disk,
 ) -> Result<(), Fail> {
     let before = new.copy(rt)?;
-    let left = call_over(rt, files, UPGRADE.as_slice(), b"");
+    let left = call_over(rt, files, upgrade.words, b"");
     assert_eq!(rt;
         (left.status, left.errors.as_slice()),
         (3, b"forth83: image: exists\n".as_slice())
@@ -142,29 +175,52 @@ fn new_file_stays(
 /// Each call of the old image fails, with one fate after another of what wasn't synced: the new file is no image.
 #[test]
 fn upgrades_whose_old_image_fails(rt: HostRuntime) -> Result<(), Fail> {
-    let (calls, _) = calls_of_both(&rt)?;
     // A recovery of two blocks, and then both sectors of each home.
-    assert_eq!(rt; calls, 15 + 64);
-    for (k, fate) in (0..calls).zip(FATES.iter().cycle()) {
-        let whole = upgrade_fails(&rt, (k, u64::MAX), *fate, DEVICE_FAULT)?;
-        assert!(rt; !whole, "at {k}");
-    }
-    Ok(())
+    old_image_fails(&rt, UPGRADE, 15 + 64)
 }
 
 /// Each call of the new one fails, the last ones with each fate: it is no image before the label is written, and then none or the whole one.
 #[test]
 fn upgrades_whose_new_image_fails(rt: HostRuntime) -> Result<(), Fail> {
-    let (_, calls) = calls_of_both(&rt)?;
-    assert_eq!(rt; calls, 4 + 71);
+    new_image_fails(&rt, UPGRADE, 4 + 71)
+}
+
+/// Calls of the old image fail, of which there are so many.
+pub(crate) fn old_image_fails(
+    rt: &(impl Files<File = File> + AllocGlobal + Abort),
+    upgrade: Upgrade,
+    wanted: u64,
+) -> Result<(), Fail> {
+    let (calls, _) = calls_of_both(rt, upgrade)?;
+    assert_eq!(rt; calls, wanted);
+    for (k, fate) in (0..calls).zip(FATES.iter().cycle()) {
+        if upgrade.fails_at(k) {
+            let whole = upgrade_fails(rt, upgrade, (k, u64::MAX), *fate, DEVICE_FAULT)?;
+            assert!(rt; !whole, "at {k}");
+        }
+    }
+    Ok(())
+}
+
+/// Calls of the new one fail, of which there are so many.
+pub(crate) fn new_image_fails(
+    rt: &(impl Files<File = File> + AllocGlobal + Abort),
+    upgrade: Upgrade,
+    wanted: u64,
+) -> Result<(), Fail> {
+    let (_, calls) = calls_of_both(rt, upgrade)?;
+    assert_eq!(rt; calls, wanted);
     let label = calls.saturating_sub(2);
     for (k, fate) in (0..label).zip(FATES.iter().cycle()) {
-        let whole = upgrade_fails(&rt, (u64::MAX, k), *fate, told_of_making(k, NAMED))?;
-        assert!(rt; !whole, "at {k}");
+        if upgrade.fails_at(k) {
+            let told = told_of_making(k, upgrade.named);
+            let whole = upgrade_fails(rt, upgrade, (u64::MAX, k), *fate, told)?;
+            assert!(rt; !whole, "at {k}");
+        }
     }
     for k in label..calls {
         for fate in FATES {
-            let whole = upgrade_fails(&rt, (u64::MAX, k), fate, DEVICE_FAULT)?;
+            let whole = upgrade_fails(rt, upgrade, (u64::MAX, k), fate, DEVICE_FAULT)?;
             assert_eq!(rt;
                 whole,
                 fate == Fate::Kept || fate == Fate::EvenKept,

@@ -25,7 +25,7 @@ use Rattle.terminal.specs.Failures.{of_upgrade}
 use Rattle.terminal.specs.declared.failure.Failure.{Failure}
 use Rattle.terminal.specs.declared.failure.Failure.TheVariants.{CannotWrite, Device}
 
-both_true : (a b : Bool) → (a && b) ≡ true → (a ≡ true) × (b ≡ true)
+pub both_true : (a b : Bool) → (a && b) ≡ true → (a ≡ true) × (b ≡ true)
 both_true true b is = (refl, is)
 both_true false b is = cc
 
@@ -34,7 +34,7 @@ pub sized : (sectors : ℕ) → is_size sectors ≡ true → sectors ≡ sectors
 sized sectors is = eqb-true sectors (sectors_for (blocks_in sectors)) (both_true _ _ is).1
 
 -- Neither of two sizes is refused.
-fits : (a b : Bool) (x y : UpgradeFault) → (if not a then Some x else (if not b then Some y else None)) ≡ None → (a ≡ true) × (b ≡ true)
+pub fits : (a b : Bool) (x y : UpgradeFault) → (if not a then Some x else (if not b then Some y else None)) ≡ None → (a ≡ true) × (b ≡ true)
 fits true true x y is = (refl, refl)
 fits true false x y is = cc
 fits false b x y is = cc
@@ -52,11 +52,11 @@ salvaged_sizes old new is =
     (sized old both.0, eqb-true new old both.1)
 
 -- What isn't refused at all is refused by neither.
-second_of : (a b : Option UpgradeFault) → first_of a b ≡ None → b ≡ None
+pub second_of : (a b : Option UpgradeFault) → first_of a b ≡ None → b ≡ None
 second_of (Some e) b is = cc
 second_of None b is = is
 
-of_old_none : (o : Option OpenFault) → of_old o ≡ None → o ≡ None
+pub of_old_none : (o : Option OpenFault) → of_old o ≡ None → o ≡ None
 of_old_none None is = refl
 of_old_none (Some e) is = cc
 

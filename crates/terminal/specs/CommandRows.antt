@@ -43,6 +43,10 @@ read_many words = option_map (λ given. (
 ))
     (subcommand_of forth83 (codes "forth83" ∷ words))
 
+-- the layout that is asked for
+abbrev pub read_layout : List Text → Option (Option Text)
+read_layout words = option_map (λ given. one_of (codes "layout") given.1) (subcommand_of forth83 (codes "forth83" ∷ words))
+
 -- whether a check is asked for
 abbrev pub read_check : List Text → Option (Option Text)
 read_check words = option_map (λ given. one_of (codes "check") given.1) (subcommand_of forth83 (codes "forth83" ∷ words))
@@ -63,6 +67,13 @@ pub record CommandsAreRead : Type 0 where
   pub makes_fits : refused (codes "new" ∷ codes "A" ∷ codes "--blocks" ∷ codes "32" ∷ []) ≡ []
   pub makes_first : read (codes "new" ∷ codes "--blocks=3840" ∷ codes "A" ∷ [])
       ≡ Some (codes "new", Some (codes "A"), None, Some (codes "3840"), None, None)
+  pub makes_by_2 : read_layout (codes "new" ∷ codes "A" ∷ codes "--blocks" ∷ codes "32" ∷ []) ≡ Some (Some (codes "2"))
+  pub makes_by_2_asked : read_layout (codes "new" ∷ codes "A" ∷ codes "--blocks=32" ∷ codes "--layout=2" ∷ []) ≡ Some (Some (codes "2"))
+  pub makes_by_3 : read_layout (codes "new" ∷ codes "A" ∷ codes "--layout" ∷ codes "3" ∷ codes "--blocks" ∷ codes "32" ∷ [])
+      ≡ Some (Some (codes "3"))
+  pub makes_by_3_fits : refused (codes "new" ∷ codes "A" ∷ codes "--layout" ∷ codes "3" ∷ codes "--blocks" ∷ codes "32" ∷ []) ≡ []
+  pub makes_by_1 : refused (codes "new" ∷ codes "A" ∷ codes "--blocks=32" ∷ codes "--layout=1" ∷ []) ≡ kind.ValueValidation ∷ []
+  pub makes_by_4 : refused (codes "new" ∷ codes "A" ∷ codes "--blocks=32" ∷ codes "--layout=4" ∷ []) ≡ kind.ValueValidation ∷ []
   pub runs : read (codes "run" ∷ codes "A" ∷ [])
       ≡ Some (codes "run", Some (codes "A"), None, None, Some (codes "1000000"), None)
   pub runs_fits : refused (codes "run" ∷ codes "A" ∷ []) ≡ []
@@ -107,6 +118,10 @@ pub record CommandsAreRead : Type 0 where
   pub no_image_to_check : refused (codes "check" ∷ []) ≡ kind.MissingRequiredArgument ∷ []
   pub upgrades : read_images (codes "upgrade" ∷ codes "A" ∷ codes "B" ∷ []) ≡ Some (codes "upgrade", Some (codes "A"), Some (codes "B"))
   pub upgrades_fits : refused (codes "upgrade" ∷ codes "A" ∷ codes "B" ∷ []) ≡ []
+  pub upgrades_to_2 : read_layout (codes "upgrade" ∷ codes "A" ∷ codes "B" ∷ []) ≡ Some (Some (codes "2"))
+  pub upgrades_to_3 : read_layout (codes "upgrade" ∷ codes "A" ∷ codes "B" ∷ codes "--layout" ∷ codes "3" ∷ []) ≡ Some (Some (codes "3"))
+  pub upgrades_to_3_fits : refused (codes "upgrade" ∷ codes "--layout=3" ∷ codes "A" ∷ codes "B" ∷ []) ≡ []
+  pub upgrades_to_1 : refused (codes "upgrade" ∷ codes "A" ∷ codes "B" ∷ codes "--layout=1" ∷ []) ≡ kind.ValueValidation ∷ []
   pub no_new_image : refused (codes "upgrade" ∷ codes "A" ∷ []) ≡ kind.MissingRequiredArgument ∷ []
   pub copies : read_copy (codes "copy" ∷ codes "A" ∷ codes "B" ∷ []) ≡ Some (codes "copy", Some (codes "A"), Some (codes "B"), None)
   pub copies_fits : refused (codes "copy" ∷ codes "A" ∷ codes "B" ∷ []) ≡ []
@@ -115,6 +130,7 @@ pub record CommandsAreRead : Type 0 where
   pub copies_more_fits : refused (codes "copy" ∷ codes "--blocks=3840" ∷ codes "A" ∷ codes "B" ∷ []) ≡ []
   pub copies_few : refused (codes "copy" ∷ codes "A" ∷ codes "B" ∷ codes "--blocks=31" ∷ []) ≡ kind.ValueValidation ∷ []
   pub copies_many : refused (codes "copy" ∷ codes "A" ∷ codes "B" ∷ codes "--blocks=3841" ∷ []) ≡ kind.ValueValidation ∷ []
+  pub copies_by_no_layout : refused (codes "copy" ∷ codes "A" ∷ codes "B" ∷ codes "--layout=3" ∷ []) ≡ kind.UnknownArgument ∷ []
   pub copies_nowhere : refused (codes "copy" ∷ codes "A" ∷ []) ≡ kind.MissingRequiredArgument ∷ []
   pub salvages : read_copy (codes "salvage" ∷ codes "A" ∷ codes "B" ∷ [])
       ≡ Some (codes "salvage", Some (codes "A"), Some (codes "B"), None)

@@ -5,13 +5,15 @@ use Rattle.clap.specs.Words.{App, Row, Rule, Text, fault_of, first_of, is_simple
 use Rattle.clap.specs.declared.builder.action.ArgAction.TheVariants.{Set, SetTrue}
 use Rattle.clap.specs.declared.builder.value_parser.ValueParser.TheVariants as vp
 use Rattle.sector_disk.specs.declared.device.SectorDevice.{Ghosts}
-use Rattle.journal.specs.Layout.{sectors_for}
 use Rattle.terminal.specs.Checked.{Checks}
 use Rattle.terminal.specs.Copying.{CopyDone, SalvageDone}
-use Rattle.terminal.specs.Done.{DoneOn, Exports, ImportsBlocks, LooksAt, MakesBlank, PutsBlock, RunsSession, UpgradeDone}
+use Rattle.terminal.specs.Done.{DoneOn, Exports, ImportsBlocks, LooksAt, PutsBlock, RunsSession}
+use Rattle.terminal.specs.Newer.{NewDone, UpgradeDone}
 use Rattle.terminal.specs.Shown.{ListDone}
 use Rattle.terminal.specs.declared.orders.Form.{Form}
 use Rattle.terminal.specs.declared.orders.Form.TheVariants.{Text as Lines, Raw}
+use Rattle.terminal.specs.declared.orders.Layout.{Layout}
+use Rattle.terminal.specs.declared.orders.Layout.TheVariants.{Two, Three}
 use Rattle.terminal.specs.declared.orders.Order.{Order}
 use Rattle.terminal.specs.declared.orders.Order.TheVariants.{Memory, New, Run, Trace, List as ListBlock, Put, Export, Import, CheckImport, Check, Upgrade, Copy, Salvage}
 
@@ -82,8 +84,17 @@ steps = record (new_rule (codes "steps")) {
   defaults = codes "1000000" ∷ [];
 }
 
+abbrev pub asked_layout : Rule
+asked_layout = record (new_rule (codes "layout")) {
+  long = Some (codes "layout");
+  value_names = 1;
+  action = Some Set;
+  parser = Some (vp.Signed (pos 2) (pos 3));
+  defaults = codes "2" ∷ [];
+}
+
 abbrev pub new_app_of : App
-new_app_of = with_rule (with_rule (new_app (codes "new")) image) blocks
+new_app_of = with_rule (with_rule (with_rule (new_app (codes "new")) image) blocks) asked_layout
 
 abbrev pub run_app : App
 run_app = with_rule (with_rule (with_rule (new_app (codes "run")) image) steps) trace
@@ -107,7 +118,7 @@ abbrev pub check_app : App
 check_app = with_rule (new_app (codes "check")) image
 
 abbrev pub upgrade_app : App
-upgrade_app = with_rule (with_rule (new_app (codes "upgrade")) old_image) new_image
+upgrade_app = with_rule (with_rule (with_rule (new_app (codes "upgrade")) old_image) new_image) asked_layout
 
 abbrev pub copy_app : App
 copy_app = with_rule (with_rule (with_rule (new_app (codes "copy")) old_image) new_image) asked_blocks
@@ -161,6 +172,15 @@ abbrev pub HasBlocks : List Row → Option ℕ → Type 0
 HasBlocks rows None = first_of (codes "blocks") rows ≡ None
 HasBlocks rows (Some n) = HasNumber rows (codes "blocks") n
 
+-- the number of a layout
+abbrev pub layout_number : Layout → ℕ
+layout_number Two = 2
+layout_number Three = 3
+
+-- the layout that was given by its number
+abbrev pub HasLayout : List Row → Layout → Type 0
+HasLayout rows layout = HasNumber rows (codes "layout") (layout_number layout)
+
 -- the form that the flag `--raw` gives
 abbrev pub HasForm : List Row → Form → Type 0
 HasForm rows form = (one_of (codes "raw") rows ≡ Some (codes "true") → form ≡ Raw)
@@ -176,8 +196,8 @@ IsSet rows id = one_of id rows ≢ Some (codes "false")
 -- the order that a command with these arguments gives
 abbrev pub Orders : Option (Text × List Row) → Order → Type 0
 Orders None Memory = ⊤
-Orders (Some given) (New path n) = (given.0 ≡ codes "new") × HasText given.1 (codes "IMAGE") path.now
-    × HasNumber given.1 (codes "blocks") n
+Orders (Some given) (New path n layout) = (given.0 ≡ codes "new") × HasText given.1 (codes "IMAGE") path.now
+    × HasNumber given.1 (codes "blocks") n × HasLayout given.1 layout
 Orders (Some given) (Run path n) = (given.0 ≡ codes "run") × HasText given.1 (codes "IMAGE") path.now
     × HasNumber given.1 (codes "steps") n × IsUnset given.1 (codes "trace")
 Orders (Some given) (Trace path n) = (given.0 ≡ codes "run") × HasText given.1 (codes "IMAGE") path.now
@@ -193,8 +213,8 @@ Orders (Some given) (Import path first source form) = (given.0 ≡ codes "import
 Orders (Some given) (CheckImport path first source form) = (given.0 ≡ codes "import") × HasText given.1 (codes "IMAGE") path.now
     × HasNumber given.1 (codes "FIRST") first × HasText given.1 (codes "FILE") source.now × HasForm given.1 form × IsSet given.1 (codes "check")
 Orders (Some given) (Check path) = (given.0 ≡ codes "check") × HasText given.1 (codes "IMAGE") path.now
-Orders (Some given) (Upgrade old new) = (given.0 ≡ codes "upgrade") × HasText given.1 (codes "OLD") old.now
-    × HasText given.1 (codes "NEW") new.now
+Orders (Some given) (Upgrade old new layout) = (given.0 ≡ codes "upgrade") × HasText given.1 (codes "OLD") old.now
+    × HasText given.1 (codes "NEW") new.now × HasLayout given.1 layout
 Orders (Some given) (Copy old new asked) = (given.0 ≡ codes "copy") × HasText given.1 (codes "OLD") old.now
     × HasText given.1 (codes "NEW") new.now × HasBlocks given.1 asked
 Orders (Some given) (Salvage old new asked) = (given.0 ≡ codes "salvage") × HasText given.1 (codes "OLD") old.now
@@ -212,7 +232,7 @@ AreInRange (Some n) = (32 ≤ n) × (n ≤ 3840)
 
 -- its numbers lie in their ranges
 abbrev pub IsInRange : Order → Type 0
-IsInRange (New path n) = (32 ≤ n) × (n ≤ 3840)
+IsInRange (New path n layout) = (32 ≤ n) × (n ≤ 3840)
 IsInRange (Run path n) = (1 ≤ n) × (n ≤ 1000000000)
 IsInRange (Trace path n) = (1 ≤ n) × (n ≤ 1000000000)
 IsInRange (Copy old new asked) = AreInRange asked
@@ -227,7 +247,7 @@ module _ {D E : Type 0} (G : Ghosts D) (L : Ghosts E) where
   abbrev pub IsDone : (opened : List ℕ → D → Type 0) (made : List ℕ → ℕ → D → Type 0) (looked : List ℕ → E → Type 0) → Order
       → (left left' written written' : Option (List ℕ)) → Type 0
   IsDone opened made looked Memory left left' written written' = ⊤
-  IsDone opened made looked (New path n) left left' written written' = DoneOn G (made path.now (sectors_for n)) (MakesBlank G n)
+  IsDone opened made looked (New path n layout) left left' written written' = NewDone G (made path.now) n layout
   IsDone opened made looked (Run path n) left left' written written' =
       DoneOn G (opened path.now) (RunsSession G n left left' written written')
   IsDone opened made looked (Trace path n) left left' written written' =
@@ -242,7 +262,8 @@ module _ {D E : Type 0} (G : Ghosts D) (L : Ghosts E) where
   IsDone opened made looked (CheckImport path first source form) left left' written written' =
       DoneOn G (opened path.now) (LooksAt G form first)
   IsDone opened made looked (Check path) left left' written written' = DoneOn L (looked path.now) (Checks L written written')
-  IsDone opened made looked (Upgrade old new) left left' written written' = UpgradeDone G (opened old.now) (made new.now)
+  IsDone opened made looked (Upgrade old new layout) left left' written written' =
+      UpgradeDone G (opened old.now) (made new.now) layout
   IsDone opened made looked (Copy old new asked) left left' written written' = CopyDone L G (looked old.now) (made new.now) asked
   IsDone opened made looked (Salvage old new asked) left left' written written' =
       SalvageDone L G (looked old.now) (made new.now) asked written written'

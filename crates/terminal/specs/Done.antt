@@ -177,6 +177,3 @@ module _ {D : Type 0} (G : Ghosts D) where
   abbrev pub Upgraded : (opened : D → Type 0) (made : ℕ → D → Type 0) (source' after : D) → Type 0
   Upgraded opened made source' after =
       (source : D) × opened source × (device : D) × made (G.sector_count source) device × Upgrades source source' device after
-
-  abbrev pub UpgradeDone : (opened : D → Type 0) (made : ℕ → D → Type 0) → Type 0
-  UpgradeDone opened made = (source' : D) × (after : D) × Upgraded opened made source' after

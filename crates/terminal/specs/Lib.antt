@@ -6,6 +6,7 @@ pub mod InMemory
 pub mod Failures
 pub mod Done
 pub mod Older
+pub mod Newer
 pub mod Copying
 pub mod Shown
 pub mod Files

@@ -1,14 +1,16 @@
 //! The commands over images that are files of a system: each gives back what it has opened or made.
 ghost use Rattle.std.specs.Prelude.{◌≡◌, ◌≢◌, ◌⊎◌, ◌<◌, ◌≤◌, ◌+◌, ◌*◌, ◌↔◌, true, OnOk, IfOk, IfErr, IsErrOf};
 ghost use Rattle.journal.specs.Layout.{sectors_for};
+ghost use Rattle.shadow.specs.Layout as newer_layout;
 ghost use Rattle.stores.specs.Store.{Continues, DeviceBegins, DeviceFailed, DeviceReads, blocks_of, closed_of, device_of, pending_count};
 ghost use Rattle.terminal.specs.Done.{Comes, Exports, ImportsBlocks, LooksAt, MakesBlank, PutsBlock, RunsSession, Upgraded};
 ghost use Rattle.terminal.specs.Files.{IsMade, IsOpened, OpensOn};
+ghost use Rattle.terminal.specs.Newer.{MakesNewer};
 ghost use Rattle.terminal.specs.Putting.{LeavesSome, PutsSome};
 
 use super::exporting::export_blocks;
 use super::failure::Failure;
-use super::images::{make_over, open_over, put_text};
+use super::images::{make_newer_over, make_over, open_over, put_text};
 use super::importing::{import_file, read_blocks};
 use super::orders::Form;
 use super::program::run_session;
@@ -42,6 +44,38 @@ pub fn make_image<H: HostFile + Drop, O: HostFiles<H>>(
         Ok(store) => Ok(store),
         Err((failure, _)) => Err(failure),
     }
+}
+
+/// The same of layout 3.
+pub fn make_newer_image<H: HostFile + Drop, O: HostFiles<H>>(
+    files: &O,
+    path: &str,
+    blocks: u16,
+) -> Result<Store<SectorFile<H>>, Failure>
+    // Ok only where the file was made under this name, and became an image of blank blocks.
+    ensures made { IfOk result (λ store. Comes ⟦<SectorFile<H> as SectorDevice>⟧
+        (IsMade H.HostFile (O.makes files.now path.now) (newer_layout.sectors_for blocks))
+        (MakesNewer ⟦<SectorFile<H> as SectorDevice>⟧ blocks) (device_of store)) }
+    // No call of it failed.
+    ensures well { IfOk result (λ store. ⟦<SectorFile<H> as SectorDevice>⟧.failures (device_of store) ≡ 0) }
+{
+    let disk = make_newer_file(files, path, blocks)?;
+    match make_newer_over(disk, blocks) {
+        Ok(store) => Ok(store),
+        Err((failure, _)) => Err(failure),
+    }
+}
+
+/// Makes a file of the size of an image of layout 3 of so many blocks.
+pub(super) fn make_newer_file<H: HostFile + Drop, O: HostFiles<H>>(
+    files: &O,
+    path: &str,
+    blocks: u16,
+) -> Result<SectorFile<H>, Failure>
+    ensures made { IfOk result (λ disk. IsMade H.HostFile (O.makes files.now path.now) (newer_layout.sectors_for blocks) disk) }
+    ensures well { IfOk result (λ disk. ⟦<SectorFile<H> as SectorDevice>⟧.failures disk ≡ 0) }
+{
+    Ok(create_disk(files, path, 32 + 16 * blocks as u32)?)
 }
 
 /// Opens an image.

@@ -11,11 +11,13 @@ ghost use Rattle.stores.specs.Store.{blocks_of, closed_of, device_of, disk_of, p
 ghost use Rattle.stores.specs.Store.{Continues, DeviceFailed, KeepsSaved};
 ghost use Rattle.recovery.specs.Formatted.{blank_blocks};
 ghost use Rattle.recovery.specs.Label.{is_size_for};
+ghost use Rattle.shadow.specs.Label as newer_label;
 ghost use Rattle.shadow.specs.Label.{is_known_size};
 ghost use Rattle.stores.specs.Opened.{image_refusal};
 ghost use Rattle.terminal.specs.Done.{ListsBlock, MakesBlank};
 ghost use Rattle.terminal.specs.Failures.{of_image};
 ghost use Rattle.terminal.specs.Files.{OpensAs};
+ghost use Rattle.terminal.specs.Newer.{MakesNewer};
 ghost use Rattle.terminal.specs.Putting.{PutsSome, LeavesSome};
 ghost use Rattle.terminal.specs.Screen.{screen_of, listing};
 
@@ -46,6 +48,25 @@ pub fn make_over<D: SectorDevice + Drop>(device: D, blocks: u16) -> Result<Store
     ensures device { IfErr result (λ e. e.0 ≡ Failure.Device → D.failures e.1 ≡ count_up (D.failures device)) }
 {
     match format(device, blocks) {
+        Ok(store) => Ok(Store::from(store)),
+        Err((fault, device)) => Err((Failure::from(fault), device)),
+    }
+}
+
+/// The same by layout 3.
+pub fn make_newer_over<D: SectorDevice + Drop>(
+    device: D,
+    blocks: u16,
+) -> Result<Store<D>, (Failure, D)>
+    ensures made { IfOk result (λ store. MakesNewer D.SectorDevice blocks device (device_of store)) }
+    ensures stands { IsTrue (D.keeps_model device) → IfOk result (λ store. StandsFor store (fresh (blank_blocks blocks))) }
+    // Ok only where no call failed.
+    ensures well { IfOk result (λ store. D.failures (device_of store) ≡ D.failures device) }
+    ensures refusal { IfErr result (λ e. MatchBool (newer_label.is_size_for blocks (D.sector_count device))
+        (e.0 ≡ Failure.Device) (e.0 ≡ Failure.BadSize)) }
+    ensures device { IfErr result (λ e. e.0 ≡ Failure.Device → D.failures e.1 ≡ count_up (D.failures device)) }
+{
+    match shadow::format(device, blocks) {
         Ok(store) => Ok(Store::from(store)),
         Err((fault, device)) => Err((Failure::from(fault), device)),
     }

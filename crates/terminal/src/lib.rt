@@ -15,6 +15,7 @@ mod findings;
 mod images;
 mod importing;
 pub mod laws;
+mod newer_copying;
 pub mod orders;
 mod program;
 mod reading;

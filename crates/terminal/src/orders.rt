@@ -9,13 +9,22 @@ pub enum Form {
     Raw,
 }
 
+/// How an image that is made is laid out.
+#[derive(Clone, Copy, Debug, PartialEq, Eq)]
+pub enum Layout {
+    /// By layout 2, which is made where none is asked for.
+    Two,
+    /// By layout 3.
+    Three,
+}
+
 /// What the program is to do.
 #[derive(Clone, Copy, Debug, PartialEq, Eq)]
 pub enum Order<'a> {
     /// Run the input over blocks in memory.
     Memory,
-    /// Make an image of so many blocks.
-    New(&'a str, u16),
+    /// Make an image of so many blocks, by a layout.
+    New(&'a str, u16, Layout),
     /// Run the input over an image, with so many steps a line.
     Run(&'a str, u32),
     /// The same, and tell beside the replies where a fault ended a line.
@@ -32,8 +41,8 @@ pub enum Order<'a> {
     CheckImport(&'a str, u16, &'a str, Form),
     /// Tell what an image holds.
     Check(&'a str),
-    /// Make an image of layout 2 of the blocks of one of layout 1.
-    Upgrade(&'a str, &'a str),
+    /// Make an image by a layout of the blocks of one of an older layout.
+    Upgrade(&'a str, &'a str, Layout),
     /// Make an image of the blocks of another one, of so many blocks or of as many.
     Copy(&'a str, &'a str, Option<u16>),
     /// Make an image of what can be had of a damaged one, which is to have so many blocks.

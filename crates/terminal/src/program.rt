@@ -1,5 +1,5 @@
 //! The program: words, streams and files to an exit status.
-ghost use Rattle.std.specs.Prelude.{◌≡◌, ◌≢◌, ◌⊎◌, ◌<◌, List, [], map, Err, IsOk, IsErr, IfOk, IfErr, IsErrOf, MatchResult, OnOk};
+ghost use Rattle.std.specs.Prelude.{◌≡◌, ◌≢◌, ◌⊎◌, ◌<◌, ◌≤◌, List, [], map, Err, IsOk, IsErr, IfOk, IfErr, IsErrOf, MatchResult, OnOk};
 ghost use Rattle.clap.specs.Words.{fault_of, kind_of};
 ghost use Rattle.journal.specs.Maps.{Maps};
 ghost use Rattle.stores.specs.Store.{StandsFor, device_of};
@@ -12,6 +12,7 @@ ghost use Rattle.terminal.specs.Done.{RunsFrom};
 ghost use Rattle.sessions.specs.Devices.{Becomes};
 ghost use Rattle.terminal.specs.Failures.{status_of};
 ghost use Rattle.terminal.specs.Files.{IsMade, IsOpened};
+ghost use Rattle.terminal.specs.Newer.{NewDone, UpgradeDone};
 ghost use Rattle.terminal.specs.InMemory.{AsksForNothing, IsForMemory, CompletesInMemory, BreaksInMemory, IsHelp};
 ghost use Rattle.sessions.specs.Sessions.{BreaksOff};
 
@@ -19,9 +20,11 @@ use super::checking::check_image;
 use super::copying::{copy_image, salvage_image};
 use super::failure::Failure;
 use super::files::{
-    check_import, export_image, import_image, make_image, put_into_image, run_image, upgrade_image,
+    check_import, export_image, import_image, make_image, make_newer_image, put_into_image,
+    run_image, upgrade_image,
 };
-use super::orders::Order;
+use super::newer_copying::upgrade_to_newer;
+use super::orders::{Layout, Order};
 use super::reading::order;
 use super::showing::list_image;
 use clap::Error;
@@ -144,7 +147,7 @@ fn perform<
 {
     match asked {
         Order::Memory => run_in_memory::<M, R, W>(rt, input, output),
-        Order::New(path, blocks) => closed(make_image::<H, O>(files, path, blocks)),
+        Order::New(path, blocks, layout) => make_by::<H, O>(files, path, blocks, layout),
         Order::Run(path, steps) => closed(run_image::<H, O, F, R, W, Untraced>(
             rt.alloc(),
             files,
@@ -179,13 +182,47 @@ fn perform<
             rt, files, path, first, source, form, errors,
         )),
         Order::Check(path) => closed(check_image::<K, P, W>(rt.alloc(), looking, path, output)),
-        Order::Upgrade(old, new) => closed(upgrade_image::<H, O>(files, old, new)),
+        Order::Upgrade(old, new, layout) => upgrade_by::<H, O>(files, old, new, layout),
         Order::Copy(old, new, asked) => {
             closed(copy_image::<K, P, H, O>(looking, files, old, new, asked))
         }
         Order::Salvage(old, new, asked) => closed(salvage_image::<K, P, H, O, W>(
             looking, files, old, new, asked, output,
         )),
+    }
+}
+
+/// Makes an image of blank blocks, by a layout.
+fn make_by<H: HostFile + Drop, O: HostFiles<H>>(
+    files: &O,
+    path: &str,
+    blocks: u16,
+    layout: Layout,
+) -> Result<(), Failure>
+    requires many { 32 ≤ blocks }
+    requires few { blocks ≤ 3840 }
+    ensures { OnOk result (NewDone ⟦<SectorFile<H> as SectorDevice>⟧
+        (IsMade H.HostFile (O.makes files.now path.now)) blocks layout) }
+{
+    match layout {
+        Layout::Two => closed(make_image::<H, O>(files, path, blocks)),
+        Layout::Three => closed(make_newer_image::<H, O>(files, path, blocks)),
+    }
+}
+
+/// Makes an image of the blocks of an older one, by a layout.
+fn upgrade_by<H: HostFile + Drop, O: HostFiles<H>>(
+    files: &O,
+    old: &str,
+    new: &str,
+    layout: Layout,
+) -> Result<(), Failure>
+    ensures { OnOk result (UpgradeDone ⟦<SectorFile<H> as SectorDevice>⟧
+        (IsOpened H.HostFile (O.opens files.now old.now)) (IsMade H.HostFile (O.makes files.now new.now)) layout) }
+{
+    match layout {
+        Layout::Two => closed(upgrade_image::<H, O>(files, old, new)),
+        Layout::Three => closed(upgrade_to_newer::<H, O>(files, old, new)),
     }
 }
 

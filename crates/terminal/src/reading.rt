@@ -2,10 +2,10 @@
 ghost use Rattle.std.specs.Prelude.{◌≡◌, ◌≤◌, ℕ, List, false, Some, map, codes, IfOk, IfSome};
 ghost use Rattle.clap.specs.Words.{FailsBy, app_of, fault_of, found_of, rows_of, rule_of, with_subcommand};
 ghost use Rattle.clap.specs.declared.builder.command.Command.TheViews.{out-Command};
-ghost use Rattle.terminal.specs.Commands.{image, old_image, new_image, block, first_block, last_block, file, raw, check, trace, blocks, steps, new_app_of, run_app, list_app, put_app, export_app, import_app, import_without_flags, check_app, upgrade_app, program, forth83, over_blocks, ReadsAs, SufficesFor, HasForm, HasNumber, HasText, Orders, IsOrderOf, IsInRange};
+ghost use Rattle.terminal.specs.Commands.{image, old_image, new_image, block, first_block, last_block, file, raw, check, trace, blocks, steps, asked_layout, new_app_of, run_app, list_app, put_app, export_app, import_app, import_without_flags, check_app, upgrade_app, program, forth83, over_blocks, ReadsAs, SufficesFor, HasForm, HasLayout, HasNumber, HasText, Orders, IsOrderOf, IsInRange};
 ghost use Rattle.terminal.specs.Commands.{asked_blocks, copy_app, salvage_app, making, HasBlocks, AreInRange};
 
-use super::orders::{Form, Order};
+use super::orders::{Form, Layout, Order};
 use clap::{Arg, ArgAction, ArgMatches, Command, Error};
 use std::alloc::{AllocError, Global};
 use std::convert::AsStr;
@@ -39,11 +39,21 @@ fn order_of<'a>(name: &str, given: &ArgMatches<'a>) -> Option<Order<'a>>
     ensures ranges { IfSome result (λ o. IsInRange o) }
 {
     match name {
-        "upgrade" => Some(Order::Upgrade(given.get_str("OLD")?, given.get_str("NEW")?)),
+        "upgrade" => order_of_upgrade(given),
         "copy" => order_of_copy(given),
         "salvage" => order_of_salvage(given),
         _ => order_over_image(name, given),
     }
+}
+
+/// The order of an upgrade.
+fn order_of_upgrade<'a>(given: &ArgMatches<'a>) -> Option<Order<'a>>
+    ensures given { IfSome result (λ o. Orders (Some (codes "upgrade", rows_of (found_of given.now))) o) }
+    ensures ranges { IfSome result (λ o. IsInRange o) }
+{
+    let old = given.get_str("OLD")?;
+    let new = given.get_str("NEW")?;
+    Some(Order::Upgrade(old, new, layout_of(given)?))
 }
 
 /// The order of a copy.
@@ -73,13 +83,23 @@ fn order_over_image<'a>(name: &str, given: &ArgMatches<'a>) -> Option<Order<'a>>
 {
     let image = given.get_str("IMAGE")?;
     match name {
-        "new" => Some(Order::New(image, blocks_of(given)?)),
+        "new" => order_of_new(image, given),
         "run" => Some(order_of_run(image, steps_of(given)?, given)),
         "check" => Some(Order::Check(image)),
-        "list" => Some(Order::List(image, block_of(given, "BLOCK")?)),
-        "put" => Some(Order::Put(image, block_of(given, "BLOCK")?, given.get_str("FILE")?)),
+        "list" => Some(Order::List(image, number_of(given, "BLOCK")?)),
+        "put" => Some(Order::Put(image, number_of(given, "BLOCK")?, given.get_str("FILE")?)),
         _ => order_over_blocks(name, image, given),
     }
+}
+
+/// The order of a new image.
+fn order_of_new<'a>(image: &'a str, given: &ArgMatches<'a>) -> Option<Order<'a>>
+    requires { HasText (rows_of (found_of given.now)) (codes "IMAGE") image.now }
+    ensures given { IfSome result (λ o. Orders (Some (codes "new", rows_of (found_of given.now))) o) }
+    ensures ranges { IfSome result (λ o. IsInRange o) }
+{
+    let blocks = blocks_of(given)?;
+    Some(Order::New(image, blocks, layout_of(given)?))
 }
 
 /// The order of a run, with a trace or without one.
@@ -107,11 +127,11 @@ fn order_over_blocks<'a>(name: &str, image: &'a str, given: &ArgMatches<'a>) -> 
     match name {
         "export" => Some(Order::Export(
             image,
-            block_of(given, "FIRST")?,
-            block_of(given, "LAST")?,
+            number_of(given, "FIRST")?,
+            number_of(given, "LAST")?,
             form_of(given),
         )),
-        "import" => order_of_import(image, block_of(given, "FIRST")?, given),
+        "import" => order_of_import(image, number_of(given, "FIRST")?, given),
         _ => None,
     }
 }
@@ -154,6 +174,16 @@ fn asked_blocks_of(given: &ArgMatches<'_>) -> Option<Option<u16>>
     }
 }
 
+fn layout_of(given: &ArgMatches<'_>) -> Option<Layout>
+    ensures { IfSome result (λ l. HasLayout (rows_of (found_of given.now)) l) }
+{
+    match number_of(given, "layout")? {
+        2 => Some(Layout::Two),
+        3 => Some(Layout::Three),
+        _ => None,
+    }
+}
+
 fn steps_of(given: &ArgMatches<'_>) -> Option<u32>
     ensures number { IfSome result (λ n. HasNumber (rows_of (found_of given.now)) (codes "steps") n) }
     ensures many { IfSome result (λ n. 1 ≤ n) }
@@ -165,7 +195,7 @@ fn steps_of(given: &ArgMatches<'_>) -> Option<u32>
     }
 }
 
-fn block_of(given: &ArgMatches<'_>, id: &str) -> Option<u16>
+fn number_of(given: &ArgMatches<'_>, id: &str) -> Option<u16>
     ensures { IfSome result (λ n. HasNumber (rows_of (found_of given.now)) id.now n) }
 {
     given.get_one(id)
@@ -198,7 +228,7 @@ fn old_argument<'a>(alloc: Global) -> Arg<'a>
     Arg::new(alloc, "OLD")
         .required(true)
         .action(ArgAction::Set)
-        .help("The file of an image of layout 1")
+        .help("The file of an image of an older layout")
 }
 
 fn source_image_argument<'a>(alloc: Global) -> Arg<'a>
@@ -300,6 +330,19 @@ fn asked_blocks_option<'a>(alloc: Global, help: &'a str) -> Arg<'a>
         .help(help)
 }
 
+fn layout_option<'a>(alloc: Global, help: &'a str) -> Arg<'a>
+    ensures rule { rule_of result ≡ asked_layout }
+    ensures local { result.global ≡ false }
+{
+    Arg::new(alloc, "layout")
+        .long("layout")
+        .value_name("L")
+        .action(ArgAction::Set)
+        .value_parser(clap::value_parser!(u16).range(2..=3))
+        .default_value("2")
+        .help(help)
+}
+
 fn steps_option<'a>(alloc: Global) -> Arg<'a>
     ensures rule { rule_of result ≡ steps }
     ensures local { result.global ≡ false }
@@ -350,7 +393,8 @@ fn new_command<'a>(alloc: Global) -> Result<Command<'a>, AllocError>
     Command::new(alloc, "new")
         .about("Make an image of blank blocks, in a new file")
         .arg(image_argument(alloc))?
-        .arg(blocks_option(alloc))
+        .arg(blocks_option(alloc))?
+        .arg(layout_option(alloc, "The layout of the image, 2 or 3"))
 }
 
 fn run_command<'a>(alloc: Global) -> Result<Command<'a>, AllocError>
@@ -432,9 +476,13 @@ fn upgrade_command<'a>(alloc: Global) -> Result<Command<'a>, AllocError>
     ensures local { IfOk result (λ c. (out-Command c).has_globals ≡ false) }
 {
     Command::new(alloc, "upgrade")
-        .about("Make an image of layout 2, in a new file, of the blocks of one of layout 1")
+        .about("Make an image of layout 2 or 3, in a new file, of the blocks of an older one")
         .arg(old_argument(alloc))?
-        .arg(new_argument(alloc))
+        .arg(new_argument(alloc))?
+        .arg(layout_option(
+            alloc,
+            "The layout of the new image: 2, of one of layout 1, or 3, of one of layout 1 or 2",
+        ))
 }
 
 fn copy_command<'a>(alloc: Global) -> Result<Command<'a>, AllocError>

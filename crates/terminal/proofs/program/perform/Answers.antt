@@ -3,12 +3,11 @@ use Rattle.terminal.proofs.Closing.{done_of}
 use Rattle.terminal.proofs.program.perform.Goals as goal
 
 pub returns-in-New-clause-done : goal.returns-in-New-clause-done
-returns-in-New-clause-done g c =
-    rw c.in-New.is (done_of c.make_image.result c.closed.result c.closed.ensures _ _ (λ store made. (device_of store, made)) c.make_image.ensures.made)
+returns-in-New-clause-done g c = rw c.in-New.is c.make_by.ensures
 
 pub returns-in-Run-clause-done : goal.returns-in-Run-clause-done
 returns-in-Run-clause-done g c =
-    rw c.in-Run.is (done_of c.run_image.result c.closed-in-Run.result c.closed-in-Run.ensures _ _ (λ store ran. (device_of store, ran)) c.run_image.ensures.ran)
+    rw c.in-Run.is (done_of c.run_image.result c.closed.result c.closed.ensures _ _ (λ store ran. (device_of store, ran)) c.run_image.ensures.ran)
 
 pub returns-in-Trace-clause-done : goal.returns-in-Trace-clause-done
 returns-in-Trace-clause-done g c =
@@ -22,8 +21,7 @@ returns-in-Put-clause-done g c =
     rw c.in-Put.is (done_of c.put_into_image.result c.closed-in-Put.result c.closed-in-Put.ensures _ _ (λ store put. (device_of store, put)) c.put_into_image.ensures.put)
 
 pub returns-in-Upgrade-clause-done : goal.returns-in-Upgrade-clause-done
-returns-in-Upgrade-clause-done g c =
-    rw c.in-Upgrade.is (done_of c.upgrade_image.result c.closed-in-Upgrade.result c.closed-in-Upgrade.ensures _ _ (λ both made. (both.0, both.1, made)) c.upgrade_image.ensures.made)
+returns-in-Upgrade-clause-done g c = rw c.in-Upgrade.is c.upgrade_by.ensures
 
 pub returns-in-Export-clause-done : goal.returns-in-Export-clause-done
 returns-in-Export-clause-done g c =

@@ -3,12 +3,8 @@ use Rattle.std.specs.Prelude.{codes}
 use Rattle.terminal.proofs.Given.{text_given}
 use Rattle.terminal.proofs.reading.order_over_image.Goals as goal
 
-pub returns-in_ok-blocks_of-in-new-clause-given : goal.returns-in_ok-blocks_of-in-new-clause-given
-returns-in_ok-blocks_of-in-new-clause-given c = (
-  search rules,
-  text_given c.args.given.now (codes "IMAGE") c.in_ok-image.image.now c.in_ok-image.ensures,
-  c.in_ok-blocks_of-in-new.ensures.number,
-)
+pub order_of_new-requires : goal.order_of_new-requires
+order_of_new-requires c = text_given c.args.given.now (codes "IMAGE") c.in_ok-image.image.now c.in_ok-image.ensures
 
 pub order_of_run-requires-clause-image : goal.order_of_run-requires-clause-image
 order_of_run-requires-clause-image c = text_given c.args.given.now (codes "IMAGE") c.in_ok-image.image.now c.in_ok-image.ensures
@@ -19,18 +15,18 @@ returns-in-check-clause-given c = (
   text_given c.args.given.now (codes "IMAGE") c.in_ok-image.image.now c.in_ok-image.ensures,
 )
 
-pub returns-in_ok-block_of-in-list-clause-given : goal.returns-in_ok-block_of-in-list-clause-given
-returns-in_ok-block_of-in-list-clause-given c = (
+pub returns-in_ok-number_of-in-list-clause-given : goal.returns-in_ok-number_of-in-list-clause-given
+returns-in_ok-number_of-in-list-clause-given c = (
   search rules,
   text_given c.args.given.now (codes "IMAGE") c.in_ok-image.image.now c.in_ok-image.ensures,
-  c.in_ok-block_of-in-list.ensures,
+  c.in_ok-number_of-in-list.ensures,
 )
 
 pub returns-in_ok-get_str-in-put-clause-given : goal.returns-in_ok-get_str-in-put-clause-given
 returns-in_ok-get_str-in-put-clause-given c = (
   search rules,
   text_given c.args.given.now (codes "IMAGE") c.in_ok-image.image.now c.in_ok-image.ensures,
-  c.in_ok-block_of-in-put.ensures,
+  c.in_ok-number_of-in-put.ensures,
   text_given c.args.given.now (codes "FILE") c.in_ok-get_str-in-put.field-0.now c.in_ok-get_str-in-put.ensures,
 )
 
