@@ -6,6 +6,7 @@ use std::test::Fail;
 use stops::disks::{formatted, opened, put, spill};
 use stops::fates::unsynced_sectors;
 use stops::fillings::{left_in, shown};
+use stops::medium::OLDER;
 
 #[test]
 fn a_write_touches_the_sectors_of_its_unit(rt: HostRuntime) -> Result<(), Fail> {
@@ -59,7 +60,7 @@ fn save_until<D: SectorDevice + Drop>(device: D, call: u64) -> Result<D, Fail> {
 fn neither(rt: &HostRuntime, disk: &MemoryDisk) -> Result<String, Fail> {
     let alloc = rt.alloc();
     let mut told = String::new(alloc);
-    let sectors = unsynced_sectors(rt, disk)?;
+    let sectors = unsynced_sectors(rt, disk, OLDER)?;
     for (i, sector) in sectors.iter().enumerate() {
         let mut fates = vec![in alloc; Fate::Kept; sectors.len()]?;
         if let Some(fate) = fates.get_mut(i) {

@@ -1,9 +1,9 @@
 //! Compares what disks and blocks hold with what is wanted.
-use journal::Store;
 use sector_disk::SectorDevice;
 use std::process::Abort;
 use std::test::Fail;
 use stops::disks::{block, sector};
+use stores::Store;
 
 /// Compares a sector.
 pub(crate) fn holds<D: SectorDevice>(

@@ -8,6 +8,7 @@ use std::test::Fail;
 use stops::disks::{SECTORS, check, formatted, formatted_with, opened, put, sector, spill};
 use stops::fates::{count_of_stops, stopped, unsynced_sectors};
 use stops::fillings::{left_in, shown};
+use stops::medium::OLDER;
 
 // An open gate.
 fn gate() -> [u8; 512] {
@@ -285,10 +286,10 @@ fn stops_at(
 ) -> Result<bool, Fail> {
     let (done, mut old, new) = make_until(rt, is_salvage, is_image, k, m)?;
     check(
-        unsynced_sectors(rt, &old)?.is_empty() && are_same(&mut old, &mut under_way(rt)?)?,
+        unsynced_sectors(rt, &old, OLDER)?.is_empty() && are_same(&mut old, &mut under_way(rt)?)?,
         "the old image stays",
     )?;
-    let sectors = unsynced_sectors(rt, &new)?;
+    let sectors = unsynced_sectors(rt, &new, OLDER)?;
     for n in 0..count_of_stops(&sectors) {
         let new = stopped(rt, &new, &sectors, n)?;
         match held(rt, new)?.as_str() {

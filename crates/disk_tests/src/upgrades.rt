@@ -7,6 +7,7 @@ use std::test::Fail;
 use stops::disks::{BLOCKS, SECTORS, block, check, formatted, opened, put, sector, spill};
 use stops::fates::{count_of_stops, stopped, unsynced_sectors};
 use stops::fillings::{left_in, shown};
+use stops::medium::OLDER;
 
 // An image of layout 1 whose save of blocks 1 and 2, with bytes 65 and 66, has its gate open and synced. In the homes they
 // are blank, or torn.
@@ -162,7 +163,7 @@ fn upgrade_until(
 // What stops leave where the old device fails from call `k` on, or the new one from call `m` on: whether it was done.
 fn stops_at(rt: &HostRuntime, is_image: bool, k: u64, m: u64) -> Result<bool, Fail> {
     let (done, old, new) = upgrade_until(rt, is_image, k, m)?;
-    let sectors = unsynced_sectors(rt, &old)?;
+    let sectors = unsynced_sectors(rt, &old, OLDER)?;
     for n in 0..count_of_stops(&sectors) {
         let old = stopped(rt, &old, &sectors, n)?;
         check(
@@ -170,7 +171,7 @@ fn stops_at(rt: &HostRuntime, is_image: bool, k: u64, m: u64) -> Result<bool, Fa
             "the old image means the same",
         )?;
     }
-    let sectors = unsynced_sectors(rt, &new)?;
+    let sectors = unsynced_sectors(rt, &new, OLDER)?;
     for n in 0..count_of_stops(&sectors) {
         let new = stopped(rt, &new, &sectors, n)?;
         match held(rt, new)?.as_str() {
@@ -221,7 +222,7 @@ fn a_format_over_an_old_image_leaves_its_label_to_the_last(rt: HostRuntime) -> R
     let mut is_formatted = false;
     for k in 1..90 {
         let (done, disk) = format_until(&rt, k)?;
-        let sectors = unsynced_sectors(&rt, &disk)?;
+        let sectors = unsynced_sectors(&rt, &disk, OLDER)?;
         let is_last = sectors.iter().any(|unsynced| unsynced.k == 0);
         for n in 0..count_of_stops(&sectors) {
             match held(&rt, stopped(&rt, &disk, &sectors, n)?)?.as_str() {

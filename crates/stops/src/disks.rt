@@ -1,16 +1,21 @@
 // Disks and images in memory.
-ghost use Rattle.std.specs.Prelude.{◌≡◌, ◌↔◌, ◌<◌, IsOk, IsTrue, IfOk, OnOk};
+ghost use Rattle.std.specs.Prelude.{◌≡◌, ◌↔◌, ◌<◌, ◌+◌, ◌*◌, IsOk, IsTrue, IfOk, OnOk};
 ghost use Rattle.sector_disk.specs.Disk.{written};
+ghost use Rattle.sector_disk.specs.MemoryDisk.{size};
+ghost use Rattle.shadow.specs.Layout.{sectors_for};
 
-use journal::Store;
-use recovery::{OpenFault, format, open};
+use crate::medium::Layout;
+use journal::layout::MOST_BLOCKS;
+use recovery::OpenFault;
 use sector_disk::{MemoryDisk, SectorDevice};
+use shadow::layout::sectors_for;
 use std::test::Fail;
+use stores::{Store, open};
 
 /// How many blocks an image of these tests has where nothing else is said.
 pub const BLOCKS: u16 = 32;
 
-/// How many sectors such an image has.
+/// How many sectors such an image of layout 2 has.
 pub const SECTORS: u32 = 131;
 
 /// An error where it isn't so.
@@ -66,20 +71,52 @@ pub fn spill<D: SectorDevice>(store: &mut Store<D>, b: u16, byte: u8) -> Result<
     store.spill(b, &[byte; 1024]).map_err(|_| "spill failed")
 }
 
-/// An image of so many blank blocks, of which nothing is unsynced.
-pub fn formatted_with(rt: &HostRuntime, blocks: u16) -> Result<MemoryDisk, Fail> {
-    match format(MemoryDisk::new(rt.alloc(), 3 + 4 * blocks as u32)?, blocks) {
+/// A disk of zeros with as many sectors as an image of so many blocks has by this layout.
+pub fn zeros(rt: &HostRuntime, layout: Layout, blocks: u16) -> Result<MemoryDisk, Fail>
+    ensures older { layout ≡ Layout.Older → IfOk result (λ d. size d ≡ 3 + 4 * blocks) }
+    ensures newer { layout ≡ Layout.Newer → IfOk result (λ d. size d ≡ sectors_for blocks) }
+{
+    if blocks > MOST_BLOCKS {
+        return Err("too many blocks")?;
+    }
+    let sectors = match layout {
+        Layout::Older => 3 + 4 * blocks as u32,
+        Layout::Newer => sectors_for(blocks),
+    };
+    Ok(MemoryDisk::new(rt.alloc(), sectors)?)
+}
+
+/// Makes an image of so many blank blocks by this layout, or tells why it isn't made, and gives the device back.
+pub fn format<D: SectorDevice>(
+    device: D,
+    layout: Layout,
+    blocks: u16,
+) -> Result<Store<D>, (OpenFault, D)> {
+    match layout {
+        Layout::Older => recovery::format(device, blocks).map(|store| Store::from(store)),
+        Layout::Newer => shadow::format(device, blocks).map(|store| Store::from(store)),
+    }
+}
+
+/// An image of so many blank blocks by this layout, of which nothing is unsynced.
+pub fn formatted_by(rt: &HostRuntime, layout: Layout, blocks: u16) -> Result<MemoryDisk, Fail> {
+    match format(zeros(rt, layout, blocks)?, layout, blocks) {
         Ok(store) => Ok(store.into_device()),
         Err((fault, _)) => Err(fault)?,
     }
 }
 
-/// An image of 32 blank blocks, of which nothing is unsynced.
+/// An image of so many blank blocks by layout 2, of which nothing is unsynced.
+pub fn formatted_with(rt: &HostRuntime, blocks: u16) -> Result<MemoryDisk, Fail> {
+    formatted_by(rt, Layout::Older, blocks)
+}
+
+/// An image of 32 blank blocks by layout 2, of which nothing is unsynced.
 pub fn formatted(rt: &HostRuntime) -> Result<MemoryDisk, Fail> {
     formatted_with(rt, BLOCKS)
 }
 
-/// The store of an image, or why it isn't opened.
+/// The store of an image of either layout, or why it isn't opened.
 pub fn opened<D: SectorDevice + Drop>(device: D) -> Result<Store<D>, OpenFault> {
     open(device).map_err(|refused| refused.0)
 }

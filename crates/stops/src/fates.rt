@@ -4,6 +4,7 @@ ghost use Rattle.sector_disk.specs.Disk.{MayLeave};
 ghost use Rattle.sector_disk.specs.MemoryDisk.{held, size};
 
 use crate::disks::sector;
+use crate::medium::{Medium, Unit};
 use sector_disk::{Fate, MemoryDisk, SectorDevice};
 use std::alloc::{AllocError, Global};
 use std::test::Fail;
@@ -13,6 +14,8 @@ use std::test::Fail;
 pub struct Unsynced {
     /// Its number.
     pub k: u32,
+    /// The layout, and the units of the disk.
+    pub medium: Medium,
     /// Its bytes at the last sync.
     pub old: [u8; 512],
     /// Its bytes now.
@@ -23,7 +26,11 @@ pub struct Unsynced {
 const MARK: [u8; 512] = [0xee; 512];
 
 /// The unsynced sectors, in rising order: those in which a stop may leave a mark.
-pub fn unsynced_sectors(rt: &HostRuntime, disk: &MemoryDisk) -> Result<Vec<Unsynced>, Fail> {
+pub fn unsynced_sectors(
+    rt: &HostRuntime,
+    disk: &MemoryDisk,
+    medium: Medium,
+) -> Result<Vec<Unsynced>, Fail> {
     let alloc = rt.alloc();
     let mut present = disk.try_clone(alloc)?;
     let marks = vec![in alloc; Fate::Torn(MARK); present.sectors() as usize]?;
@@ -34,6 +41,7 @@ pub fn unsynced_sectors(rt: &HostRuntime, disk: &MemoryDisk) -> Result<Vec<Unsyn
         if sector(&mut marked, k)? == MARK {
             found.push(Unsynced {
                 k,
+                medium,
                 old: sector(&mut lost, k)?,
                 new: sector(&mut present, k)?,
             })?;
@@ -42,8 +50,13 @@ pub fn unsynced_sectors(rt: &HostRuntime, disk: &MemoryDisk) -> Result<Vec<Unsyn
     Ok(found)
 }
 
-// The most combinations that are all tried.
-const MOST: usize = 1_000;
+// Whether these are more combinations than are all tried.
+fn are_too_many(sectors: &[Unsynced], all: usize) -> bool {
+    match sectors.first() {
+        Some(sector) => all > sector.medium.most_stops(),
+        None => false,
+    }
+}
 
 // Its first `n` bytes are new, and the rest is old.
 fn torn(sector: &Unsynced, n: usize) -> Fate {
@@ -54,53 +67,75 @@ fn torn(sector: &Unsynced, n: usize) -> Fate {
     Fate::Torn(bytes)
 }
 
-// How many ways there are to leave a sector: lost, kept, torn in the middle, and for label and gate also torn in their names.
+// How many ways there are to leave a unit: lost, kept, torn in the middle, and for label and gate also torn in their names. One
+// of eight sectors isn't torn in the middle: it is spoiled, so that each of its sectors holds other bytes.
 fn ways(sector: &Unsynced) -> usize
     ensures { 3 ≤ result }
 {
-    if sector.k <= 1 { 4 } else { 3 }
+    let has_name = sector.medium.has_name(sector.k);
+    if has_name { 4 } else { 3 }
+}
+
+// The unit of a sector, unless it is that of the one before.
+fn next_unit(sector: &Unsynced, before: Option<u32>) -> Option<u32> {
+    let unit = sector.medium.unit_of(sector.k);
+    if before == Some(unit) {
+        None
+    } else {
+        Some(unit)
+    }
 }
 
 fn combinations(sectors: &[Unsynced]) -> usize {
     let mut all = 1_usize;
+    let mut unit = None;
     for sector in sectors {
-        all = all.saturating_mul(ways(sector));
+        if let Some(next) = next_unit(sector, unit) {
+            unit = Some(next);
+            all = all.saturating_mul(ways(sector));
+        }
     }
     all
 }
 
-/// How many stops are tried: one for each way to leave all unsynced sectors, or five where these are too many. By the five all are
-/// lost, kept, torn in the middle or torn in their names, or one is kept and the next one lost, in turn.
+/// How many stops are tried: one for each way to leave all units with unsynced sectors, or five where these are too many. By the five
+/// all are lost, kept, torn in the middle (or spoiled), or torn in their names, or one is kept and the next one lost, in turn.
 pub fn count_of_stops(sectors: &[Unsynced]) -> usize {
     let all = combinations(sectors);
-    if all > MOST { 5 } else { all }
+    if are_too_many(sectors, all) { 5 } else { all }
 }
 
 // How the n-th stop leaves each sector.
 fn numbers(alloc: Global, sectors: &[Unsynced], n: usize) -> Result<Vec<usize>, AllocError> {
-    let are_too_many = combinations(sectors) > MOST;
+    let are_many = are_too_many(sectors, combinations(sectors));
     let mut numbers = Vec::new(alloc);
     let mut rest = n;
-    for (i, sector) in sectors.iter().enumerate() {
-        let in_turn = if i % 2 == 0 { 1 } else { 0 };
-        let alike = if n < 4 { n } else { in_turn };
-        numbers.push(if are_too_many {
-            alike
-        } else {
-            rest % ways(sector)
-        })?;
-        rest /= ways(sector);
+    let mut in_turn = 0;
+    let mut unit = None;
+    let mut number = 0;
+    for sector in sectors {
+        if let Some(next) = next_unit(sector, unit) {
+            unit = Some(next);
+            in_turn = if in_turn == 0 { 1 } else { 0 };
+            let alike = if n < 4 { n } else { in_turn };
+            number = if are_many { alike } else { rest % ways(sector) };
+            rest /= ways(sector);
+        }
+        numbers.push(number)?;
     }
     Ok(numbers)
 }
 
-// What becomes of a sector by such a number.
+// What becomes of a sector by the number of its unit. Where a name is torn, the other sectors of its unit are spoiled.
 fn fate(sector: &Unsynced, number: usize) -> (&'static str, Fate) {
-    match number {
-        0 => ("lost", Fate::Lost),
-        1 => ("kept", Fate::Kept),
-        2 => ("torn in the middle", torn(sector, 256)),
-        _ => ("torn in its name", torn(sector, 4)),
+    let is_first = sector.medium.unit_of(sector.k) == sector.k;
+    match (number, sector.medium.unit) {
+        (0, _) => ("lost", Fate::Lost),
+        (1, _) => ("kept", Fate::Kept),
+        (2, Unit::One) => ("torn in the middle", torn(sector, 256)),
+        (2, Unit::Eight) => ("spoiled", Fate::Torn(MARK)),
+        _ if is_first => ("torn in its name", torn(sector, 4)),
+        _ => ("spoiled", Fate::Torn(MARK)),
     }
 }
 

@@ -1,10 +1,11 @@
 // What the blocks of an image are full of.
-use crate::disks::{block, opened};
+use crate::disks::block;
 use recovery::OpenFault;
-use sector_disk::MemoryDisk;
+use sector_disk::{Counts, MemoryDisk};
 use std::alloc::{AllocError, Global};
 use std::fmt;
 use std::test::Fail;
+use stores::open;
 
 /// The byte that fills each of the first 64 blocks of an image, and `?` for one whose bytes differ. All others are blank.
 #[derive(Clone, Copy, PartialEq, Eq)]
@@ -54,7 +55,13 @@ pub type Left = Result<Fillings, OpenFault>;
 
 /// Opens an image and looks at all of its blocks.
 pub fn left_in(disk: MemoryDisk) -> Result<Left, Fail> {
-    match opened(disk) {
+    let (left, _) = looked_at(disk)?;
+    Ok(left)
+}
+
+/// The same, and the counts of the calls of the device afterwards.
+pub fn looked_at(disk: MemoryDisk) -> Result<(Left, Counts), Fail> {
+    match open(disk) {
         Ok(mut store) => {
             let mut fillings = Fillings::blank();
             for b in 0..store.blocks() {
@@ -62,9 +69,9 @@ pub fn left_in(disk: MemoryDisk) -> Result<Left, Fail> {
                 let is_full = bytes == [bytes[0]; 1024];
                 fillings.fill(b, if is_full { bytes[0] } else { b'?' });
             }
-            Ok(Ok(fillings))
+            Ok((Ok(fillings), store.into_device().counts()))
         }
-        Err(fault) => Ok(Err(fault)),
+        Err((fault, disk)) => Ok((Err(fault), disk.counts())),
     }
 }
 

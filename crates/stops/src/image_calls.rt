@@ -1,17 +1,19 @@
 // Calls over a whole image.
 use crate::calls::{Call, Caller, follow};
-use crate::disks::BLOCKS;
+use crate::disks::{BLOCKS, format};
 use crate::fillings::Fillings;
+use crate::medium::Layout;
 use crate::player::{Played, Player};
-use recovery::{format, open};
 use sector_disk::SectorDevice;
 use std::alloc::Global;
 use std::test::Fail;
+use stores::open;
 
 // A device that is lent to each call, which gives it back.
 #[derive(Drop)]
 struct Lent<D: SectorDevice> {
     device: Option<D>,
+    layout: Layout,
 }
 
 impl<D: SectorDevice + Drop> Caller for Lent<D> {
@@ -20,7 +22,7 @@ impl<D: SectorDevice + Drop> Caller for Lent<D> {
         let outcome = if call.word == "open" {
             open(device)
         } else {
-            format(device, BLOCKS)
+            format(device, self.layout, BLOCKS)
         };
         match outcome {
             Ok(store) => {
@@ -37,7 +39,10 @@ impl<D: SectorDevice + Drop> Caller for Lent<D> {
 
 /// Opens an image (`open`) or formats one of 32 blocks (`format`).
 #[derive(Clone, Copy)]
-pub struct ImageCalls;
+pub struct ImageCalls {
+    /// The layout of the image that is formatted.
+    pub layout: Layout,
+}
 
 impl Player for ImageCalls {
     fn play<D: SectorDevice + Drop>(
@@ -49,6 +54,7 @@ impl Player for ImageCalls {
     ) -> Result<Played<D>, Fail> {
         let mut lent = Lent {
             device: Some(device),
+            layout: self.layout,
         };
         let (answers, told) = follow(alloc, rows, &mut lent, start)?;
         let device = lent.device.take().ok_or("a device")?;

@@ -7,6 +7,7 @@ pub mod disks;
 pub mod fates;
 pub mod fillings;
 pub mod image_calls;
+pub mod medium;
 pub mod player;
 mod recoveries;
 pub mod report;

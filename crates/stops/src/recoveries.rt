@@ -3,12 +3,18 @@ use crate::disks::sector;
 use crate::fates::{count_of_stops, stopped, unsynced_sectors};
 use crate::fillings::{Fillings, left_in, shown};
 use crate::image_calls::ImageCalls;
+use crate::medium::{Layout, OLDER};
 use crate::report::Report;
 use crate::scenario::Trial;
 use crate::trials::{Base, Calls, Halt, run};
 use sector_disk::{MemoryDisk, SectorDevice};
 use std::alloc::Global;
 use std::test::Fail;
+
+// Only images of layout 2 are recovered.
+const OPENING: ImageCalls = ImageCalls {
+    layout: Layout::Older,
+};
 
 // Whether these two disks differ in one of these sectors.
 fn differ_in(
@@ -60,6 +66,7 @@ pub(crate) fn add(
     Ok(images.push(Calls {
         rows: "open | ok",
         disk: image,
+        medium: OLDER,
         start: means,
         opening: 0,
     })?)
@@ -89,6 +96,7 @@ pub(crate) fn recover(rt: &HostRuntime, base: &mut Base, report: &mut Report) ->
             let image = Calls {
                 rows: image.rows,
                 disk: image.disk.try_clone(rt.alloc())?,
+                medium: image.medium,
                 start: image.start,
                 opening: 0,
             };
@@ -133,8 +141,8 @@ fn recover_image(
     report: &mut Report,
 ) -> Result<(), Fail> {
     for k in 1..10_000 {
-        let halt = run(rt, &ImageCalls, image, ("from", k), report)?;
-        let sectors = unsynced_sectors(rt, &halt.disk)?;
+        let halt = run(rt, &OPENING, image, ("from", k), report)?;
+        let sectors = unsynced_sectors(rt, &halt.disk, image.medium)?;
         for n in 0..count_of_stops(&sectors) {
             let left = stopped(rt, &halt.disk, &sectors, n)?;
             report.stops = report.stops.saturating_add(1);
@@ -163,7 +171,7 @@ pub(crate) fn recover_failing(
     for (at, image) in base.images.iter().enumerate() {
         for k in trial.first..=trial.last {
             for kind in trial.kinds.split(" ") {
-                let halt = run(rt, &ImageCalls, image, (kind, k), report)?;
+                let halt = run(rt, &OPENING, image, (kind, k), report)?;
                 let Halt { disk, answers, .. } = halt;
                 let is_told = answers.as_str() == "Device\n" && k < trial.last;
                 if answers.as_str() != "ok\n" && !is_told {

@@ -1,9 +1,10 @@
 // A part of a text, and what a line of its trials says.
-use crate::disks::{SECTORS, formatted_with};
+use crate::disks::{formatted_by, zeros};
 use crate::fillings::Fillings;
+use crate::medium::{Layout, Medium, Unit};
 use crate::player::Player;
 use crate::store_calls::StoreCalls;
-use sector_disk::MemoryDisk;
+use sector_disk::{Coarse, MemoryDisk};
 use std::test::Fail;
 
 /// A part of a text.
@@ -15,6 +16,8 @@ pub struct Scenario<'a> {
     pub system: &'a str,
     /// How many blocks the image has.
     pub blocks: u16,
+    /// The layout of the image, and the units of its disk.
+    pub medium: Medium,
     /// The rows that are done over the image before, by calls of the store.
     pub before: &'a str,
     /// The rows of the calls.
@@ -24,21 +27,28 @@ pub struct Scenario<'a> {
 }
 
 impl<'a> Scenario<'a> {
-    /// A part is its title, a line as `over store, 32 blocks`, the calls before, a line `--`, the calls, a line `----` and the
-    /// trials.
+    /// A part is its title, a line as `over store, 32 blocks` (of layout 2) or `over store of layout 3, 32 blocks, units of 8`, the
+    /// calls before, a line `--`, the calls, a line `----` and the trials.
     pub fn parse(text: &'a str) -> Option<Self> {
         let (title, rest) = text.split_once("\n")?;
         let (over, rest) = rest.split_once("\n")?;
-        let (system, blocks) = over
-            .strip_prefix("over ")?
-            .strip_suffix(" blocks")?
-            .split_once(", ")?;
+        let over = over.strip_prefix("over ")?;
+        let (over, unit) = match over.strip_suffix(", units of 8") {
+            Some(over) => (over, Unit::Eight),
+            None => (over, Unit::One),
+        };
+        let (system, blocks) = over.strip_suffix(" blocks")?.split_once(", ")?;
+        let (system, layout) = match system.strip_suffix(" of layout 3") {
+            Some(system) => (system, Layout::Newer),
+            None => (system, Layout::Older),
+        };
         let (calls, trials) = rest.split_once("----\n")?;
         let (before, rows) = calls.split_once("--\n").unwrap_or(("", calls));
         Some(Scenario {
             title,
             system,
             blocks: blocks.parse().ok()?,
+            medium: Medium { layout, unit },
             before,
             rows,
             trials,
@@ -48,11 +58,17 @@ impl<'a> Scenario<'a> {
     /// The disk before the calls: an image, or zeros.
     pub fn disk(&self, rt: &HostRuntime) -> Result<MemoryDisk, Fail> {
         if self.system == "zeros" {
-            return Ok(MemoryDisk::new(rt.alloc(), SECTORS)?);
+            return zeros(rt, self.medium.layout, self.blocks);
         }
-        let disk = formatted_with(rt, self.blocks)?;
-        let played = StoreCalls.play(rt.alloc(), self.before, disk, Fillings::blank())?;
-        Ok(played.device)
+        let disk = formatted_by(rt, self.medium.layout, self.blocks)?;
+        let (alloc, blank) = (rt.alloc(), Fillings::blank());
+        match self.medium.unit {
+            Unit::One => Ok(StoreCalls.play(alloc, self.before, disk, blank)?.device),
+            Unit::Eight => {
+                let played = StoreCalls.play(alloc, self.before, Coarse::new(disk), blank)?;
+                Ok(played.device.into_device())
+            }
+        }
     }
 }
 

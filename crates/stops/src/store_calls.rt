@@ -1,15 +1,16 @@
 // Calls of a store.
 ghost use Rattle.std.specs.Prelude.{◌<◌};
-ghost use Rattle.journal.specs.Store.{blocks_of};
+ghost use Rattle.stores.specs.Store.{blocks_of};
 
 use crate::calls::{Call, Caller, follow};
 use crate::disks::opened;
 use crate::fillings::Fillings;
 use crate::player::{Played, Player};
-use journal::{Store, StoreFault};
+use journal::StoreFault;
 use sector_disk::SectorDevice;
 use std::alloc::{AllocError, Global};
 use std::test::Fail;
+use stores::Store;
 
 // Does a call: the byte that fills the block that it read, if it read one. `?` is told of bytes that differ, and of no call.
 fn take<D: SectorDevice>(store: &mut Store<D>, call: Call) -> Result<Option<u8>, StoreFault> {

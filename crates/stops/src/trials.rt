@@ -3,14 +3,15 @@ use crate::answers::{are_answered, are_own_or_told, count, is_answered};
 use crate::calls::row;
 use crate::disks::{BLOCKS, sector};
 use crate::fates::{count_of_stops, in_words, stopped, unsynced_sectors};
-use crate::fillings::{Fillings, Left, left_in, shown};
+use crate::fillings::{Fillings, Left, left_in, looked_at, shown};
+use crate::medium::{Layout, Medium, Unit};
 use crate::player::{Played, Player};
 use crate::recoveries::{add, recover, recover_failing};
 use crate::report::Report;
 use crate::scenario::{Scenario, Trial};
 use crate::told::Told;
 use journal::layout;
-use sector_disk::{Counts, Fused, MemoryDisk, Tearing};
+use sector_disk::{Coarse, Counts, Fused, MemoryDisk, SectorDevice, Tearing};
 use std::alloc::{AllocError, Global};
 use std::test::Fail;
 
@@ -21,6 +22,8 @@ pub struct Calls<'a> {
     pub rows: &'a str,
     /// The image before the calls.
     pub disk: MemoryDisk,
+    /// Its layout, and the units of its disk.
+    pub medium: Medium,
     /// What its blocks hold.
     pub start: Fillings,
     /// How many calls of the device are made before the first row.
@@ -55,7 +58,7 @@ pub struct Halt {
 
 /// The bytes that a torn write leaves: `wild` ones that no call writes, those of an open `gate` with others after its name, or a
 /// good `label` of 32 blocks.
-fn leavings(kind: &str) -> Option<[u8; 512]> {
+fn leavings(kind: &str, layout: Layout) -> Option<[u8; 512]> {
     match kind {
         "wild" => Some([0xee; 512]),
         "gate" => {
@@ -63,7 +66,10 @@ fn leavings(kind: &str) -> Option<[u8; 512]> {
             gate[..8].copy_from_slice(b"COMMIT83");
             Some(gate)
         }
-        "label" => Some(layout::label(BLOCKS)),
+        "label" => Some(match layout {
+            Layout::Older => layout::label(BLOCKS),
+            Layout::Newer => shadow::layout::label(BLOCKS),
+        }),
         _ => None,
     }
 }
@@ -77,37 +83,75 @@ pub fn run<P: Player>(
     failure: (&str, u64),
     report: &mut Report,
 ) -> Result<Halt, Fail> {
-    let (kind, k) = failure;
-    let k = k.saturating_add(calls.opening).max(1);
     let disk = calls.disk.try_clone(rt.alloc())?;
     report.runs = report.runs.saturating_add(1);
-    if let Some(torn) = leavings(kind) {
-        let device = Tearing::once(disk, k, torn);
-        let played = player.play(rt.alloc(), calls.rows, device, calls.start)?;
+    match calls.medium.unit {
+        Unit::One => {
+            let played = fail(rt.alloc(), player, calls, disk, failure)?;
+            let Played {
+                device,
+                answers,
+                told,
+            } = played;
+            Ok(Halt {
+                disk: device,
+                answers,
+                told,
+            })
+        }
+        Unit::Eight => {
+            let played = fail(rt.alloc(), player, calls, Coarse::new(disk), failure)?;
+            let Played {
+                device,
+                answers,
+                told,
+            } = played;
+            Ok(Halt {
+                disk: device.into_device(),
+                answers,
+                told,
+            })
+        }
+    }
+}
+
+// Does the calls over this device, of which a call fails.
+fn fail<P: Player, D: SectorDevice + Drop>(
+    alloc: Global,
+    player: &P,
+    calls: &Calls,
+    device: D,
+    failure: (&str, u64),
+) -> Result<Played<D>, Fail> {
+    let (kind, k) = failure;
+    let k = k.saturating_add(calls.opening).max(1);
+    if let Some(torn) = leavings(kind, calls.medium.layout) {
+        let device = Tearing::once(device, k, torn);
+        let played = player.play(alloc, calls.rows, device, calls.start)?;
         let Played {
             device,
             answers,
             told,
         } = played;
-        return Ok(Halt {
-            disk: device.into_device(),
+        return Ok(Played {
+            device: device.into_device(),
             answers,
             told,
         });
     }
     let device = match kind {
-        "once" => Fused::once(disk, k),
-        "from" => Fused::from(disk, k),
+        "once" => Fused::once(device, k),
+        "from" => Fused::from(device, k),
         _ => return Err("no such way to fail")?,
     };
-    let played = player.play(rt.alloc(), calls.rows, device, calls.start)?;
+    let played = player.play(alloc, calls.rows, device, calls.start)?;
     let Played {
         device,
         answers,
         told,
     } = played;
-    Ok(Halt {
-        disk: device.into_device(),
+    Ok(Played {
+        device: device.into_device(),
         answers,
         told,
     })
@@ -132,6 +176,7 @@ pub fn begin<'a, P: Player>(
         rows: "",
         start: left_in(disk.try_clone(rt.alloc())?)?.unwrap_or(Fillings::blank()),
         disk,
+        medium: scenario.medium,
         opening: 0,
     };
     let never = ("from", u64::MAX);
@@ -193,7 +238,8 @@ fn compare_row(
 /// 3 alone: these are the answers. `well 10..12` are calls that are never made.
 ///
 /// `recover` opens the images, and stops that at each of its calls until no other image comes; `recover once wild 1..23` fails each
-/// of these calls of each recovery, and opens once more.
+/// of these calls of each recovery, and opens once more. Images of layout 3 are never recovered: where an opening of one writes, or
+/// doesn't sync once, this is told of each stop.
 ///
 /// A range has a first call of 1 or more and isn't empty. `end` (in `whole.rt`) says which lines may not be missing.
 pub fn trial<P: Player>(
@@ -290,7 +336,7 @@ fn stop(
 ) -> Result<(), Fail> {
     let (kind, k) = failure;
     let alloc = rt.alloc();
-    let sectors = unsynced_sectors(rt, &halt.disk)?;
+    let sectors = unsynced_sectors(rt, &halt.disk, base.calls.medium)?;
     let all = count_of_stops(&sectors);
     base.most = base.most.max(all);
     let mut found = String::new(alloc);
@@ -316,7 +362,7 @@ fn stop(
     Ok(())
 }
 
-// What a stop left of an image, which is kept where its gate is open.
+// What a stop left of an image. It is kept where its opening has something to do.
 fn keep_image(
     alloc: Global,
     base: &mut Base,
@@ -324,13 +370,39 @@ fn keep_image(
     disk: MemoryDisk,
     report: &mut Report,
 ) -> Result<Left, Fail> {
-    let mut image = disk.try_clone(alloc)?;
-    let left = left_in(disk)?;
+    let mut disk = disk;
     report.stops = report.stops.saturating_add(1);
-    report.images = report.images.saturating_add(1);
-    let gate = sector(&mut image, layout::GATE)?;
-    if let (true, Ok(means)) = (kind == "from" && layout::gate_is_open(&gate), left) {
+    if kind != "from" || !is_recovered(&mut disk, base.calls.medium)? {
+        return look(alloc, base.calls.medium, disk, report);
+    }
+    let image = disk.try_clone(alloc)?;
+    let left = look(alloc, base.calls.medium, disk, report)?;
+    if let Ok(means) = left {
         add(alloc, &mut base.images, image, means, report)?;
+    }
+    Ok(left)
+}
+
+// Whether an opening of this image would finish a save: by layout 2 it does so under an open gate, and by layout 3 never.
+fn is_recovered(disk: &mut MemoryDisk, medium: Medium) -> Result<bool, Fail> {
+    let gate = sector(disk, layout::GATE)?;
+    Ok(medium.layout == Layout::Older && layout::gate_is_open(&gate))
+}
+
+// What is left in an image. An opening of layout 3 writes nothing and syncs once, or that is told.
+fn look(
+    alloc: Global,
+    medium: Medium,
+    disk: MemoryDisk,
+    report: &mut Report,
+) -> Result<Left, Fail> {
+    let before = disk.counts();
+    let (left, after) = looked_at(disk)?;
+    report.images = report.images.saturating_add(1);
+    let writes = after.writes.saturating_sub(before.writes);
+    let syncs = after.syncs.saturating_sub(before.syncs);
+    if medium.layout == Layout::Newer && (writes, syncs) != (0, 1) {
+        report.tell(&format!(in alloc; "an opening made {writes} writes and {syncs} syncs")?)?;
     }
     Ok(left)
 }
@@ -380,8 +452,7 @@ fn compare_failure(
         answers,
         told,
     } = halt;
-    let left = left_in(disk)?;
-    report.images = report.images.saturating_add(1);
+    let left = look(alloc, base.calls.medium, disk, report)?;
     let came = shown(alloc, left)?;
     if !is_answered(base.calls.rows, trial, kind, &answers)
         || !is_allowed(trial.left, &told, left, &came)

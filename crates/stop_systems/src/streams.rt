@@ -1,10 +1,10 @@
 // Readers and writers that fail at each of their calls, or end in the middle of a line.
-use super::forth_lines::{between, heard, lines_and_replies};
+use crate::forth_lines::{between, heard, lines_and_replies};
 use sessions::RunFault;
 use std::io;
 use std::io::{Error, ErrorKind, Read, Write};
 use std::test::Fail;
-use stops::disks::formatted;
+use stops::disks::formatted_by;
 use stops::fillings::{Fillings, left_in, shown};
 use stops::report::Report;
 use stops::scenario::Scenario;
@@ -218,7 +218,8 @@ pub fn inputs_break_off(
 ) -> Result<(), Fail> {
     let calls = Calls {
         rows: "",
-        disk: formatted(rt)?,
+        disk: formatted_by(rt, scenario.medium.layout, scenario.blocks)?,
+        medium: scenario.medium,
         start: Fillings::blank(),
         opening: 0,
     };

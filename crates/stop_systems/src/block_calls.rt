@@ -9,7 +9,6 @@ use stops::calls::{Call, Caller, follow};
 use stops::disks::opened;
 use stops::fillings::Fillings;
 use stops::player::{Played, Player};
-use stores::Store;
 
 /// Blocks and the data space that they use.
 #[derive(Drop)]
@@ -113,7 +112,7 @@ impl Player for BlockCalls {
     ) -> Result<Played<D>, Fail> {
         let mut session = Session {
             space: DataSpace::new(alloc)?,
-            blocks: Blocks::new(Buffers::new(alloc)?, Store::from(opened(device)?)),
+            blocks: Blocks::new(Buffers::new(alloc)?, opened(device)?),
         };
         let (answers, told) = follow(alloc, rows, &mut session, start)?;
         let Session { blocks, .. } = session;

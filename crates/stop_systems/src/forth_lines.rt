@@ -10,7 +10,6 @@ use stops::disks::opened;
 use stops::fillings::Fillings;
 use stops::player::{Played, Player};
 use stops::told::Told;
-use stores::Store;
 
 /// What a reply says: a digit and a letter tell that the block of this number is full of this letter, `(` that a save begins and `)`
 /// that it has returned. A closed store begins no save.
@@ -65,7 +64,7 @@ pub fn between<D: SectorDevice + Drop, R: Read, W: Write>(
     reader: &mut R,
     writer: &mut W,
 ) -> Result<(D, Result<(), RunFault>), Fail> {
-    let store = Store::from(opened(device)?);
+    let store = opened(device)?;
     let memory = Memory::new(alloc)?;
     let (store, end) = run_over::<D, Forth<D>, R, W>(memory, store, 100_000_000, reader, writer);
     Ok((store.into_device(), end))
