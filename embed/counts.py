@@ -28,7 +28,7 @@ MODEL = read_model()
 
 def save(disk, data):
     """What silgwyrad_save does: the image is opened, and both blocks are spilled and committed."""
-    store = MODEL.Store(disk, BLOCKS)
+    store = MODEL.Older(disk, BLOCKS)
     for block in PAIR:
         store.spill(block, data)
     store.commit()
@@ -36,7 +36,7 @@ def save(disk, data):
 
 def session(disk, data):
     """What the session does: both blocks are looked for, filled and saved."""
-    words = MODEL.Words(MODEL.Store(disk, BLOCKS))
+    words = MODEL.Words(MODEL.Older(disk, BLOCKS))
     for block in PAIR:
         words.block(block)[1] = data
     words.do("SAVE")
@@ -65,15 +65,22 @@ def left(disk):
 def is_new(sectors):
     """Whether the blocks are the new ones, once the image is recovered; and how many calls the recovery made."""
     disk = MODEL.Disk(sectors)
-    store = MODEL.Store(disk, BLOCKS)
+    store = MODEL.Older(disk, BLOCKS)
     calls = disk.calls
     held = {disk.now[store.home(block) + half] for block in PAIR for half in (0, 1)}
     assert held in ({OLD[:512]}, {NEW[:512]})
     return held == {NEW[:512]}, calls
 
 
+def blank():
+    """A disk with an image of blank blocks, by layout 2."""
+    disk = MODEL.Disk([bytes(512)] * (3 + 4 * BLOCKS))
+    MODEL.form(disk, BLOCKS)
+    return MODEL.Disk(disk.now)
+
+
 def count(call):
-    start = MODEL.Disk(MODEL.image(BLOCKS))
+    start = blank()
     save(start, OLD)
     images = news = most = recoveries = 0
     for at in itertools.count():
