@@ -81,12 +81,12 @@ module _ (n m : ℕ) (within : n ≤ m) (bytes : ℕ → List ℕ) where
       length-append (blocks_below bytes n) (blank_blocks (m - length (blocks_below bytes n)))
       ∙ omega (arith, within, length-below bytes n, length-replicate (m - length (blocks_below bytes n)) (replicate {A = ℕ} 1024 32))
 
-  lower : (b : ℕ) → b < n → block_in (grown m (blocks_below bytes n)) b ≡ bytes b
+  pub lower : (b : ℕ) → b < n → block_in (grown m (blocks_below bytes n)) b ≡ bytes b
   lower b below =
       get_or_append_left (blocks_below bytes n) (blank_blocks (m - length (blocks_below bytes n))) [] b (omega (arith, below, length-below bytes n))
       ∙ at_below bytes n b below
 
-  upper : (b : ℕ) → n ≤ b → b < m → block_in (grown m (blocks_below bytes n)) b ≡ replicate 1024 32
+  pub upper : (b : ℕ) → n ≤ b → b < m → block_in (grown m (blocks_below bytes n)) b ≡ replicate 1024 32
   upper b above below =
       get_or-append_right (blocks_below bytes n) (blank_blocks (m - length (blocks_below bytes n))) n b [] (length-below bytes n) above
       ∙ get_or-replicate (m - length (blocks_below bytes n)) (b - n) (replicate 1024 32) [] (omega (arith, above, below, length-below bytes n))

@@ -17,7 +17,8 @@ use crate::tags::{exchange, tag_of};
 use journal::layout::is_listed;
 use sector_disk::{DeviceFault, SectorDevice};
 
-pub(crate) fn read_tag<D: SectorDevice>(device: &mut D, k: u32) -> Result<[u8; 32], DeviceFault>
+/// The tag in sector `k`, a number below that of the device's sectors.
+pub fn read_tag<D: SectorDevice>(device: &mut D, k: u32) -> Result<[u8; 32], DeviceFault>
     requires { k < D.sector_count device.old }
     ensures bytes { IsTrue (D.keeps_model device.old)
         → IfOk result (λ found. found ≡ tag_in ((D.disk device.old).content k)) }

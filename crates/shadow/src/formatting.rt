@@ -71,8 +71,9 @@ fn write_places<D: SectorDevice>(
     write_sector(device, place_sector(b, true) + 2, &[0; 512])
 }
 
-// Writes block `b` to its first place, with its tag, and clears the tag of its second one. The tag is put into a sum.
-pub(crate) fn write_block<D: SectorDevice>(
+/// Writes block `b`, a number below 3,840, to its first place, with its tag, and clears the tag of its second one. The tag is put
+/// into a sum.
+pub fn write_block<D: SectorDevice>(
     device: &mut D,
     b: u16,
     bytes: &[u8; 1024],
@@ -127,11 +128,8 @@ fn blanks() -> [u8; 1024]
     [b' '; 1024]
 }
 
-// Closes the gate, clears the record that it doesn't name, and writes the other one.
-pub(crate) fn fill_head<D: SectorDevice>(
-    device: &mut D,
-    listing: &[u8; 512],
-) -> Result<(), DeviceFault>
+/// Closes the gate, clears the record that it doesn't name, and writes the other one.
+pub fn fill_head<D: SectorDevice>(device: &mut D, listing: &[u8; 512]) -> Result<(), DeviceFault>
     requires { 32 ≤ D.sector_count device.old }
     ensures ok { KeepsPages D.SectorDevice device.old → OnOk result (D.disk device.new
         ≡ written (written (written (D.disk device.old) gate_at (replicate 512 0)) (record_at true) (replicate 512 0)) (record_at false) listing.now) }
@@ -172,11 +170,8 @@ fn clear_label<D: SectorDevice>(device: &mut D) -> Result<(), DeviceFault>
     device.sync()
 }
 
-// Makes what is there stay, and takes a good label away, if one stands there.
-pub(crate) fn unlabel<D: SectorDevice>(
-    device: &mut D,
-    blocks: BlockCount,
-) -> Result<(), DeviceFault>
+/// Makes what is there stay, and takes a good label of an image of so many blocks away, if one stands there.
+pub fn unlabel<D: SectorDevice>(device: &mut D, blocks: BlockCount) -> Result<(), DeviceFault>
     requires size { D.sector_count device.old ≡ sectors_for blocks.number }
     ensures ok { KeepsPages D.SectorDevice device.old → OnOk result (IsUnlabelled blocks.number (D.disk device.new)) }
     ensures rest { KeepsPages D.SectorDevice device.old
@@ -240,8 +235,8 @@ fn prepare<D: SectorDevice>(
     device.sync()
 }
 
-// Writes the label over an image whose other sectors are synced.
-pub(crate) fn seal<D: SectorDevice>(device: &mut D, blocks: BlockCount) -> Result<(), DeviceFault>
+/// Writes the label of an image of so many blocks over one whose other sectors are synced, and syncs.
+pub fn seal<D: SectorDevice>(device: &mut D, blocks: BlockCount) -> Result<(), DeviceFault>
     requires size { D.sector_count device.old ≡ sectors_for blocks.number }
     requires synced { KeepsPages D.SectorDevice device.old → (k : ℕ) → (D.disk device.old).unsynced k ≡ false }
     ensures ok { KeepsPages D.SectorDevice device.old

@@ -16,7 +16,10 @@ mod store;
 pub mod tags;
 mod upgrading;
 
-pub use formatting::format;
-pub use opening::open;
+pub use checking::read_record;
+pub use exchanges::read_tag;
+pub use formatting::{fill_head, format, seal, unlabel, write_block};
+pub use label::{blocks_of_new, is_known_size, read_count};
+pub use opening::{Found, look, open};
 pub use store::{Store, StoreFault};
 pub use upgrading::upgrade;

@@ -23,12 +23,15 @@ use crate::store::Store;
 use recovery::OpenFault;
 use sector_disk::SectorDevice;
 
-// What is found in an image that isn't damaged: how many blocks, whether the gate is open, and the record that it names.
+/// What counts in an image that isn't damaged.
 #[derive(Clone, Copy)]
-struct Found {
-    number: u16,
-    is_open: bool,
-    listing: [u8; 512],
+pub struct Found {
+    /// How many blocks it has.
+    pub number: u16,
+    /// Whether the gate is open.
+    pub is_open: bool,
+    /// The record that the gate names.
+    pub listing: [u8; 512],
 }
 
 // Makes what is there stay, and answers how many blocks the label counts.
@@ -56,8 +59,9 @@ fn start<D: SectorDevice>(device: &mut D) -> Result<u16, OpenFault>
     read_count(&label, device.sectors())
 }
 
-// Reads the gate, the record that it names, and each block that counts. An image that is damaged is refused.
-fn look<D: SectorDevice>(device: &mut D, blocks: u16) -> Result<Found, OpenFault>
+/// Reads the gate of an image with a good label, the record that it names, and each block that counts. An image that is damaged
+/// is refused (Damaged); Device comes where a read failed. Nothing is written, and nothing synced.
+pub fn look<D: SectorDevice>(device: &mut D, blocks: u16) -> Result<Found, OpenFault>
     requires few { blocks ≤ most_blocks }
     requires size { D.sector_count device.old ≡ sectors_for blocks }
     ensures number { IfOk result (λ found. found.number ≡ blocks) }

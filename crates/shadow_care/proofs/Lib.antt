@@ -1,0 +1,3 @@
+pub mod Carryings
+pub mod Copies
+pub mod Findings

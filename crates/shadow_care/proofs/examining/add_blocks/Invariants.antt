@@ -1,0 +1,23 @@
+use Rattle.std.proofs.Common.{◌≡◌, ◌++◌, ℕ, ◌*◌, List, IsTrue, Ok}
+use Rattle.sha2.specs.Hashers.{Holds256}
+use Rattle.sector_disk.specs.Disk.{MayLeave}
+use Rattle.sector_disk.specs.declared.device.DeviceFault.{DeviceFault}
+use Rattle.journal.specs.Calls.{StopsLeave, BeginsAtMost, ReadsAtMost, Passes}
+use Rattle.image_care.specs.Examined.{joined_below}
+use Rattle.shadow.specs.Images.{current_of}
+use Rattle.shadow_care.proofs.examining.add_blocks.Given as goal
+
+abbrev pub invariant-loop-b : goal.invariant-loop-b
+invariant-loop-b g l =
+    let D = g.D.SectorDevice in
+    let old = l.initial.device in
+    let now = l.device in
+    record {
+      added : IsTrue (D.keeps_model old) → (m : List ℕ) → Holds256 l.initial.hasher m
+          → Holds256 l.hasher (m ++ joined_below (current_of l.listing (D.disk old).content) l.b);
+      disk : IsTrue (D.keeps_model old) → D.disk now ≡ D.disk old;
+      stops : IsTrue (D.keeps_model old) → StopsLeave D old now (MayLeave (D.disk old));
+      begins : BeginsAtMost D old now 0 0;
+      reads : ReadsAtMost D old now (2 * l.b);
+      passes : Passes D {T = Unit {0}} {E = DeviceFault} old now (Ok tt);
+    }

@@ -1,0 +1,3 @@
+pub mod Carried
+pub mod Copied
+pub mod Standing

@@ -1,0 +1,11 @@
+//! Tests of examinations, copies and salvages of images of layout 3, by their public calls alone. The digests are Python's.
+#![tactic(auto)]
+
+#[cfg(test)]
+mod copies;
+#[cfg(test)]
+mod examinations;
+#[cfg(test)]
+mod images;
+#[cfg(test)]
+mod salvages;
