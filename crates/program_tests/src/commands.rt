@@ -113,7 +113,7 @@ fn help_is_shown(rt: HostRuntime) {
 }
 
 /// Calls the program with an output of so much room.
-fn check_narrow(
+pub(crate) fn check_narrow(
     rt: &(impl Files<File = File> + AllocGlobal + Abort),
     words: &[&str],
     room: usize,

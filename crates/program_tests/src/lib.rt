@@ -2,6 +2,8 @@
 #![tactic(auto)]
 
 #[cfg(test)]
+mod care_of_newer_images;
+#[cfg(test)]
 mod commands;
 #[cfg(test)]
 mod copies;
@@ -11,6 +13,8 @@ mod images;
 mod lines;
 #[cfg(test)]
 mod newer_images;
+#[cfg(test)]
+mod newer_images_in_memory;
 #[cfg(test)]
 mod stopping;
 #[cfg(test)]

@@ -11,10 +11,10 @@ use std::rt::Files;
 use std::test::Fail;
 
 /// The bytes of an image of 32 blocks.
-const LENGTH: usize = 278_528;
+pub(crate) const LENGTH: usize = 278_528;
 
 /// The call that makes the name of such a file stay, counted from 0: five writes of zeros and a sync come before it.
-const NAMED: u64 = 6;
+pub(crate) const NAMED: u64 = 6;
 
 const MAKING: Making = Making {
     words: &["forth83", "new", "A", "--blocks", "32", "--layout", "3"],

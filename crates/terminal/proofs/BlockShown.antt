@@ -1,5 +1,5 @@
 -- What `list` promises of a block, of what was read and printed, and of how the file of its image was opened.
-use Rattle.std.proofs.Common.{◌≡◌, ◌≢◌, ◌∙◌, ℕ, ◌+◌, ◌<◌, List, Option, Result, Ok, Err, IsTrue, ap, inl, inr, refl, subst, sym}
+use Rattle.std.proofs.Common.{◌≡◌, ◌≢◌, ◌⊎◌, ◌∙◌, ℕ, ◌+◌, ◌<◌, List, Option, Result, Ok, Err, IsTrue, ap, inl, inr, refl, subst, sym}
 use Rattle.std.specs.Prelude.{IfErr, IfOk, OnOk, unwrap_or}
 use Rattle.std.specs.Io.KnownBytes.{Appends}
 use Rattle.sector_disk.specs.Disk.{Image, MayLeave}
@@ -16,7 +16,7 @@ use Rattle.terminal.specs.Done.{DoneOn, ListsBlock}
 use Rattle.terminal.specs.Older.{blocks_on}
 use Rattle.terminal.specs.Failures.{of_file}
 use Rattle.terminal.specs.Screen.{listing}
-use Rattle.terminal.specs.Shown.{ListDone, ShowsBlock}
+use Rattle.terminal.specs.Shown.{ShowsBlock}
 use Rattle.terminal.specs.declared.failure.Failure.{Failure}
 
 -- Of maps of the blocks that an image means, of which nothing is pending, a block is that of the image.
@@ -53,19 +53,19 @@ pub both_ok : {T E : Type 0} (r : Result T E) (A B C : T → Type 0) → ((t : T
 both_ok (Ok t) A B C f a b = f t a b
 both_ok (Err e) A B C f a b = tt
 
--- A block was listed, on the file that was opened for writing, or on the one that was opened for reading where that was refused.
-pub list_done : {D E T : Type 0} (G : Ghosts D) (L : Ghosts E) (file : Result D FileFault) (r : Result T Failure)
-    (opened : D → Type 0) (looked : E → Type 0) (b : ℕ) (written written' : Option (List ℕ)) → IfOk file opened
+-- A block was listed, on the file that was opened for writing, or, as Shown says, on the one that was opened for reading where that was refused.
+pub list_done : {D T : Type 0} (G : Ghosts D) (Shown : Type 0) (file : Result D FileFault) (r : Result T Failure)
+    (opened : D → Type 0) (b : ℕ) (written written' : Option (List ℕ)) → IfOk file opened
     → IfOk file (λ disk. OnOk r (DoneOn G (λ device. device ≡ disk) (ListsBlock G b written written')))
-    → IfErr file (λ fault. fault ≡ Cannot → OnOk r (DoneOn L looked (ShowsBlock L b written written')))
+    → IfErr file (λ fault. fault ≡ Cannot → OnOk r Shown)
     → IfErr file (λ fault. fault ≢ Cannot → r ≡ Err (of_file fault))
-    → OnOk r (ListDone G L opened looked b written written')
-list_done G L (Ok disk) (Ok t) opened looked b written written' is listed looks refused =
+    → OnOk r (DoneOn G opened (ListsBlock G b written written') ⊎ Shown)
+list_done G Shown (Ok disk) (Ok t) opened b written written' is listed looks refused =
     inl (listed.0, (disk, is, subst (λ device. ListsBlock G b written written' device listed.0) listed.1.1 listed.1.2))
-list_done G L (Ok disk) (Err e) opened looked b written written' is listed looks refused = tt
-list_done G L (Err Cannot) (Ok t) opened looked b written written' is listed looks refused = inr (looks refl)
-list_done G L (Err Exists) (Ok t) opened looked b written written' is listed looks refused =
+list_done G Shown (Ok disk) (Err e) opened b written written' is listed looks refused = tt
+list_done G Shown (Err Cannot) (Ok t) opened b written written' is listed looks refused = inr (looks refl)
+list_done G Shown (Err Exists) (Ok t) opened b written written' is listed looks refused =
     let told = refused (λ e. cc) in absurd cc
-list_done G L (Err InUse) (Ok t) opened looked b written written' is listed looks refused =
+list_done G Shown (Err InUse) (Ok t) opened b written written' is listed looks refused =
     let told = refused (λ e. cc) in absurd cc
-list_done G L (Err fault) (Err e) opened looked b written written' is listed looks refused = tt
+list_done G Shown (Err fault) (Err e) opened b written written' is listed looks refused = tt

@@ -12,6 +12,7 @@ use Rattle.journal.specs.Layout.{sectors_for}
 use Rattle.image_care.specs.Examined.{count_in, reads_to_list, record_in}
 use Rattle.recovery.specs.Label.{blocks_in}
 use Rattle.terminal.specs.Checked.{Checks, report, told_of}
+use Rattle.terminal.specs.declared.orders.Layout.TheVariants.{Two}
 use Rattle.terminal.proofs.Becoming.{blocks_are}
 
 module _ {D : Type 0} (G : Ghosts D) where
@@ -25,13 +26,13 @@ module _ {D : Type 0} (G : Ghosts D) where
       → BeginsAtMost G device after 0 0
       → (IsTrue (G.keeps_model device) → (m : ℕ) → G.sector_count device ≡ sectors_for m
       → ReadsAtMost G device after (reads_to_list m (G.disk device).content + 2 * m + 1))
-      → Appends written written' (report (512 * (3 + 4 * n)) n under_way digest) → Checks G written written' device after
+      → Appends written written' (report (512 * (3 + 4 * n)) Two n under_way digest) → Checks G written written' device after
   checked device after n under_way digest written written' size passes meant save same_digest same stops begins reads printed = record {
     goes = record { model = passes.model; time = passes.time; failures = passes.failures };
     meant = λ keeps. subst (λ m. HasMeaning m (G.disk device).content) are (meant keeps);
     told = λ keeps.
         subst (λ m. Appends written written' (told_of (G.sector_count device) m (G.disk device).content)) are
-        (subst (λ (text : List ℕ). Appends written written' text) (λ i. report (512 * sym size i) n (save keeps i) (same_digest keeps i)) printed);
+        (subst (λ (text : List ℕ). Appends written written' text) (λ i. report (512 * sym size i) Two n (save keeps i) (same_digest keeps i)) printed);
     same = same;
     stops = stops;
     begins = begins;

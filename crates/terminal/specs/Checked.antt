@@ -12,6 +12,8 @@ use Rattle.journal.specs.Chain.{HasMeaning}
 use Rattle.journal.specs.Images.{meaning}
 use Rattle.image_care.specs.Examined.{record_in, count_in, reads_to_list}
 use Rattle.recovery.specs.Label.{blocks_in}
+use Rattle.terminal.specs.declared.orders.Layout.{Layout}
+use Rattle.terminal.specs.declared.orders.Layout.TheVariants.{Two, Three}
 use Rattle.sessions.specs.Devices.{Becomes}
 
 -- whether a save is under way, and of how many blocks: its digest is true, or the image would be refused
@@ -19,19 +21,24 @@ abbrev pub save_text : Option ℕ → List ℕ
 save_text None = codes "none"
 save_text (Some n) = decimal n ++ codes " blocks, digest true"
 
+-- the number of a layout, as labels have it
+abbrev pub version_of : Layout → ℕ
+version_of Two = 2
+version_of Three = 3
+
 -- a line: what it is about, and what is told of that
 abbrev pub line : (about value : List ℕ) → List ℕ
 line about value = about ++ codes ": " ++ value ++ 10 ∷ []
 
 -- five lines, about the bytes of the file, the layout, the blocks, the save that is under way, and the digest of all blocks
-abbrev pub report : (bytes blocks : ℕ) → (under_way : Option ℕ) → (digest : List ℕ) → List ℕ
-report bytes blocks under_way digest =
-    line (codes "bytes") (decimal bytes) ++ line (codes "layout") (codes "2") ++ line (codes "blocks") (decimal blocks)
+abbrev pub report : (bytes : ℕ) → Layout → (blocks : ℕ) → (under_way : Option ℕ) → (digest : List ℕ) → List ℕ
+report bytes layout blocks under_way digest =
+    line (codes "bytes") (decimal bytes) ++ line (codes "layout") (decimal (version_of layout)) ++ line (codes "blocks") (decimal blocks)
     ++ line (codes "save under way") (save_text under_way) ++ line (codes "sha256") (encode_lower digest)
 
 -- what is told of an image of n blocks on a device of so many sectors
 abbrev pub told_of : (sectors n : ℕ) → Image → List ℕ
-told_of sectors n image = report (512 * sectors) n (count_in n (record_in image)) (sha256 (concat (meaning n image)))
+told_of sectors n image = report (512 * sectors) Two n (count_in n (record_in image)) (sha256 (concat (meaning n image)))
 
 module _ {D : Type 0} (G : Ghosts D) where
   -- `check`: the image on the device, which has a meaning, was told of by reads alone, and no more of them than it asks for.

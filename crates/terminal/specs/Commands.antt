@@ -5,11 +5,9 @@ use Rattle.clap.specs.Words.{App, Row, Rule, Text, fault_of, first_of, is_simple
 use Rattle.clap.specs.declared.builder.action.ArgAction.TheVariants.{Set, SetTrue}
 use Rattle.clap.specs.declared.builder.value_parser.ValueParser.TheVariants as vp
 use Rattle.sector_disk.specs.declared.device.SectorDevice.{Ghosts}
-use Rattle.terminal.specs.Checked.{Checks}
-use Rattle.terminal.specs.Copying.{CopyDone, SalvageDone}
+use Rattle.terminal.specs.Care.{ChecksImage, CopyDone, ListDone, SalvageDone}
 use Rattle.terminal.specs.Done.{DoneOn, Exports, ImportsBlocks, LooksAt, PutsBlock, RunsSession}
 use Rattle.terminal.specs.Newer.{NewDone, UpgradeDone}
-use Rattle.terminal.specs.Shown.{ListDone}
 use Rattle.terminal.specs.declared.orders.Form.{Form}
 use Rattle.terminal.specs.declared.orders.Form.TheVariants.{Text as Lines, Raw}
 use Rattle.terminal.specs.declared.orders.Layout.{Layout}
@@ -261,7 +259,7 @@ module _ {D E : Type 0} (G : Ghosts D) (L : Ghosts E) where
       DoneOn G (opened path.now) (ImportsBlocks G form first)
   IsDone opened made looked (CheckImport path first source form) left left' written written' =
       DoneOn G (opened path.now) (LooksAt G form first)
-  IsDone opened made looked (Check path) left left' written written' = DoneOn L (looked path.now) (Checks L written written')
+  IsDone opened made looked (Check path) left left' written written' = DoneOn L (looked path.now) (ChecksImage L written written')
   IsDone opened made looked (Upgrade old new layout) left left' written written' =
       UpgradeDone G (opened old.now) (made new.now) layout
   IsDone opened made looked (Copy old new asked) left left' written written' = CopyDone L G (looked old.now) (made new.now) asked

@@ -72,27 +72,19 @@ module _ {A B : Type 0} (G : Ghosts A) (H : Ghosts B) where
     pub reads : IsTrue (G.keeps_model source) → ReadsAtMost G source source'
         (reads_to_list (blocks_on G source) (G.disk source).content + 2 * blocks_on G source)
 
-  -- From a device that was opened an image was made, by what P says, on a device of so many blocks.
-  abbrev pub MadeFrom : (opened : A → Type 0) (made : ℕ → B → Type 0) (count : ℕ → Option ℕ) (P : A → A → B → B → Type 0)
-      (source' : A) (after : B) → Type 0
-  MadeFrom opened made count P source' after =
-      (source : A) × opened source × (n : ℕ) × (count (G.sector_count source) ≡ Some n)
-      × (device : B) × made (sectors_for n) device × P source source' device after
+  -- Of a device an image was made, by what P says, on a device of the size of one with so many blocks.
+  abbrev pub MadeOf : (made : ℕ → B → Type 0) (size_of : ℕ → ℕ) (count : Option ℕ) (P : A → A → B → B → Type 0)
+      (source source' : A) (after : B) → Type 0
+  MadeOf made size_of count P source source' after =
+      (n : ℕ) × (count ≡ Some n) × (device : B) × made (size_of n) device × P source source' device after
 
-  -- A copy was made, with as many blocks as were asked for.
-  abbrev pub Copied : (opened : A → Type 0) (made : ℕ → B → Type 0) (asked : Option ℕ) (source' : A) (after : B) → Type 0
-  Copied opened made asked source' after = MadeFrom opened made (λ sectors. count_for_copy sectors asked) Copies source' after
+  -- A copy was made, by layout 2, with as many blocks as were asked for.
+  abbrev pub MakesCopy : (made : ℕ → B → Type 0) (asked : Option ℕ) (source source' : A) (after : B) → Type 0
+  MakesCopy made asked source source' after =
+      MadeOf made sectors_for (count_for_copy (G.sector_count source) asked) Copies source source' after
 
-  -- An image was salvaged, which has as many blocks as were asked for.
-  abbrev pub Salvaged : (opened : A → Type 0) (made : ℕ → B → Type 0) (asked : Option ℕ) (written written' : Option (List ℕ))
-      (source' : A) (after : B) → Type 0
-  Salvaged opened made asked written written' source' after =
-      MadeFrom opened made (λ sectors. count_for_salvage sectors asked) (Salvages written written') source' after
-
-  abbrev pub CopyDone : (opened : A → Type 0) (made : ℕ → B → Type 0) (asked : Option ℕ) → Type 0
-  CopyDone opened made asked = (source' : A) × (after : B) × Copied opened made asked source' after
-
-  abbrev pub SalvageDone : (opened : A → Type 0) (made : ℕ → B → Type 0) (asked : Option ℕ)
-      (written written' : Option (List ℕ)) → Type 0
-  SalvageDone opened made asked written written' =
-      (source' : A) × (after : B) × Salvaged opened made asked written written' source' after
+  -- An image of layout 2 was salvaged, which has as many blocks as were asked for.
+  abbrev pub MakesSalvage : (made : ℕ → B → Type 0) (asked : Option ℕ) (written written' : Option (List ℕ))
+      (source source' : A) (after : B) → Type 0
+  MakesSalvage made asked written written' source source' after =
+      MadeOf made sectors_for (count_for_salvage (G.sector_count source) asked) (Salvages written written') source source' after

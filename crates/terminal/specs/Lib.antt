@@ -9,6 +9,8 @@ pub mod Older
 pub mod Newer
 pub mod Copying
 pub mod Shown
+pub mod NewerCare
+pub mod Care
 pub mod Files
 pub mod Putting
 pub mod Transfer

@@ -1,5 +1,5 @@
 -- A block that is printed of an image by reads alone, on any device.
-use Rattle.std.specs.Prelude.{◌≡◌, ◌⊎◌, ℕ, ◌+◌, ◌<◌, nat_lt, if◌then◌else◌, IsTrue, List, Option, Some, None, option_map}
+use Rattle.std.specs.Prelude.{◌≡◌, ℕ, ◌+◌, ◌<◌, nat_lt, if◌then◌else◌, IsTrue, List, Option, Some, None, option_map}
 use Rattle.std.specs.Io.KnownBytes.{Appends}
 use Rattle.sector_disk.specs.Disk.{Image, MayLeave}
 use Rattle.sector_disk.specs.declared.device.SectorDevice.{Ghosts}
@@ -9,7 +9,6 @@ use Rattle.journal.specs.Maps.{contents}
 use Rattle.image_care.specs.Examined.{reads_to_list}
 use Rattle.recovery.specs.Label.{blocks_in}
 use Rattle.recovery.specs.Opened.{first_of, image_refusal}
-use Rattle.terminal.specs.Done.{DoneOn, ListsBlock}
 use Rattle.terminal.specs.Older.{blocks_on, maps_on}
 use Rattle.terminal.specs.Failures.{of_image}
 use Rattle.terminal.specs.Screen.{listing}
@@ -36,9 +35,3 @@ module _ {D : Type 0} (G : Ghosts D) where
     pub begins : BeginsAtMost G device after 0 0
     pub reads : IsTrue (G.keeps_model device)
         → ReadsAtMost G device after (reads_to_list (blocks_on G device) (G.disk device).content + 3)
-
--- A block was listed: of an image that was opened for writing after a recovery, or of one that was opened for reading by reads alone.
-abbrev pub ListDone : {D E : Type 0} (G : Ghosts D) (L : Ghosts E) (opened : D → Type 0) (looked : E → Type 0) (b : ℕ)
-    (written written' : Option (List ℕ)) → Type 0
-ListDone G L opened looked b written written' =
-    DoneOn G opened (ListsBlock G b written written') ⊎ DoneOn L looked (ShowsBlock L b written written')

@@ -7,13 +7,17 @@ ghost use Rattle.sector_disk.specs.Disk.{MayLeave};
 ghost use Rattle.journal.specs.Calls.{BeginsAtMost, StopsLeave};
 ghost use Rattle.recovery.specs.Label.{is_size};
 ghost use Rattle.recovery.specs.Opened.{image_refusal};
+ghost use Rattle.terminal.specs.Care.{ChecksImage};
 ghost use Rattle.terminal.specs.Checked.{Checks, report, save_text};
 ghost use Rattle.terminal.specs.Done.{Comes};
 ghost use Rattle.terminal.specs.Failures.{of_image};
 ghost use Rattle.terminal.specs.Files.{IsOpened};
 
 use super::failure::Failure;
-use image_care::{Examined, examine};
+use super::layouts::{layout_by_size, version_of};
+use super::newer_checking::check_newer_over;
+use super::orders::Layout;
+use image_care::examine;
 use sector_disk::{HostFile, HostFiles, SectorDevice, SectorFile, open_disk};
 use sessions::streams::{flush, write_bytes};
 use std::alloc::{AllocError, Global};
@@ -28,16 +32,43 @@ pub fn check_image<H: HostFile + Drop, O: HostFiles<H>, W: Write>(
 ) -> Result<SectorFile<H>, Failure>
     ensures checked { IfOk result (λ disk. Comes ⟦<SectorFile<H> as SectorDevice>⟧
         (IsOpened H.HostFile (O.opens files.now path.now))
-        (Checks ⟦<SectorFile<H> as SectorDevice>⟧ (W.contents output.old) (W.contents output.new)) disk) }
+        (ChecksImage ⟦<SectorFile<H> as SectorDevice>⟧ (W.contents output.old) (W.contents output.new)) disk) }
 {
     let mut disk = open_disk(files, path)?;
-    match check_over(alloc, &mut disk, output) {
+    match check_by_size(alloc, &mut disk, output) {
         Ok(()) => Ok(disk),
         Err(failure) => Err(failure),
     }
 }
 
-/// Prints what the image on a device holds. Where it is refused nothing is printed.
+/// Prints what the image on a device holds, by the layout that its size tells.
+fn check_by_size<D: SectorDevice, W: Write>(
+    alloc: Global,
+    device: &mut D,
+    output: &mut W,
+) -> Result<(), Failure>
+    ensures { OnOk result (ChecksImage D.SectorDevice (W.contents output.old) (W.contents output.new) device.old device.new) }
+{
+    match layout_by_size(device.sectors()) {
+        Layout::Two => check_over(alloc, device, output),
+        Layout::Three => check_newer_over(alloc, device, output),
+    }
+}
+
+/// What is told of an image.
+#[derive(Clone, Copy)]
+pub(super) struct ImageReport {
+    /// The length of its file, in bytes.
+    pub(super) bytes: u32,
+    pub(super) layout: Layout,
+    pub(super) blocks: u16,
+    /// How many blocks a save has that is under way, where one is.
+    pub(super) under_way: Option<u16>,
+    /// The SHA-256 of its blocks.
+    pub(super) digest: [u8; 32],
+}
+
+/// Prints what the image of layout 2 on a device holds. Where it is refused nothing is printed.
 pub fn check_over<D: SectorDevice, W: Write>(
     alloc: Global,
     device: &mut D,
@@ -64,19 +95,33 @@ pub fn check_over<D: SectorDevice, W: Write>(
     ensures begins { BeginsAtMost D.SectorDevice device.old device.new 0 0 }
 {
     match examine(device) {
-        Ok(found) => print_report(alloc, &found, output),
+        Ok(found) => {
+            let digest = found.digest;
+            let told = ImageReport {
+                bytes: 512 * (3 + 4 * found.blocks as u32),
+                layout: Layout::Two,
+                blocks: found.blocks,
+                under_way: found.under_way,
+                digest,
+            };
+            print_report(alloc, &told, output)
+        }
         Err(fault) => Err(Failure::from(fault)),
     }
 }
 
-/// Prints the report of an image of so many blocks.
-fn print_report<W: Write>(alloc: Global, found: &Examined, output: &mut W) -> Result<(), Failure>
+/// Prints what is told of an image.
+pub(super) fn print_report<W: Write>(
+    alloc: Global,
+    told: &ImageReport,
+    output: &mut W,
+) -> Result<(), Failure>
     ensures ok { OnOk result (Appends (W.contents output.old) (W.contents output.new)
-        (report (512 * (3 + 4 * found.now.blocks)) found.now.blocks found.now.under_way found.now.digest)) }
+        (report told.now.bytes told.now.layout told.now.blocks told.now.under_way told.now.digest)) }
     ensures only { IfErr result (λ e. (e ≡ Failure.NoMemory) ⊎ (e ≡ Failure.CannotWrite)) }
     ensures unprinted { IfErr result (λ e. e ≢ Failure.CannotWrite → output.new ≡ output.old) }
 {
-    match report(alloc, found) {
+    match report(alloc, told) {
         Ok(text) => print(text.as_bytes(), output),
         Err(_) => Err(Failure::NoMemory),
     }
@@ -91,18 +136,17 @@ pub(super) fn print<W: Write>(text: &[u8], output: &mut W) -> Result<(), Failure
     flush(output).map_err(|_| Failure::CannotWrite)
 }
 
-/// What is told of an image.
-fn report(alloc: Global, found: &Examined) -> Result<String, AllocError>
+/// What is told of an image, as lines.
+fn report(alloc: Global, told: &ImageReport) -> Result<String, AllocError>
     ensures { IfOk result (λ text. string_bytes text
-        ≡ report (512 * (3 + 4 * found.now.blocks)) found.now.blocks found.now.under_way found.now.digest) }
+        ≡ report told.now.bytes told.now.layout told.now.blocks told.now.under_way told.now.digest) }
 {
-    let bytes = 512 * (3 + 4 * found.blocks as u32);
-    let save = save_text(alloc, found.under_way)?;
-    let digest = hex::encode(alloc, found.digest)?;
+    let save = save_text(alloc, told.under_way)?;
+    let digest = hex::encode(alloc, told.digest)?;
     let mut text = String::new(alloc);
-    writeln!(text, "bytes: {bytes}")?;
-    writeln!(text, "layout: 2")?;
-    writeln!(text, "blocks: {}", found.blocks)?;
+    writeln!(text, "bytes: {}", told.bytes)?;
+    writeln!(text, "layout: {}", version_of(told.layout))?;
+    writeln!(text, "blocks: {}", told.blocks)?;
     writeln!(text, "save under way: {save}")?;
     writeln!(text, "sha256: {digest}")?;
     Ok(text)

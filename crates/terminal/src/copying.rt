@@ -8,26 +8,32 @@ ghost use Rattle.journal.specs.Layout.{sectors_for};
 ghost use Rattle.recovery.specs.Formatted.{MakingLeaves};
 ghost use Rattle.recovery.specs.Steps.{OnlyRead, WentWell};
 ghost use Rattle.image_care.specs.Copied.{copy_refusal, grown, salvage_refusal, salvaged_blocks};
-ghost use Rattle.terminal.specs.Copying.{Copied, Copies, Salvaged, Salvages, copied_count, count_for_copy, count_for_salvage, no_recovery, salvaged_count};
+ghost use Rattle.terminal.specs.Care.{Copied, CopiesImage, Salvaged, SalvagesImage};
+ghost use Rattle.terminal.specs.Copying.{Copies, MakesCopy, MakesSalvage, Salvages, copied_count, count_for_copy, count_for_salvage, no_recovery, salvaged_count};
 ghost use Rattle.terminal.specs.Older.{LeavesBlocks};
 ghost use Rattle.terminal.specs.Failures.{of_upgrade};
 ghost use Rattle.terminal.specs.Files.{IsMade, IsOpened};
 
 use super::checking::print;
 use super::failure::Failure;
+use super::layouts::layout_by_size;
+use super::newer_copying::copy_newer_into;
+use super::newer_salvaging::salvage_newer_into;
+use super::orders::Layout;
 use image_care::{copy, salvage};
 use journal::layout::MOST_BLOCKS;
 use recovery::blocks_of_size;
 use sector_disk::{HostFile, HostFiles, SectorDevice, SectorFile, create_disk, open_disk};
+use std::alloc::Global;
 use std::io::Write;
 
-/// What is told of each salvage.
+/// What is told of each salvage by layout 2.
 const NO_RECOVERY: &str =
     "salvaged, not recovered: of a save that was under way some blocks may be old and some new\n";
 
-/// Makes an image of the blocks of one, in a new file, and gives both files: of `asked` blocks, or of as many as the old one
-/// has. Nothing is made where the old one has the size of no image, or where it has more blocks than are asked for; and
-/// whatever has the new name already stays as it is.
+/// Makes an image of the blocks of one, by the same layout, in a new file, and gives both files: of `asked` blocks, or of as many
+/// as the old one has. Nothing is made where the old one has the size of no image, or where it has more blocks than are asked for;
+/// and whatever has the new name already stays as it is.
 pub fn copy_image<K: HostFile + Drop, P: HostFiles<K>, H: HostFile + Drop, O: HostFiles<H>>(
     looking: &P,
     files: &O,
@@ -43,19 +49,55 @@ pub fn copy_image<K: HostFile + Drop, P: HostFiles<K>, H: HostFile + Drop, O: Ho
     ensures new_well { IfOk result (λ both. ⟦<SectorFile<H> as SectorDevice>⟧.failures both.1 ≡ 0) }
 {
     let mut source = open_disk(looking, old)?;
-    let Some(blocks) = count_for_copy(source.sectors(), asked) else {
-        return Err(Failure::BadSize);
-    };
-    let mut target = make_file(files, new, blocks)?;
-    match copy_over(&mut source, &mut target) {
-        Ok(()) => Ok((source, target)),
+    match copy_by_size(&mut source, files, new, asked) {
+        Ok(target) => Ok((source, target)),
         Err(failure) => Err(failure),
     }
 }
 
-/// Makes an image of what can be had of a damaged one, in a new file, tells that this is no recovery, and gives both files.
-/// Nothing is made where the old one has the size of no image, or of one of another number of blocks than is asked for; and
-/// whatever has the new name already stays as it is.
+/// Makes a copy of the image on a device, by the layout that its size tells.
+fn copy_by_size<A: SectorDevice, H: HostFile + Drop, O: HostFiles<H>>(
+    source: &mut A,
+    files: &O,
+    new: &str,
+    asked: Option<u16>,
+) -> Result<SectorFile<H>, Failure>
+    ensures made { IfOk result (λ target. CopiesImage A.SectorDevice ⟦<SectorFile<H> as SectorDevice>⟧
+        (IsMade H.HostFile (O.makes files.now new.now)) asked source.old source.new target) }
+    ensures old_well { OnOk result (A.failures source.new ≡ A.failures source.old) }
+    ensures new_well { IfOk result (λ target. ⟦<SectorFile<H> as SectorDevice>⟧.failures target ≡ 0) }
+{
+    match layout_by_size(source.sectors()) {
+        Layout::Two => copy_into(source, files, new, asked),
+        Layout::Three => copy_newer_into(source, files, new, asked),
+    }
+}
+
+/// Makes a copy of the image of layout 2 on a device.
+fn copy_into<A: SectorDevice, H: HostFile + Drop, O: HostFiles<H>>(
+    source: &mut A,
+    files: &O,
+    new: &str,
+    asked: Option<u16>,
+) -> Result<SectorFile<H>, Failure>
+    ensures made { IfOk result (λ target. MakesCopy A.SectorDevice ⟦<SectorFile<H> as SectorDevice>⟧
+        (IsMade H.HostFile (O.makes files.now new.now)) asked source.old source.new target) }
+    ensures old_well { OnOk result (A.failures source.new ≡ A.failures source.old) }
+    ensures new_well { IfOk result (λ target. ⟦<SectorFile<H> as SectorDevice>⟧.failures target ≡ 0) }
+{
+    let Some(blocks) = count_for_copy(source.sectors(), asked) else {
+        return Err(Failure::BadSize);
+    };
+    let mut target = make_file(files, new, blocks)?;
+    match copy_over(source, &mut target) {
+        Ok(()) => Ok(target),
+        Err(failure) => Err(failure),
+    }
+}
+
+/// Makes an image of what can be had of a damaged one, by the same layout, in a new file, tells that this is no recovery, and gives
+/// both files. Nothing is made where the old one has the size of no image, or of one of another number of blocks than is asked for;
+/// and whatever has the new name already stays as it is.
 pub fn salvage_image<
     K: HostFile + Drop,
     P: HostFiles<K>,
@@ -63,6 +105,7 @@ pub fn salvage_image<
     O: HostFiles<H>,
     W: Write,
 >(
+    alloc: Global,
     looking: &P,
     files: &O,
     old: &str,
@@ -79,17 +122,58 @@ pub fn salvage_image<
     ensures new_well { IfOk result (λ both. ⟦<SectorFile<H> as SectorDevice>⟧.failures both.1 ≡ 0) }
 {
     let mut source = open_disk(looking, old)?;
-    let Some(blocks) = count_for_salvage(source.sectors(), asked) else {
-        return Err(Failure::BadSize);
-    };
-    let mut target = make_file(files, new, blocks)?;
-    match salvage_over(&mut source, &mut target, output) {
-        Ok(()) => Ok((source, target)),
+    match salvage_by_size(alloc, &mut source, files, new, asked, output) {
+        Ok(target) => Ok((source, target)),
         Err(failure) => Err(failure),
     }
 }
 
-/// Makes a file of the size of an image of so many blocks.
+/// Salvages the image on a device, by the layout that its size tells.
+fn salvage_by_size<A: SectorDevice, H: HostFile + Drop, O: HostFiles<H>, W: Write>(
+    alloc: Global,
+    source: &mut A,
+    files: &O,
+    new: &str,
+    asked: Option<u16>,
+    output: &mut W,
+) -> Result<SectorFile<H>, Failure>
+    ensures made { IfOk result (λ target. SalvagesImage A.SectorDevice ⟦<SectorFile<H> as SectorDevice>⟧
+        (IsMade H.HostFile (O.makes files.now new.now)) asked (W.contents output.old) (W.contents output.new)
+        source.old source.new target) }
+    ensures old_well { OnOk result (A.failures source.new ≡ A.failures source.old) }
+    ensures new_well { IfOk result (λ target. ⟦<SectorFile<H> as SectorDevice>⟧.failures target ≡ 0) }
+{
+    match layout_by_size(source.sectors()) {
+        Layout::Two => salvage_into(source, files, new, asked, output),
+        Layout::Three => salvage_newer_into(alloc, source, files, new, asked, output),
+    }
+}
+
+/// Salvages the image of layout 2 on a device.
+fn salvage_into<A: SectorDevice, H: HostFile + Drop, O: HostFiles<H>, W: Write>(
+    source: &mut A,
+    files: &O,
+    new: &str,
+    asked: Option<u16>,
+    output: &mut W,
+) -> Result<SectorFile<H>, Failure>
+    ensures made { IfOk result (λ target. MakesSalvage A.SectorDevice ⟦<SectorFile<H> as SectorDevice>⟧
+        (IsMade H.HostFile (O.makes files.now new.now)) asked (W.contents output.old) (W.contents output.new)
+        source.old source.new target) }
+    ensures old_well { OnOk result (A.failures source.new ≡ A.failures source.old) }
+    ensures new_well { IfOk result (λ target. ⟦<SectorFile<H> as SectorDevice>⟧.failures target ≡ 0) }
+{
+    let Some(blocks) = count_for_salvage(source.sectors(), asked) else {
+        return Err(Failure::BadSize);
+    };
+    let mut target = make_file(files, new, blocks)?;
+    match salvage_over(source, &mut target, output) {
+        Ok(()) => Ok(target),
+        Err(failure) => Err(failure),
+    }
+}
+
+/// Makes a file of the size of an image of layout 2 of so many blocks.
 fn make_file<H: HostFile + Drop, O: HostFiles<H>>(
     files: &O,
     path: &str,
@@ -111,7 +195,7 @@ fn count_for_copy(sectors: u32, asked: Option<u16>) -> Option<u16>
 }
 
 /// How many blocks the copy of an image of so many has.
-fn copied_count(blocks: u16, asked: Option<u16>) -> Option<u16>
+pub(super) fn copied_count(blocks: u16, asked: Option<u16>) -> Option<u16>
     ensures { result ≡ copied_count blocks asked }
 {
     match asked {
@@ -131,7 +215,7 @@ fn count_for_salvage(sectors: u32, asked: Option<u16>) -> Option<u16>
 }
 
 /// How many blocks are salvaged of an image of so many.
-fn salvaged_count(blocks: u16, asked: Option<u16>) -> Option<u16>
+pub(super) fn salvaged_count(blocks: u16, asked: Option<u16>) -> Option<u16>
     ensures { result ≡ salvaged_count blocks asked }
 {
     match asked {
@@ -140,7 +224,7 @@ fn salvaged_count(blocks: u16, asked: Option<u16>) -> Option<u16>
     }
 }
 
-/// Makes an image of the blocks of the one on another device, of as many sectors or more.
+/// Makes an image of layout 2 of the blocks of the one on another device, of as many sectors or more.
 pub fn copy_over<A: SectorDevice, B: SectorDevice>(old: &mut A, new: &mut B) -> Result<(), Failure>
     ensures copies { OnOk result (Copies A.SectorDevice B.SectorDevice old.old old.new new.old new.new) }
     // Each refusal tells the first test that fails: the sizes, and then the old image as an opening refuses it.
@@ -170,7 +254,8 @@ pub fn copy_over<A: SectorDevice, B: SectorDevice>(old: &mut A, new: &mut B) -> 
     }
 }
 
-/// Makes an image of what can be had of the one on another device, of as many sectors, and tells that this is no recovery.
+/// Makes an image of layout 2 of what can be had of the one on another device, of as many sectors, and tells that this is no
+/// recovery.
 pub fn salvage_over<A: SectorDevice, B: SectorDevice, W: Write>(
     old: &mut A,
     new: &mut B,

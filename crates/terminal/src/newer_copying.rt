@@ -1,81 +1,83 @@
-//! An image of layout 1 or 2 is upgraded to layout 3, in a new file.
-ghost use Rattle.std.specs.Prelude.{◌≡◌, ◌≢◌, ◌⊎◌, ℕ, Some, None, IsTrue, IfErr, IfOk, MatchResult, OnOk, option_map};
+//! The blocks of an image of layout 3 are copied into a new file.
+ghost use Rattle.std.specs.Prelude.{◌≡◌, ◌≢◌, ◌⊎◌, ◌≤◌, ℕ, Some, None, IsTrue, IfErr, IfOk, IfSome, MatchResult, OnOk, option_map};
 ghost use Rattle.sector_disk.specs.Counting.{count_up};
-ghost use Rattle.sector_disk.specs.Disk.{MayLeave};
-ghost use Rattle.journal.specs.Calls.{BeginsAtMost, StopsLeave};
-ghost use Rattle.journal.specs.Images.{meaning};
-ghost use Rattle.recovery.specs.Steps.{WentWell};
+ghost use Rattle.journal.specs.Calls.{StopsLeave};
+ghost use Rattle.recovery.specs.Steps.{OnlyRead, WentWell};
+ghost use Rattle.image_care.specs.Copied.{grown};
 ghost use Rattle.shadow.specs.Formatted.{MakingLeaves};
+ghost use Rattle.shadow.specs.Images.{meaning};
 ghost use Rattle.shadow.specs.Layout.{sectors_for};
-ghost use Rattle.shadow.specs.Upgraded.{upgrade_refusal};
+ghost use Rattle.shadow_care.specs.Copied.{copy_refusal};
 ghost use Rattle.terminal.specs.Failures.{of_upgrade};
-ghost use Rattle.terminal.specs.Files.{IsMade, IsOpened};
-ghost use Rattle.terminal.specs.Newer.{LeavesNewer, UpgradedNewer, UpgradesNewer};
+ghost use Rattle.terminal.specs.Files.{IsMade};
+ghost use Rattle.terminal.specs.NewerCare.{CopiesNewer, MakesNewerCopy, newer_count_for_copy};
 
+use super::copying::copied_count;
 use super::failure::Failure;
 use super::files::make_newer_file;
-use sector_disk::{HostFile, HostFiles, SectorDevice, SectorFile, open_disk};
-use shadow::upgrade;
-use stores::blocks_of_size;
+use sector_disk::{HostFile, HostFiles, SectorDevice, SectorFile};
+use shadow::blocks_of_new;
+use shadow_care::copy;
 
-/// Makes an image of layout 3, in a new file, of the blocks of one of layout 1 or 2, and gives both files. Nothing is made where
-/// the old one has the size of no image, and whatever has the new name already stays as it is.
-pub fn upgrade_to_newer<H: HostFile + Drop, O: HostFiles<H>>(
+/// Makes a copy of the image of layout 3 on a device, in a new file.
+pub(super) fn copy_newer_into<A: SectorDevice, H: HostFile + Drop, O: HostFiles<H>>(
+    source: &mut A,
     files: &O,
-    old: &str,
     new: &str,
-) -> Result<(SectorFile<H>, SectorFile<H>), Failure>
-    // Ok only where the new file was made and became an image of the blocks that the old one means.
-    ensures made { IfOk result (λ both. UpgradedNewer ⟦<SectorFile<H> as SectorDevice>⟧
-        (IsOpened H.HostFile (O.opens files.now old.now)) (IsMade H.HostFile (O.makes files.now new.now)) both.0 both.1) }
-    // No call of either failed.
-    ensures old_well { IfOk result (λ both. ⟦<SectorFile<H> as SectorDevice>⟧.failures both.0 ≡ 0) }
-    ensures new_well { IfOk result (λ both. ⟦<SectorFile<H> as SectorDevice>⟧.failures both.1 ≡ 0) }
+    asked: Option<u16>,
+) -> Result<SectorFile<H>, Failure>
+    ensures made { IfOk result (λ target. MakesNewerCopy A.SectorDevice ⟦<SectorFile<H> as SectorDevice>⟧
+        (IsMade H.HostFile (O.makes files.now new.now)) asked source.old source.new target) }
+    ensures old_well { OnOk result (A.failures source.new ≡ A.failures source.old) }
+    ensures new_well { IfOk result (λ target. ⟦<SectorFile<H> as SectorDevice>⟧.failures target ≡ 0) }
 {
-    let mut source = open_disk(files, old)?;
-    let Some(blocks) = blocks_of_size(source.sectors()) else {
+    let Some(blocks) = newer_count_for_copy(source.sectors(), asked) else {
         return Err(Failure::BadSize);
     };
     let mut target = make_newer_file(files, new, blocks)?;
-    match upgrade_over(&mut source, &mut target) {
-        Ok(()) => Ok((source, target)),
+    match copy_newer_over(source, &mut target) {
+        Ok(()) => Ok(target),
         Err(failure) => Err(failure),
     }
 }
 
-/// Makes an image of layout 3 of the blocks of the image of layout 1 or 2 on another device.
-pub fn upgrade_over<A: SectorDevice, B: SectorDevice>(
+/// How many blocks the copy of an image of layout 3 on so many sectors has, where so many are asked for.
+fn newer_count_for_copy(sectors: u32, asked: Option<u16>) -> Option<u16>
+    ensures count { result ≡ newer_count_for_copy sectors asked }
+    ensures few { IfSome result (λ n. n ≤ 3840) }
+{
+    let blocks = blocks_of_new(sectors)?;
+    copied_count(blocks, asked)
+}
+
+/// Makes an image of layout 3 of the blocks of the one on another device, of as many sectors or more.
+pub fn copy_newer_over<A: SectorDevice, B: SectorDevice>(
     old: &mut A,
     new: &mut B,
 ) -> Result<(), Failure>
-    ensures upgrades { OnOk result (UpgradesNewer A.SectorDevice B.SectorDevice old.old old.new new.old new.new) }
-    // Each refusal tells the first test that fails: the sizes, and then the old image as an opening by its layout refuses it.
+    ensures copies { OnOk result (CopiesNewer A.SectorDevice B.SectorDevice old.old old.new new.old new.new) }
+    // Each refusal tells the first test that fails: the sizes, and then the old image as an opening refuses it.
     ensures exact { IsTrue (A.keeps_model old.old) → MatchResult result
-        (λ _. upgrade_refusal (A.sector_count old.old) (B.sector_count new.old) (A.disk old.old).content ≡ None)
+        (λ _. copy_refusal (A.sector_count old.old) (B.sector_count new.old) (A.disk old.old).content ≡ None)
         (λ e. (e ≡ Failure.Device) ⊎ (Some e ≡ option_map of_upgrade
-        (upgrade_refusal (A.sector_count old.old) (B.sector_count new.old) (A.disk old.old).content))) }
+        (copy_refusal (A.sector_count old.old) (B.sector_count new.old) (A.disk old.old).content))) }
     // A fault of a device is told just where one call of either failed.
     ensures device { IfErr result (λ e. e ≡ Failure.Device
         → (A.failures old.new ≡ count_up (A.failures old.old)) ⊎ (B.failures new.new ≡ count_up (B.failures new.old))) }
     ensures refused { IfErr result (λ e. e ≢ Failure.Device
         → WentWell A.SectorDevice B.SectorDevice old.old old.new new.old new.new) }
     ensures well { OnOk result (WentWell A.SectorDevice B.SectorDevice old.old old.new new.old new.new) }
-    // Whatever the answer is, the old image was written nowhere and synced at most once, and a stop leaves of it what one before could leave.
-    ensures unwritten { BeginsAtMost A.SectorDevice old.old old.new 0 1 }
-    ensures older_stops { IsTrue (A.keeps_model old.old)
-        → StopsLeave A.SectorDevice old.old old.new (MayLeave (A.disk old.old)) }
+    // Whatever the answer is, nothing of the old image was written or synced.
+    ensures kept { OnlyRead A.SectorDevice old.old old.new }
     // Where the old image is refused, no call of the other device was made.
     ensures unasked { IfErr result (λ e. e ≢ Failure.Device → new.new ≡ new.old) }
     // Whatever the answer is, a stop leaves of the other device no image, or the whole one, or what could be left before.
-    ensures newer_stops { IsTrue (A.keeps_model old.old) → IsTrue (B.keeps_model new.old) → (n : ℕ)
-        → B.sector_count new.old ≡ sectors_for n → StopsLeave B.SectorDevice new.old new.new
-        (MakingLeaves n (meaning n (A.disk old.old).content) (B.disk new.old)) }
-    // Once it is made, a stop leaves the blocks that the old image means.
-    ensures newer_whole { IsTrue (A.keeps_model old.old) → IsTrue (B.keeps_model new.old) → OnOk result ((n : ℕ)
-        → B.sector_count new.old ≡ sectors_for n
-        → LeavesNewer B.SectorDevice new.new (meaning n (A.disk old.old).content)) }
+    ensures stops { IsTrue (A.keeps_model old.old) → IsTrue (B.keeps_model new.old) → (n m : ℕ)
+        → A.sector_count old.old ≡ sectors_for n → B.sector_count new.old ≡ sectors_for m
+        → StopsLeave B.SectorDevice new.old new.new
+        (MakingLeaves m (grown m (meaning n (A.disk old.old).content)) (B.disk new.old)) }
 {
-    match upgrade(old, new) {
+    match copy(old, new) {
         Ok(()) => Ok(()),
         Err(fault) => Err(Failure::from(fault)),
     }

@@ -23,7 +23,7 @@ use super::files::{
     check_import, export_image, import_image, make_image, make_newer_image, put_into_image,
     run_image, upgrade_image,
 };
-use super::newer_copying::upgrade_to_newer;
+use super::newer_upgrading::upgrade_to_newer;
 use super::orders::{Layout, Order};
 use super::reading::order;
 use super::showing::list_image;
@@ -187,7 +187,13 @@ fn perform<
             closed(copy_image::<K, P, H, O>(looking, files, old, new, asked))
         }
         Order::Salvage(old, new, asked) => closed(salvage_image::<K, P, H, O, W>(
-            looking, files, old, new, asked, output,
+            rt.alloc(),
+            looking,
+            files,
+            old,
+            new,
+            asked,
+            output,
         )),
     }
 }

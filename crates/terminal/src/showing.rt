@@ -4,14 +4,18 @@ ghost use Rattle.sector_disk.specs.Counting.{count_up};
 ghost use Rattle.sector_disk.specs.Disk.{MayLeave};
 ghost use Rattle.journal.specs.Calls.{BeginsAtMost, StopsLeave};
 ghost use Rattle.recovery.specs.Label.{blocks_in, is_size};
+ghost use Rattle.terminal.specs.Care.{ListDone, ShowsImage};
 ghost use Rattle.terminal.specs.Done.{Comes, DoneOn, ListsBlock};
 ghost use Rattle.terminal.specs.Failures.{of_file};
 ghost use Rattle.terminal.specs.Files.{IsOpened};
-ghost use Rattle.terminal.specs.Shown.{ListDone, ShowsBlock, block_refusal};
+ghost use Rattle.terminal.specs.Shown.{ShowsBlock, block_refusal};
 
 use super::checking::print;
 use super::failure::Failure;
 use super::images::list_over;
+use super::layouts::layout_by_size;
+use super::newer_showing::show_newer_over;
+use super::orders::Layout;
 use super::program::closed;
 use super::screen::listing;
 use image_care::read_block;
@@ -47,7 +51,7 @@ pub fn list_opened<H: HostFile + Drop, K: HostFile + Drop, P: HostFiles<K>, W: W
         (ListsBlock ⟦<SectorFile<H> as SectorDevice>⟧ block (W.contents output.old) (W.contents output.new)))) }
     ensures shown { IfErr opened (λ fault. fault ≡ FileFault.Cannot → OnOk result (DoneOn ⟦<SectorFile<K> as SectorDevice>⟧
         (IsOpened K.HostFile (P.opens looking.now path.now))
-        (ShowsBlock ⟦<SectorFile<K> as SectorDevice>⟧ block (W.contents output.old) (W.contents output.new)))) }
+        (ShowsImage ⟦<SectorFile<K> as SectorDevice>⟧ block (W.contents output.old) (W.contents output.new)))) }
     // A file that is in use stays so: it isn't listed at all.
     ensures refused { IfErr opened (λ fault. fault ≢ FileFault.Cannot → result ≡ Err (of_file fault)) }
     ensures silent { IfErr opened (λ fault. fault ≢ FileFault.Cannot → output.new ≡ output.old) }
@@ -68,16 +72,31 @@ pub fn show_image<H: HostFile + Drop, O: HostFiles<H>, W: Write>(
 ) -> Result<SectorFile<H>, Failure>
     ensures shown { IfOk result (λ disk. Comes ⟦<SectorFile<H> as SectorDevice>⟧
         (IsOpened H.HostFile (O.opens files.now path.now))
-        (ShowsBlock ⟦<SectorFile<H> as SectorDevice>⟧ block (W.contents output.old) (W.contents output.new)) disk) }
+        (ShowsImage ⟦<SectorFile<H> as SectorDevice>⟧ block (W.contents output.old) (W.contents output.new)) disk) }
 {
     let mut disk = open_disk(files, path)?;
-    match show_over(&mut disk, block, output) {
+    match show_by_size(&mut disk, block, output) {
         Ok(()) => Ok(disk),
         Err(failure) => Err(failure),
     }
 }
 
-/// Prints a block of the image on a device. Where it is refused nothing is printed.
+/// Prints a block of the image on a device, by the layout that its size tells.
+fn show_by_size<D: SectorDevice, W: Write>(
+    device: &mut D,
+    block: u16,
+    output: &mut W,
+) -> Result<(), Failure>
+    ensures { OnOk result (ShowsImage D.SectorDevice block (W.contents output.old) (W.contents output.new)
+        device.old device.new) }
+{
+    match layout_by_size(device.sectors()) {
+        Layout::Two => show_over(device, block, output),
+        Layout::Three => show_newer_over(device, block, output),
+    }
+}
+
+/// Prints a block of the image of layout 2 on a device. Where it is refused nothing is printed.
 pub fn show_over<D: SectorDevice, W: Write>(
     device: &mut D,
     block: u16,

@@ -1,14 +1,8 @@
-use Rattle.std.proofs.Common.{◌∙◌, ap, sym}
-use Rattle.terminal.specs.Copying.{count_for_copy}
 use Rattle.terminal.proofs.copying.copy_image.Goals as goal
 
 pub returns-in-Ok-clause-made : goal.returns-in-Ok-clause-made
 returns-in-Ok-clause-made g c = (
   c.in_ok-source.source,
   record { file = c.in_ok-source.ensures.file; sectors = c.in_ok-source.ensures.sectors },
-  c.in-Some.blocks,
-  sym (c.in-Some.ensures.count ∙ ap (λ s. count_for_copy s c.args.asked) c.sectors.ensures),
-  c.in_ok-target.target,
-  c.in_ok-target.ensures.made,
-  c.in-Ok.ensures.copies,
+  c.in-Ok.ensures.made,
 )

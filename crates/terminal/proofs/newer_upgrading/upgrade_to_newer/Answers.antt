@@ -2,7 +2,7 @@ use Rattle.std.proofs.Common.{◌≡◌, ◌∙◌, ℕ, ap, subst}
 use Rattle.shadow.specs.Layout.{sectors_for}
 use Rattle.shadow.specs.Upgraded.{known_blocks}
 use Rattle.terminal.specs.Files.{IsMade}
-use Rattle.terminal.proofs.newer_copying.upgrade_to_newer.Goals as goal
+use Rattle.terminal.proofs.newer_upgrading.upgrade_to_newer.Goals as goal
 
 pub returns-in-Ok-clause-made : goal.returns-in-Ok-clause-made
 returns-in-Ok-clause-made g c =

@@ -2,7 +2,7 @@ use Rattle.std.proofs.Common.{◌≡◌}
 use Rattle.shadow.specs.Layout.{sectors_for}
 use Rattle.shadow.specs.Upgraded.{known_blocks}
 use Rattle.terminal.proofs.NewerSizes.{newer_size, older_sound}
-use Rattle.terminal.proofs.newer_copying.upgrade_over.Goals as goal
+use Rattle.terminal.proofs.newer_upgrading.upgrade_over.Goals as goal
 
 pub returns-in-Ok-clause-upgrades : goal.returns-in-Ok-clause-upgrades
 returns-in-Ok-clause-upgrades g c =

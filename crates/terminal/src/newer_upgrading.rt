@@ -1,0 +1,82 @@
+//! An image of layout 1 or 2 is upgraded to layout 3, in a new file.
+ghost use Rattle.std.specs.Prelude.{◌≡◌, ◌≢◌, ◌⊎◌, ℕ, Some, None, IsTrue, IfErr, IfOk, MatchResult, OnOk, option_map};
+ghost use Rattle.sector_disk.specs.Counting.{count_up};
+ghost use Rattle.sector_disk.specs.Disk.{MayLeave};
+ghost use Rattle.journal.specs.Calls.{BeginsAtMost, StopsLeave};
+ghost use Rattle.journal.specs.Images.{meaning};
+ghost use Rattle.recovery.specs.Steps.{WentWell};
+ghost use Rattle.shadow.specs.Formatted.{MakingLeaves};
+ghost use Rattle.shadow.specs.Layout.{sectors_for};
+ghost use Rattle.shadow.specs.Upgraded.{upgrade_refusal};
+ghost use Rattle.terminal.specs.Failures.{of_upgrade};
+ghost use Rattle.terminal.specs.Files.{IsMade, IsOpened};
+ghost use Rattle.terminal.specs.Newer.{LeavesNewer, UpgradedNewer, UpgradesNewer};
+
+use super::failure::Failure;
+use super::files::make_newer_file;
+use sector_disk::{HostFile, HostFiles, SectorDevice, SectorFile, open_disk};
+use shadow::upgrade;
+use stores::blocks_of_size;
+
+/// Makes an image of layout 3, in a new file, of the blocks of one of layout 1 or 2, and gives both files. Nothing is made where
+/// the old one has the size of no image, and whatever has the new name already stays as it is.
+pub fn upgrade_to_newer<H: HostFile + Drop, O: HostFiles<H>>(
+    files: &O,
+    old: &str,
+    new: &str,
+) -> Result<(SectorFile<H>, SectorFile<H>), Failure>
+    // Ok only where the new file was made and became an image of the blocks that the old one means.
+    ensures made { IfOk result (λ both. UpgradedNewer ⟦<SectorFile<H> as SectorDevice>⟧
+        (IsOpened H.HostFile (O.opens files.now old.now)) (IsMade H.HostFile (O.makes files.now new.now)) both.0 both.1) }
+    // No call of either failed.
+    ensures old_well { IfOk result (λ both. ⟦<SectorFile<H> as SectorDevice>⟧.failures both.0 ≡ 0) }
+    ensures new_well { IfOk result (λ both. ⟦<SectorFile<H> as SectorDevice>⟧.failures both.1 ≡ 0) }
+{
+    let mut source = open_disk(files, old)?;
+    let Some(blocks) = blocks_of_size(source.sectors()) else {
+        return Err(Failure::BadSize);
+    };
+    let mut target = make_newer_file(files, new, blocks)?;
+    match upgrade_over(&mut source, &mut target) {
+        Ok(()) => Ok((source, target)),
+        Err(failure) => Err(failure),
+    }
+}
+
+/// Makes an image of layout 3 of the blocks of the image of layout 1 or 2 on another device.
+pub fn upgrade_over<A: SectorDevice, B: SectorDevice>(
+    old: &mut A,
+    new: &mut B,
+) -> Result<(), Failure>
+    ensures upgrades { OnOk result (UpgradesNewer A.SectorDevice B.SectorDevice old.old old.new new.old new.new) }
+    // Each refusal tells the first test that fails: the sizes, and then the old image as an opening by its layout refuses it.
+    ensures exact { IsTrue (A.keeps_model old.old) → MatchResult result
+        (λ _. upgrade_refusal (A.sector_count old.old) (B.sector_count new.old) (A.disk old.old).content ≡ None)
+        (λ e. (e ≡ Failure.Device) ⊎ (Some e ≡ option_map of_upgrade
+        (upgrade_refusal (A.sector_count old.old) (B.sector_count new.old) (A.disk old.old).content))) }
+    // A fault of a device is told just where one call of either failed.
+    ensures device { IfErr result (λ e. e ≡ Failure.Device
+        → (A.failures old.new ≡ count_up (A.failures old.old)) ⊎ (B.failures new.new ≡ count_up (B.failures new.old))) }
+    ensures refused { IfErr result (λ e. e ≢ Failure.Device
+        → WentWell A.SectorDevice B.SectorDevice old.old old.new new.old new.new) }
+    ensures well { OnOk result (WentWell A.SectorDevice B.SectorDevice old.old old.new new.old new.new) }
+    // Whatever the answer is, the old image was written nowhere and synced at most once, and a stop leaves of it what one before could leave.
+    ensures unwritten { BeginsAtMost A.SectorDevice old.old old.new 0 1 }
+    ensures older_stops { IsTrue (A.keeps_model old.old)
+        → StopsLeave A.SectorDevice old.old old.new (MayLeave (A.disk old.old)) }
+    // Where the old image is refused, no call of the other device was made.
+    ensures unasked { IfErr result (λ e. e ≢ Failure.Device → new.new ≡ new.old) }
+    // Whatever the answer is, a stop leaves of the other device no image, or the whole one, or what could be left before.
+    ensures newer_stops { IsTrue (A.keeps_model old.old) → IsTrue (B.keeps_model new.old) → (n : ℕ)
+        → B.sector_count new.old ≡ sectors_for n → StopsLeave B.SectorDevice new.old new.new
+        (MakingLeaves n (meaning n (A.disk old.old).content) (B.disk new.old)) }
+    // Once it is made, a stop leaves the blocks that the old image means.
+    ensures newer_whole { IsTrue (A.keeps_model old.old) → IsTrue (B.keeps_model new.old) → OnOk result ((n : ℕ)
+        → B.sector_count new.old ≡ sectors_for n
+        → LeavesNewer B.SectorDevice new.new (meaning n (A.disk old.old).content)) }
+{
+    match upgrade(old, new) {
+        Ok(()) => Ok(()),
+        Err(fault) => Err(Failure::from(fault)),
+    }
+}
