@@ -13,6 +13,7 @@ cd "$work"
 gcc -std=c11 -O2 -o whole "$here/whole.c"
 "$program" new image --blocks 200
 cp image plain
+"$program" new newer --blocks 200 --layout 3
 steps=1000000000
 
 others=
@@ -198,13 +199,18 @@ for blocks in 1 2 3 4; do
     for _ in $(seq "$rounds"); do
         echo "sync $(./whole sync plain 100 | cut -d' ' -f1)"
         for name in save saves; do
-            echo "$name $(./whole run 1 "$name" "$program" run image --steps "$steps" | cut -d' ' -f1)"
+            for of in image newer; do
+                echo "$name.$of $(./whole run 1 "$name" "$program" run "$of" --steps "$steps" | cut -d' ' -f1)"
+            done
         done
         if command -v sqlite3 > /dev/null; then
-            rm -f table.db
-            sqlite3 table.db 'CREATE TABLE block (number INTEGER PRIMARY KEY, bytes BLOB);'
-            for name in empty commits; do
-                echo "$name $(./whole run 1 "$name" sqlite3 table.db | cut -d' ' -f1)"
+            # SQLite as it comes, with a journal of its own that a commit deletes, and with a write-ahead log
+            for mode in delete wal; do
+                rm -f table."$mode"*
+                sqlite3 table."$mode" "PRAGMA journal_mode = $mode; CREATE TABLE block (number INTEGER PRIMARY KEY, bytes BLOB);" > /dev/null
+                for name in empty commits; do
+                    echo "$name.$mode $(./whole run 1 "$name" sqlite3 table."$mode" | cut -d' ' -f1)"
+                done
             done
         fi
     done | awk '!($1 in least) || $2 < least[$1] { least[$1] = $2 } END { for (n in least) print n, least[n] }' > took
@@ -216,10 +222,19 @@ for blocks in 1 2 3 4; do
             "$(awk -v long="$3" -v short="$4" -v sync="$sync" 'BEGIN { printf "%.2f of the four syncs", (long - short) / 100 / sync }')"
     }
     row "four writes, each synced" C "$(echo "$sync" | awk '{ printf "%.0f us", $1 / 1000 }')" "a round, the mean of 100"
-    by_syncs "a save of $blocks blocks" forth83 "$(took saves)" "$(took save)"
+    by_syncs "a save of $blocks blocks" forth83 "$(took saves.image)" "$(took save.image)"
+    by_syncs "a save of $blocks blocks, layout 3" forth83 "$(took saves.newer)" "$(took save.newer)"
     if command -v sqlite3 > /dev/null; then
-        by_syncs "a commit of $blocks KB" sqlite3 "$(took commits)" "$(took empty)"
+        by_syncs "a commit of $blocks KB" sqlite3 "$(took commits.delete)" "$(took empty.delete)"
+        by_syncs "a commit of $blocks KB, write-ahead log" sqlite3 "$(took commits.wal)" "$(took empty.wal)"
     fi
+    awk '{ at[$1] = $2 } END {
+        newer = at["saves.newer"] - at["save.newer"]
+        printf "%.2f of layout 2", newer / (at["saves.image"] - at["save.image"])
+        if ("commits.wal" in at) printf ", %.2f of the write-ahead log", newer / (at["commits.wal"] - at["empty.wal"])
+        print ""
+    }' took > over
+    row "a save of $blocks blocks, layout 3" over "$(cat over)" ""
 done
 
 # ---- start and memory
@@ -232,7 +247,11 @@ start() {
 start true true
 start forth83 "$program"
 start "forth83 run" "$program" run image
-if command -v sqlite3 > /dev/null; then start sqlite3 sqlite3 table.db; fi
+"$program" new most --blocks 3840
+"$program" new newer.most --blocks 3840 --layout 3
+start "3840 blocks" "$program" run most
+start "the same, 3" "$program" run newer.most
+if command -v sqlite3 > /dev/null; then start sqlite3 sqlite3 table.delete; fi
 if command -v lua > /dev/null; then start lua lua -; fi
 echo bye > empty
 for other in $others; do start "$other" "$other"; done
