@@ -2,19 +2,15 @@
 #![tactic(auto)]
 
 #[cfg(test)]
-mod care_of_newer_images;
-#[cfg(test)]
-mod commands;
-#[cfg(test)]
 mod copies;
-#[cfg(test)]
-mod images;
 #[cfg(test)]
 mod lines;
 #[cfg(test)]
 mod newer_images;
 #[cfg(test)]
 mod newer_images_in_memory;
+#[cfg(test)]
+mod standard_streams;
 #[cfg(test)]
 mod stopping;
 #[cfg(test)]
@@ -23,9 +19,5 @@ mod streams;
 mod support;
 #[cfg(test)]
 mod systems;
-#[cfg(test)]
-mod traces;
-#[cfg(test)]
-mod transferring;
 #[cfg(test)]
 mod upgrades;

@@ -1,77 +1,9 @@
-//! Sessions over blocks in memory: lines, streams that fail, and when the replies come.
-ghost use Rattle.std.specs.Prelude.{◌<◌};
-
+//! Sessions over blocks in memory: streams that fail, and when the replies come.
 use super::streams::{Ended, Failing, Fitful, Listener, Narrow, Patient};
 use super::support::run;
 use sessions::{RunFault, laws};
 use std::cell::Cell;
-use std::process::Abort;
 use std::test::Fail;
-
-/// Runs the input through a new system, and compares what was written.
-fn check(
-    rt: &(impl Abort + AllocGlobal),
-    steps: u32,
-    input: &[u8],
-    output: &[u8],
-) -> Result<(), Fail>
-    requires { 0 < steps }
-{
-    let mut reader = input;
-    let mut written: Vec<u8> = Vec::new(rt.alloc());
-    run(rt, steps, &mut reader, &mut written)??;
-    assert_eq!(rt; written.as_slice(), output);
-    assert!(rt; reader.is_empty());
-    Ok(())
-}
-
-/// Inputs, and what is written, one in a row.
-#[test]
-fn lines_are_cut(rt: HostRuntime) -> Result<(), Fail> {
-    let rows = [
-        ("", ""),
-        ("\n\n", " ok\n ok\n"),
-        ("1 .\r\n", "1  ok\n"),
-        ("1 .\r\r\n", " ? UNDEFINED\n"),
-        ("\t1\t.\t\n", "1  ok\n"),
-        ("1\r.\n", " ? UNDEFINED\n"),
-        ("1\0.\n", " ? UNDEFINED\n"),
-        // A last line may lack its line feed.
-        ("1 .\n2 .", "1  ok\n2  ok\n"),
-        ("1 .\r", "1  ok\n"),
-        ("\r", " ok\n"),
-        ("\r\r", " ? UNDEFINED\n"),
-        (" ", " ok\n"),
-    ];
-    for (input, output) in rows {
-        check(&rt, 1_000_000, input.as_bytes(), output.as_bytes())?;
-    }
-    Ok(())
-}
-
-#[test]
-fn long_lines(rt: HostRuntime) -> Result<(), Fail> {
-    let rows = [
-        (1024, "\n", " ? UNDEFINED\n"),
-        (1024, "\r\n", " ? UNDEFINED\n"),
-        (1024, "\r", " ? UNDEFINED\n"),
-        (1025, "\n", " ? LINE LENGTH\n"),
-        (1024, "\r\r\n", " ? LINE LENGTH\n"),
-        (1024, "\rA\n", " ? LINE LENGTH\n"),
-        (1025, "", " ? LINE LENGTH\n"),
-        // What follows a line that is too long is the next line.
-        (100_000, "\r\n2 .\n", " ? LINE LENGTH\n2  ok\n"),
-    ];
-    for (length, ending, output) in rows {
-        let mut input = Vec::new(rt.alloc());
-        for _ in 0..length {
-            input.push(b'A')?;
-        }
-        input.extend_from_slice(ending.as_bytes())?;
-        check(&rt, 1_000_000, input.as_slice(), output.as_bytes())?;
-    }
-    Ok(())
-}
 
 /// Three lines, and their replies.
 const LINES: [(&[u8], &[u8]); 3] = [

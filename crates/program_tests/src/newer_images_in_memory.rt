@@ -1,12 +1,13 @@
 //! Images of layout 3 on disks in memory, whose calls fail and are stopped, that are checked, copied, salvaged, and listed by reads alone.
-use super::care_of_newer_images::{change, report};
 use super::newer_images::{LENGTH, NAMED};
 use super::stopping::{Disk, FATES, Fate, OneDisk, Opened};
 use super::support::{
-    DEVICE_FAULT, Left, call_over, call_over_both, check, run_over_files, told_of_making,
+    DEVICE_FAULT, Left, call_over, call_over_both, check, overwrite, run_over_files, told_of_making,
 };
 use super::systems::{BOTH, SAVED, SEVENS};
 use sector_disk::{FileFault, HostFault, HostFiles};
+use sha2::{Digest, Sha256};
+use std::alloc::Global;
 use std::fs::File;
 use std::process::Abort;
 use std::rt::Files;
@@ -14,6 +15,39 @@ use std::test::Fail;
 
 /// What the blocks begin with once 7 was saved in two of them.
 const BOTH_SEVENS: &[(u16, &str)] = &[(1, "\x07\x00"), (2, "\x07\x00")];
+
+/// What `check` prints of an image of so many blocks, which are blank but for these, of which each begins so.
+fn report(alloc: Global, blocks: u16, starts: &[(u16, &str)]) -> Result<String, Fail> {
+    let mut hasher = Sha256::new();
+    for b in 0..blocks {
+        let mut bytes = [b' '; 1024];
+        for (block, start) in starts {
+            if *block == b {
+                overwrite(&mut bytes, 0, start.as_bytes());
+            }
+        }
+        hasher.update(bytes.as_slice());
+    }
+    let digest: [u8; 32] = hasher.finalize();
+    let length = 512 * (32 + 16 * blocks as u32);
+    let mut text = format!(in alloc;
+        "bytes: {length}\nlayout: 3\nblocks: {blocks}\nsave under way: none\nsha256: "
+    )?;
+    for byte in digest {
+        let digits = format!(in alloc; "{byte:02x}")?;
+        text.push_str(&digits)?;
+    }
+    text.push_str("\n")?;
+    Ok(text)
+}
+
+/// Changes a byte of a sector.
+fn change(bytes: &mut [u8], sector: usize, at: usize) {
+    let place = sector.saturating_mul(512).saturating_add(at);
+    if let Some(byte) = bytes.get_mut(place) {
+        *byte ^= 255;
+    }
+}
 
 /// A disk with an image of 32 blocks, of which two were saved at once.
 fn with_sevens(rt: &(impl Files<File = File> + AllocGlobal + Abort)) -> Result<Disk, Fail> {

@@ -207,29 +207,11 @@ pub(crate) fn transcript(rt: &impl AllocGlobal, text: &str) -> Result<(Vec<u8>, 
     Ok((input, output))
 }
 
-/// Calls the program in a folder, once for each line of a script: the status, the text of the failure if there is one, and after
-/// a colon the words, in which `@` stands for the folder. Nothing is given to it, and it has to print nothing.
-pub(crate) fn follow(
-    rt: &(impl Files<File = File> + AllocGlobal + Abort),
-    folder: &str,
-    script: &str,
-) -> Result<(), Fail> {
-    for line in script.lines() {
-        let Some((wanted, words)) = line.split_once(" : ") else {
-            return Err(Fail::from("a line without words"));
-        };
-        let words = words.replace(rt.alloc(), "@", folder)?;
-        let mut list: Vec<&str> = Vec::new(rt.alloc());
-        list.push("forth83")?;
-        for word in words.split_whitespace() {
-            list.push(word)?;
+/// Puts bytes over those from a place on.
+pub(crate) fn overwrite(bytes: &mut [u8], at: usize, patch: &[u8]) {
+    for (i, byte) in patch.iter().enumerate() {
+        if let Some(place) = bytes.get_mut(at.saturating_add(i)) {
+            *place = *byte;
         }
-        let left = call(rt, list.as_slice(), b"");
-        let errors = str::from_utf8(left.errors.as_slice()).unwrap_or("?");
-        let text = errors.strip_prefix("forth83: ").unwrap_or(errors);
-        let found = format!(in rt.alloc(); "{} {text}", left.status)?;
-        assert_eq!(rt; found.trim_end(), wanted, "{words}");
-        assert!(rt; left.output.is_empty(), "{words}");
     }
-    Ok(())
 }

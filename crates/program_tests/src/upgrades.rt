@@ -1,8 +1,8 @@
 //! Upgrades whose calls fail or are stopped, over an old image of which a save is under way: what is told, and what stays of both images.
-use super::images::{make_old, overwrite};
 use super::stopping::{Disk, FATES, Fate, LENGTH, NAMED, OneDisk, Opened};
-use super::support::{DEVICE_FAULT, call_over, told_of_making};
+use super::support::{DEVICE_FAULT, call_over, overwrite, told_of_making};
 use super::systems::{BOTH, SEVENS};
+use journal::layout;
 use sector_disk::{FileFault, HostFault, HostFiles};
 use std::fs::File;
 use std::process::Abort;
@@ -74,6 +74,18 @@ impl<'a> HostFiles<Opened<'a>> for TwoDisks<'a> {
 
     fn keep_name(&self, path: &str) -> Result<(), HostFault> {
         self.new.keep_name(path)
+    }
+}
+
+/// Makes of the bytes of an image of blank blocks those of one of layout 1, of which a save is under way: its gate is open over blocks 1 and 2,
+/// which begin with these bytes there.
+fn make_old(image: &mut [u8], first: u8, second: u8) {
+    overwrite(image, 0, layout::label_1(32).as_slice());
+    overwrite(image, 512, b"COMMIT83");
+    overwrite(image, 1024, &[6]);
+    for (block, byte) in [(1, first), (2, second)] {
+        let at = 512 * layout::slot_sector(block) as usize;
+        overwrite(image, at, &[byte]);
     }
 }
 

@@ -16,6 +16,7 @@ mod report;
 mod session;
 mod session_texts;
 mod shell;
+mod tools;
 
 /// Follows a text, prints what was found, and answers how many differences there are.
 fn follow(rt: &(impl Files<File = File> + Print + AllocGlobal), path: &str) -> io::Result<usize> {

@@ -49,7 +49,7 @@ pub struct Page {
 impl Page {
     pub fn new(alloc: Global) -> Self {
         Page {
-            shell: Shell::new(),
+            shell: Shell::new(alloc),
             session: String::new(alloc),
             sessions: 0,
             commands: 0,

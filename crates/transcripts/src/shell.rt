@@ -1,13 +1,13 @@
 //! What a page shows of the shell: few commands, in few forms. All others are refused.
 use crate::dialogue::{Keyboard, Screen, is_next};
-use crate::report::{head, tail};
+use crate::tools::Tool;
 use interpreter::Forth;
 use sector_disk::{FileDisk, MemoryDisk};
-use std::alloc::{AllocError, Global};
+use std::alloc::Global;
 use std::cell::Cell;
 use std::fs::{File, Files};
 use std::io::{Error, ErrorKind, Read, Write};
-use std::{fs, io};
+use std::{fs, io, mem};
 use terminal::command;
 
 /// A command of a line; commands are divided by `; `.
@@ -18,8 +18,10 @@ enum Command<'a> {
     Write(&'a str),
     /// `forth83 ..`: the program at the terminal.
     Talk(&'a str),
-    /// Stages that are joined by ` | `, and after ` > ` the file that what they write goes into, if there is one.
-    Pipe(&'a str, Option<&'a str>),
+    /// Stages that are joined by ` | `.
+    Pipe(&'a str),
+    /// Stages, and after ` > ` the file that what they write goes into.
+    PipeTo(&'a str, &'a str),
 }
 
 impl<'a> Command<'a> {
@@ -31,9 +33,9 @@ impl<'a> Command<'a> {
             return Command::Write(path);
         }
         match text.split_once(" > ") {
-            Some((stages, path)) => Command::Pipe(stages, Some(path)),
-            None if text.starts_with("forth83") && !text.contains(" | ") => Command::Talk(text),
-            None => Command::Pipe(text, None),
+            Some((stages, path)) => Command::PipeTo(stages, path),
+            None if is_talk(text) => Command::Talk(text),
+            None => Command::Pipe(text),
         }
     }
 }
@@ -43,61 +45,49 @@ fn written(text: &str) -> Option<&str> {
     text.strip_prefix("cat > ")?.strip_suffix(" <<'END'")
 }
 
-/// What a stage of a pipe does.
-enum Stage<'a> {
-    /// `echo 'TEXT'`
-    Echo(&'a str),
-    /// `printf 'TEXT'`, in which `\n` is a line feed.
-    Printf(&'a str),
-    /// `cat FILE..`: files one after another, where `-` is what comes.
-    Cat(&'a str),
-    /// `sed 's/^/~/'`: a `~` before each line.
-    Marked,
-    /// `tr a-z A-Z`: capitals.
-    Capitals,
-    /// `head -N`
-    Head(usize),
-    /// `tail -N`
-    Tail(usize),
-    /// `forth83 ..`
-    Program(&'a str),
+/// Whether the program is called with the terminal as each of its streams.
+fn is_talk(text: &str) -> bool {
+    text.starts_with("forth83") && !text.contains(" | ") && !text.contains(" 2>")
 }
 
-impl<'a> Stage<'a> {
-    fn new(text: &'a str) -> Option<Self> {
-        match text.split_once(" ") {
-            Some(("echo", text)) => Some(Stage::Echo(unquoted(text)?)),
-            Some(("printf", text)) => Some(Stage::Printf(unquoted(text)?)),
-            Some(("cat", paths)) => Some(Stage::Cat(paths)),
-            Some(("sed", "'s/^/~/'")) => Some(Stage::Marked),
-            Some(("tr", "a-z A-Z")) => Some(Stage::Capitals),
-            Some(("head", count)) => Some(Stage::Head(lines(count)?)),
-            Some(("tail", count)) => Some(Stage::Tail(lines(count)?)),
-            Some(("forth83", _)) => Some(Stage::Program(text)),
-            _ => None,
+/// Where what the program tells as an error goes.
+#[derive(Clone, Copy)]
+enum Errors<'a> {
+    /// To the terminal, after what the pipe writes.
+    Shown,
+    /// `2>&1`: where what it writes goes.
+    Joined,
+    /// `2> FILE`
+    To(&'a str),
+}
+
+impl<'a> Errors<'a> {
+    /// The words of a call of the program, and where its errors go.
+    fn of(text: &'a str) -> (&'a str, Self) {
+        if let Some(words) = text.strip_suffix(" 2>&1") {
+            return (words, Errors::Joined);
+        }
+        match text.split_once(" 2> ") {
+            Some((words, path)) => (words, Errors::To(path)),
+            None => (text, Errors::Shown),
         }
     }
-}
-
-/// A number of lines, as `-5`.
-fn lines(count: &str) -> Option<usize> {
-    count.strip_prefix("-")?.parse().ok()
-}
-
-/// A text without the quotes around it.
-fn unquoted(text: &str) -> Option<&str> {
-    text.strip_prefix("'")?.strip_suffix("'")
 }
 
 /// A shell, which knows the exit status of the last call of the program.
 #[derive(Drop)]
 pub struct Shell {
     status: u8,
+    /// What the program told as an error, and isn't shown yet.
+    told: Vec<u8>,
 }
 
 impl Shell {
-    pub fn new() -> Self {
-        Shell { status: 0 }
+    pub fn new(alloc: Global) -> Self {
+        Shell {
+            status: 0,
+            told: Vec::new(alloc),
+        }
     }
 
     /// Does the commands of a line as long as what they write is shown, and gives what came and isn't shown.
@@ -127,13 +117,39 @@ impl Shell {
             Command::Status => Ok(format!(in rt.alloc(); "{}\n", self.status)?.into_bytes()),
             Command::Write(path) => write_lines(rt, path, shown),
             Command::Talk(words) => self.talk(rt, words, shown),
-            Command::Pipe(stages, None) => self.pipe(rt, stages),
-            Command::Pipe(stages, Some(path)) => {
-                let written = self.pipe(rt, stages)?;
-                fs::write(rt, path, written.as_slice())?;
-                Ok(Vec::new(rt.alloc()))
+            Command::Pipe(stages) => {
+                let mut came = self.pipe(rt, stages)?;
+                self.show_told(rt.alloc(), &mut came)?;
+                Ok(came)
             }
+            Command::PipeTo(stages, path) => self.pipe_to(rt, stages, path),
         }
+    }
+
+    /// Moves what the program told as an error to what came.
+    fn show_told(&mut self, alloc: Global, came: &mut Vec<u8>) -> io::Result<()> {
+        let told = mem::replace(&mut self.told, Vec::new(alloc));
+        Ok(came.extend_from_slice(told.as_slice())?)
+    }
+
+    /// Writes what the stages write to a file, and with ` 2>&1` after its name what the program tells as an error too.
+    fn pipe_to(
+        &mut self,
+        rt: &(impl Files<File = File> + AllocGlobal),
+        stages: &str,
+        path: &str,
+    ) -> io::Result<Vec<u8>> {
+        let mut written = self.pipe(rt, stages)?;
+        let mut shown: Vec<u8> = Vec::new(rt.alloc());
+        let path = if let Some(path) = path.strip_suffix(" 2>&1") {
+            self.show_told(rt.alloc(), &mut written)?;
+            path
+        } else {
+            self.show_told(rt.alloc(), &mut shown)?;
+            path
+        };
+        fs::write(rt, path, written.as_slice())?;
+        Ok(shown)
     }
 
     /// Calls the program at the terminal.
@@ -183,6 +199,24 @@ impl Shell {
         Ok(errors)
     }
 
+    /// What the program writes as a stage of a pipe. What it tells as an error is shown later, or goes where the words say.
+    fn stage(
+        &mut self,
+        rt: &(impl Files<File = File> + AllocGlobal),
+        text: &str,
+        mut input: &[u8],
+    ) -> io::Result<Vec<u8>> {
+        let (words, errors) = Errors::of(text);
+        let mut output: Vec<u8> = Vec::new(rt.alloc());
+        let told = self.call(rt, words, &mut input, &mut output)?;
+        match errors {
+            Errors::Shown => self.told.extend_from_slice(told.as_slice())?,
+            Errors::Joined => output.extend_from_slice(told.as_slice())?,
+            Errors::To(path) => fs::write(rt, path, told.as_slice())?,
+        }
+        Ok(output)
+    }
+
     /// Does stages of which each one gives the next its input, and gives what the last one writes.
     fn pipe(
         &mut self,
@@ -191,31 +225,16 @@ impl Shell {
     ) -> io::Result<Vec<u8>> {
         let mut flow: Vec<u8> = Vec::new(rt.alloc());
         for text in stages.split(" | ") {
-            flow = match Stage::new(text) {
-                Some(stage) => self.stage(rt, stage, flow.as_slice())?,
-                None => return Err(Error::from(ErrorKind::Unsupported)),
+            flow = if text.starts_with("forth83") {
+                self.stage(rt, text, flow.as_slice())?
+            } else {
+                match Tool::new(text) {
+                    Some(tool) => tool.run(rt, flow.as_slice())?,
+                    None => return Err(Error::from(ErrorKind::Unsupported)),
+                }
             };
         }
         Ok(flow)
-    }
-
-    /// What a stage writes that is given this input.
-    fn stage(
-        &mut self,
-        rt: &(impl Files<File = File> + AllocGlobal),
-        stage: Stage<'_>,
-        input: &[u8],
-    ) -> io::Result<Vec<u8>> {
-        match stage {
-            Stage::Echo(text) => Ok(format!(in rt.alloc(); "{text}\n")?.into_bytes()),
-            Stage::Printf(text) => Ok(text.replace(rt.alloc(), "\\n", "\n")?.into_bytes()),
-            Stage::Cat(paths) => joined(rt, paths, input),
-            Stage::Marked => Ok(marked(rt.alloc(), input)?),
-            Stage::Capitals => Ok(input.to_ascii_uppercase(rt.alloc())?),
-            Stage::Head(lines) => Ok(head(rt.alloc(), input, lines)?),
-            Stage::Tail(lines) => Ok(tail(rt.alloc(), input, lines)?),
-            Stage::Program(words) => self.run(rt, words, input),
-        }
     }
 }
 
@@ -233,31 +252,4 @@ fn write_lines(
         }
         None => Err(Error::from(ErrorKind::InvalidInput)),
     }
-}
-
-/// What the files hold, one after another.
-fn joined(
-    rt: &(impl Files<File = File> + AllocGlobal),
-    paths: &str,
-    input: &[u8],
-) -> io::Result<Vec<u8>> {
-    let mut all: Vec<u8> = Vec::new(rt.alloc());
-    for path in paths.split_whitespace() {
-        if path == "-" {
-            all.extend_from_slice(input)?;
-        } else {
-            all.extend_from_slice(fs::read_to_string(rt, path)?.as_bytes())?;
-        }
-    }
-    Ok(all)
-}
-
-/// The lines, each behind a `~`.
-fn marked(alloc: Global, input: &[u8]) -> Result<Vec<u8>, AllocError> {
-    let mut all: Vec<u8> = Vec::new(alloc);
-    for line in input.split_inclusive(|byte| *byte == b'\n') {
-        all.push(b'~')?;
-        all.extend_from_slice(line)?;
-    }
-    Ok(all)
 }

@@ -1,6 +1,6 @@
-//! The words of the command line, and the streams of the program.
+//! The standard streams of the program: outputs that fail, inputs that fail, and how many calls reach them.
 use super::streams::{Failing, Narrow};
-use super::support::{call, check, command, fresh_folder};
+use super::support::{call, check, command, fresh_folder, overwrite};
 use sessions::ByteReader;
 use std::cell::Cell;
 use std::fs::{File, OpenOptions};
@@ -11,109 +11,8 @@ use std::test::Fail;
 use std::{fs, io};
 use terminal::Failure;
 
-#[test]
-fn without_a_command(rt: HostRuntime) {
-    check(&rt, &["forth83"], b"1 2 + .\n", 0, b"3  ok\n", b"");
-    check(&rt, &[], b"1 2 + .", 0, b"3  ok\n", b"");
-    check(&rt, &["forth83"], b"", 0, b"", b"");
-}
-
-/// Words that are no command, and the beginning of what is said of them.
-const REFUSED: &str = "\
-new A : error: the following required arguments were not provided:
-new A --blocks 31 : error: invalid value '31' for '--blocks <N>': 31 is not in 32..=3840
-new A --blocks 3841 : error: invalid value '3841' for '--blocks <N>': 3841 is not in 32..=3840
-new A --blocks : error: a value is required
-new A --blocks 32 --blocks 32 : error: the argument '--blocks <N>' cannot be used multiple times
-new --blocks 32 : error: the following required arguments
-new A --blocks 32 --layout 1 : error: invalid value '1' for '--layout <L>': 1 is not in 2..=3
-new A --blocks 32 --layout 4 : error: invalid value '4' for '--layout <L>': 4 is not in 2..=3
-new A --blocks 32 --layout three : error: invalid value 'three' for '--layout <L>'
-new A --blocks 32 --layout : error: a value is required
-new A --blocks 32 --layout 2 --layout 2 : error: the argument '--layout <L>' cannot be used multiple times
-new A --layout 3 : error: the following required arguments
-upgrade A : error: the following required arguments
-upgrade A B --layout 1 : error: invalid value '1' for '--layout <L>': 1 is not in 2..=3
-upgrade A B --layout 4 : error: invalid value '4' for '--layout <L>': 4 is not in 2..=3
-upgrade A B --layout : error: a value is required
-upgrade A --layout 3 : error: the following required arguments
-copy A : error: the following required arguments
-copy A B --layout 3 : error: unexpected argument '--layout'
-copy A B C : error: unexpected argument 'C'
-copy A B --blocks 31 : error: invalid value '31' for '--blocks <N>': 31 is not in 32..=3840
-copy A B --blocks 3841 : error: invalid value '3841' for '--blocks <N>': 3841 is not in 32..=3840
-copy A B --blocks : error: a value is required
-salvage A : error: the following required arguments
-salvage A B C : error: unexpected argument 'C'
-salvage A B --blocks 31 : error: invalid value '31' for '--blocks <N>': 31 is not in 32..=3840
-salvage A B --blocks 3841 : error: invalid value '3841' for '--blocks <N>': 3841 is not in 32..=3840
-check : error: the following required arguments
-check A B : error: unexpected argument 'B'
-list A : error: the following required arguments
-list A 70000 : error: invalid value '70000' for '<BLOCK>'
-list A -1 : error: unexpected argument '-1'
-list A 0x1 : error: invalid value '0x1'
-list A 1 2 : error: unexpected argument '2'
-export A 1 : error: the following required arguments
-export A 1 65536 : error: invalid value '65536' for '<LAST>'
-export A 1 2 3 : error: unexpected argument '3'
-import A 1 : error: the following required arguments
-import A 65536 F : error: invalid value '65536' for '<FIRST>'
-import A 1 F 2 : error: unexpected argument '2'
-import A 1 F --check=1 : error: unexpected value '1' for '--check'
-put A 1 : error: the following required arguments
-run : error: the following required arguments
-run A --layout 3 : error: unexpected argument '--layout'
-run A --steps 0 : error: invalid value '0'
-run A --steps 1000000001 : error: invalid value '1000000001'
-run A --trace=yes : error: unexpected value 'yes' for '--trace' found; no more were expected
-run A --trace --trace : error: the argument '--trace' cannot be used multiple times
-list A 1 --trace : error: unexpected argument '--trace'
-A : error: unrecognized subcommand 'A'
---steps 5 : error: unexpected argument '--steps'
-NEW A --blocks 32 : error: unrecognized subcommand 'NEW'";
-
-#[test]
-fn words_that_are_refused(rt: HostRuntime) -> Result<(), Fail> {
-    for row in REFUSED.lines() {
-        let (words, text) = row.split_once(" : ").unwrap_or((row, ""));
-        let mut list: Vec<&str> = Vec::new(rt.alloc());
-        list.push("forth83")?;
-        for word in words.split_whitespace() {
-            list.push(word)?;
-        }
-        let left = call(&rt, list.as_slice(), b"1 .\n");
-        assert_eq!(rt; left.status, 2, "{words}");
-        assert!(rt; left.output.is_empty(), "{words}");
-        assert!(rt;
-            left.errors.as_slice().starts_with(text.as_bytes()),
-            "{words}"
-        );
-    }
-    Ok(())
-}
-
-#[test]
-fn help_is_shown(rt: HostRuntime) {
-    let rows: [(&[&str], &str); 4] = [
-        (&["forth83", "--help"], "A Forth-83 system"),
-        (&["forth83", "help"], "A Forth-83 system"),
-        (&["forth83", "new", "--help"], "Make an image"),
-        (&["forth83", "help", "put"], "Make the lines"),
-    ];
-    for (words, start) in rows {
-        let left = call(&rt, words, b"1 .\n");
-        assert_eq!(rt; left.status, 0, "{words:?}");
-        assert!(rt; left.errors.is_empty(), "{words:?}");
-        assert!(rt;
-            left.output.as_slice().starts_with(start.as_bytes()),
-            "{words:?}"
-        );
-    }
-}
-
 /// Calls the program with an output of so much room.
-pub(crate) fn check_narrow(
+fn check_narrow(
     rt: &(impl Files<File = File> + AllocGlobal + Abort),
     words: &[&str],
     room: usize,
@@ -150,6 +49,70 @@ fn outputs_that_fail(rt: HostRuntime) -> Result<(), Fail> {
         fs::remove_file(&rt, "program_outputs/B")?;
     }
     fs::remove_dir_all(&rt, "program_outputs")?;
+    Ok(())
+}
+
+/// Where traces can't be written, the session goes on without them.
+#[test]
+fn traces_that_fail(rt: HostRuntime) -> Result<(), Fail> {
+    fresh_folder(&rt, "program_untold")?;
+    let path = "program_untold/A";
+    call(&rt, &["forth83", "new", path, "--blocks", "32"], b"");
+    for failing in [Failing::Refuses, Failing::TakesNone] {
+        let mut output: Vec<u8> = Vec::new(rt.alloc());
+        let mut errors = Narrow::new(rt.alloc(), 50, failing);
+        let status = command(
+            &rt,
+            &["forth83", "run", path, "--trace"],
+            &mut b"FOO\nBAR\nBAZ\n7 .\n".as_slice(),
+            &mut output,
+            &mut errors,
+        );
+        assert_eq!(rt; status, 0);
+        assert_eq!(rt;
+            output.as_slice(),
+            b" ? UNDEFINED\n ? UNDEFINED\n ? UNDEFINED\n7  ok\n".as_slice()
+        );
+        assert_eq!(rt;
+            errors.written(),
+            b"line 1: UNDEFINED at column 2, after FOO\nline 2: U".as_slice()
+        );
+    }
+    fs::remove_dir_all(&rt, "program_untold")?;
+    Ok(())
+}
+
+/// Lines that save block 5 twice. The first save stands in its other place in the end.
+const SAVES: [&[u8]; 2] = [b"1 5 BLOCK ! UPDATE FLUSH\n", b"2 5 BLOCK ! UPDATE FLUSH\n"];
+
+/// Prints what was saved there.
+const FIFTH: &[u8] = b"5 BLOCK @ .\n";
+
+/// What can't be printed is told, and what was to be salvaged is there.
+#[test]
+fn outputs_of_checks_and_salvages_that_fail(rt: HostRuntime) -> Result<(), Fail> {
+    fresh_folder(&rt, "program_newer_outputs")?;
+    let (old, new) = ("program_newer_outputs/A", "program_newer_outputs/NEW");
+    let words = ["forth83", "new", old, "--blocks", "32", "--layout", "3"];
+    check(&rt, &words, b"", 0, b"", b"");
+    for line in SAVES {
+        check(&rt, &["forth83", "run", old], line, 0, b" ok\n", b"");
+    }
+    let whole = fs::read(&rt, old)?;
+    // The first place of block 5, which counts.
+    let mut damaged = whole.clone()?;
+    overwrite(damaged.as_mut_slice(), 57_344, b"x");
+    for failing in [Failing::Refuses, Failing::TakesNone] {
+        for (bytes, fifth) in [(&whole, b"2  ok\n".as_slice()), (&damaged, b"1  ok\n")] {
+            fs::write(&rt, old, bytes.as_slice())?;
+            check_narrow(&rt, &["forth83", "check", old], 0, failing);
+            check_narrow(&rt, &["forth83", "check", old], 20, failing);
+            check_narrow(&rt, &["forth83", "salvage", old, new], 20, failing);
+            check(&rt, &["forth83", "run", new], FIFTH, 0, fifth, b"");
+            fs::remove_file(&rt, new)?;
+        }
+    }
+    fs::remove_dir_all(&rt, "program_newer_outputs")?;
     Ok(())
 }
 
@@ -261,6 +224,11 @@ fn calls_are_few(rt: HostRuntime) -> Result<(), Fail> {
     );
     fs::remove_dir_all(&rt, "program_calls")?;
     Ok(())
+}
+
+#[test]
+fn without_words(rt: HostRuntime) {
+    check(&rt, &[], b"1 2 + .", 0, b"3  ok\n", b"");
 }
 
 #[test]
