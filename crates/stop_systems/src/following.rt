@@ -1,4 +1,6 @@
 // The texts that a program's arguments name are followed.
+ghost use Rattle.std.specs.Prelude.{◌≡◌, ◌<◌};
+
 use crate::block_calls::BlockCalls;
 use crate::forth_lines::ForthLines;
 use crate::large::are_numbered;
@@ -77,5 +79,13 @@ pub fn follow_all(rt: &HostRuntime) -> Result<ExitCode, Fail> {
             differences = differences.saturating_add(follow(rt, part)?);
         }
     }
-    Ok(ExitCode::from(u8::from(differences > 0)))
+    Ok(ExitCode::from(status(differences)))
+}
+
+/// The status of a run that found so many differences: 1 where there is one, and else 0.
+fn status(differences: usize) -> u8
+    ensures differ { 0 < differences → result ≡ 1 }
+    ensures alike { differences ≡ 0 → result ≡ 0 }
+{
+    u8::from(differences > 0)
 }
