@@ -1,18 +1,24 @@
 -- What `check`, `copy`, `salvage` and `list` do of an image that is only read, by the layout that its size tells.
 use Rattle.std.specs.Prelude.{◌⊎◌, ℕ, if◌then◌else◌, List, Option}
+use Rattle.sector_disk.specs.Disk.{Image}
 use Rattle.sector_disk.specs.declared.device.SectorDevice.{Ghosts}
 use Rattle.recovery.specs.Label.{is_size}
 use Rattle.terminal.specs.Checked.{Checks}
 use Rattle.terminal.specs.Copying.{MakesCopy, MakesSalvage}
 use Rattle.terminal.specs.Done.{DoneOn, ListsBlock}
-use Rattle.terminal.specs.NewerCare.{ChecksNewer, MakesNewerCopy, MakesNewerSalvage, ShowsNewer}
-use Rattle.terminal.specs.Shown.{ShowsBlock}
+use Rattle.terminal.specs.NewerCare.{ChecksNewer, MakesNewerCopy, MakesNewerSalvage, ShowsNewer, newer_block_refusal}
+use Rattle.terminal.specs.Shown.{ShowsBlock, block_refusal}
+use Rattle.terminal.specs.declared.failure.Failure.{Failure}
 use Rattle.terminal.specs.declared.orders.Layout.{Layout}
 use Rattle.terminal.specs.declared.orders.Layout.TheVariants.{Two, Three}
 
 -- The layout of images with so many sectors. What has the size of no image is refused by layout 3, as an opening does.
 abbrev pub layout_by_size : (sectors : ℕ) → Layout
 layout_by_size sectors = if is_size sectors then Two else Three
+
+-- Why a block of an image with so many sectors isn't shown, by the layout that images of this size have.
+abbrev pub shown_refusal : (b sectors : ℕ) (image : Image) → Option Failure
+shown_refusal b sectors image = if is_size sectors then block_refusal b sectors image else newer_block_refusal b sectors image
 
 module _ {D : Type 0} (G : Ghosts D) where
   -- An image of this layout was checked.

@@ -7,6 +7,7 @@ ghost use Rattle.sector_disk.specs.Disk.{MayLeave};
 ghost use Rattle.journal.specs.Calls.{BeginsAtMost, StopsLeave};
 ghost use Rattle.recovery.specs.Label.{is_size};
 ghost use Rattle.recovery.specs.Opened.{image_refusal};
+ghost use Rattle.stores.specs.Opened.{image_refusal as image_refusal_by_size};
 ghost use Rattle.terminal.specs.Care.{ChecksImage};
 ghost use Rattle.terminal.specs.Checked.{Checks, report, save_text};
 ghost use Rattle.terminal.specs.Done.{Comes};
@@ -47,7 +48,18 @@ fn check_by_size<D: SectorDevice, W: Write>(
     device: &mut D,
     output: &mut W,
 ) -> Result<(), Failure>
-    ensures { OnOk result (ChecksImage D.SectorDevice (W.contents output.old) (W.contents output.new) device.old device.new) }
+    ensures checks { OnOk result (ChecksImage D.SectorDevice (W.contents output.old) (W.contents output.new) device.old device.new) }
+    // Each refusal tells the first test that the image fails, by the layout of its size.
+    ensures exact { IsTrue (D.keeps_model device.old) → MatchResult result
+        (λ _. image_refusal_by_size (D.sector_count device.old) (D.disk device.old).content ≡ None)
+        (λ e. (e ≡ Failure.Device) ⊎ (e ≡ Failure.NoMemory) ⊎ (e ≡ Failure.CannotWrite) ⊎ (Some e ≡ option_map of_image
+        (image_refusal_by_size (D.sector_count device.old) (D.disk device.old).content))) }
+    // A fault of the device is told just where one of its calls failed.
+    ensures device { IfErr result (λ e. e ≡ Failure.Device → D.failures device.new ≡ count_up (D.failures device.old)) }
+    ensures refused { IfErr result (λ e. e ≢ Failure.Device → D.failures device.new ≡ D.failures device.old) }
+    ensures well { OnOk result (D.failures device.new ≡ D.failures device.old) }
+    // Where nothing is told of the image, nothing was printed.
+    ensures unprinted { IfErr result (λ e. e ≢ Failure.CannotWrite → e ≢ Failure.Damaged → output.new ≡ output.old) }
 {
     match layout_by_size(device.sectors()) {
         Layout::Two => check_over(alloc, device, output),

@@ -64,6 +64,8 @@ fn copy_by_size<A: SectorDevice, H: HostFile + Drop, O: HostFiles<H>>(
 ) -> Result<SectorFile<H>, Failure>
     ensures made { IfOk result (λ target. CopiesImage A.SectorDevice ⟦<SectorFile<H> as SectorDevice>⟧
         (IsMade H.HostFile (O.makes files.now new.now)) asked source.old source.new target) }
+    // Whatever the answer is, nothing of the old image was written or synced.
+    ensures kept { OnlyRead A.SectorDevice source.old source.new }
     ensures old_well { OnOk result (A.failures source.new ≡ A.failures source.old) }
     ensures new_well { IfOk result (λ target. ⟦<SectorFile<H> as SectorDevice>⟧.failures target ≡ 0) }
 {
@@ -82,6 +84,8 @@ fn copy_into<A: SectorDevice, H: HostFile + Drop, O: HostFiles<H>>(
 ) -> Result<SectorFile<H>, Failure>
     ensures made { IfOk result (λ target. MakesCopy A.SectorDevice ⟦<SectorFile<H> as SectorDevice>⟧
         (IsMade H.HostFile (O.makes files.now new.now)) asked source.old source.new target) }
+    // Whatever the answer is, nothing of the old image was written or synced.
+    ensures kept { OnlyRead A.SectorDevice source.old source.new }
     ensures old_well { OnOk result (A.failures source.new ≡ A.failures source.old) }
     ensures new_well { IfOk result (λ target. ⟦<SectorFile<H> as SectorDevice>⟧.failures target ≡ 0) }
 {
@@ -140,6 +144,8 @@ fn salvage_by_size<A: SectorDevice, H: HostFile + Drop, O: HostFiles<H>, W: Writ
     ensures made { IfOk result (λ target. SalvagesImage A.SectorDevice ⟦<SectorFile<H> as SectorDevice>⟧
         (IsMade H.HostFile (O.makes files.now new.now)) asked (W.contents output.old) (W.contents output.new)
         source.old source.new target) }
+    // Whatever the answer is, nothing of the old image was written or synced.
+    ensures kept { OnlyRead A.SectorDevice source.old source.new }
     ensures old_well { OnOk result (A.failures source.new ≡ A.failures source.old) }
     ensures new_well { IfOk result (λ target. ⟦<SectorFile<H> as SectorDevice>⟧.failures target ≡ 0) }
 {
@@ -160,6 +166,8 @@ fn salvage_into<A: SectorDevice, H: HostFile + Drop, O: HostFiles<H>, W: Write>(
     ensures made { IfOk result (λ target. MakesSalvage A.SectorDevice ⟦<SectorFile<H> as SectorDevice>⟧
         (IsMade H.HostFile (O.makes files.now new.now)) asked (W.contents output.old) (W.contents output.new)
         source.old source.new target) }
+    // Whatever the answer is, nothing of the old image was written or synced.
+    ensures kept { OnlyRead A.SectorDevice source.old source.new }
     ensures old_well { OnOk result (A.failures source.new ≡ A.failures source.old) }
     ensures new_well { IfOk result (λ target. ⟦<SectorFile<H> as SectorDevice>⟧.failures target ≡ 0) }
 {

@@ -28,6 +28,8 @@ pub(super) fn copy_newer_into<A: SectorDevice, H: HostFile + Drop, O: HostFiles<
 ) -> Result<SectorFile<H>, Failure>
     ensures made { IfOk result (λ target. MakesNewerCopy A.SectorDevice ⟦<SectorFile<H> as SectorDevice>⟧
         (IsMade H.HostFile (O.makes files.now new.now)) asked source.old source.new target) }
+    // Whatever the answer is, nothing of the old image was written or synced.
+    ensures kept { OnlyRead A.SectorDevice source.old source.new }
     ensures old_well { OnOk result (A.failures source.new ≡ A.failures source.old) }
     ensures new_well { IfOk result (λ target. ⟦<SectorFile<H> as SectorDevice>⟧.failures target ≡ 0) }
 {

@@ -40,6 +40,8 @@ pub(super) fn salvage_newer_into<A: SectorDevice, H: HostFile + Drop, O: HostFil
     ensures made { IfOk result (λ target. MakesNewerSalvage A.SectorDevice ⟦<SectorFile<H> as SectorDevice>⟧
         (IsMade H.HostFile (O.makes files.now new.now)) asked (W.contents output.old) (W.contents output.new)
         source.old source.new target) }
+    // Whatever the answer is, nothing of the old image was written or synced.
+    ensures kept { OnlyRead A.SectorDevice source.old source.new }
     ensures old_well { OnOk result (A.failures source.new ≡ A.failures source.old) }
     ensures new_well { IfOk result (λ target. ⟦<SectorFile<H> as SectorDevice>⟧.failures target ≡ 0) }
 {

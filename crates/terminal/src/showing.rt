@@ -4,7 +4,7 @@ ghost use Rattle.sector_disk.specs.Counting.{count_up};
 ghost use Rattle.sector_disk.specs.Disk.{MayLeave};
 ghost use Rattle.journal.specs.Calls.{BeginsAtMost, StopsLeave};
 ghost use Rattle.recovery.specs.Label.{blocks_in, is_size};
-ghost use Rattle.terminal.specs.Care.{ListDone, ShowsImage};
+ghost use Rattle.terminal.specs.Care.{ListDone, ShowsImage, shown_refusal};
 ghost use Rattle.terminal.specs.Done.{Comes, DoneOn, ListsBlock};
 ghost use Rattle.terminal.specs.Failures.{of_file};
 ghost use Rattle.terminal.specs.Files.{IsOpened};
@@ -87,8 +87,19 @@ fn show_by_size<D: SectorDevice, W: Write>(
     block: u16,
     output: &mut W,
 ) -> Result<(), Failure>
-    ensures { OnOk result (ShowsImage D.SectorDevice block (W.contents output.old) (W.contents output.new)
+    ensures shows { OnOk result (ShowsImage D.SectorDevice block (W.contents output.old) (W.contents output.new)
         device.old device.new) }
+    // Each refusal tells the first test that fails, by the layout of the image's size.
+    ensures exact { IsTrue (D.keeps_model device.old) → MatchResult result
+        (λ _. shown_refusal block (D.sector_count device.old) (D.disk device.old).content ≡ None)
+        (λ e. (e ≡ Failure.Device) ⊎ (e ≡ Failure.CannotWrite)
+        ⊎ (shown_refusal block (D.sector_count device.old) (D.disk device.old).content ≡ Some e)) }
+    // A fault of the device is told just where one of its calls failed.
+    ensures device { IfErr result (λ e. e ≡ Failure.Device → D.failures device.new ≡ count_up (D.failures device.old)) }
+    ensures refused { IfErr result (λ e. e ≢ Failure.Device → D.failures device.new ≡ D.failures device.old) }
+    ensures well { OnOk result (D.failures device.new ≡ D.failures device.old) }
+    // Where nothing is told of the block, nothing was printed.
+    ensures unprinted { IfErr result (λ e. e ≢ Failure.CannotWrite → output.new ≡ output.old) }
 {
     match layout_by_size(device.sectors()) {
         Layout::Two => show_over(device, block, output),

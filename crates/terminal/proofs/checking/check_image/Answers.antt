@@ -7,6 +7,6 @@ returns-in-Ok g c =
       checked = (
         disk,
         record { file = c.in_ok-disk.ensures.file; sectors = c.in_ok-disk.ensures.sectors },
-        c.in-Ok.ensures,
+        c.in-Ok.ensures.checks,
       );
     }
