@@ -1,11 +1,14 @@
 #!/bin/sh
-# Copies the pages and the screens of their examples into data/: a run of the gate sees that folder, and nothing else of the repository.
+# Copies the pages and the screens of their examples into data/: a run of the gate sees that folder, and nothing else of the repository. And what tests ask
+# for into each crate of tests that uses it: a library may not end a program, so it stands in each.
 # usage: crates/transcripts/copies.sh             copies them
 #        crates/transcripts/copies.sh --check     shows where a copy differs, and ends with status 1 where one does
 set -eu
 cd "$(dirname "$0")/../.."
 data=crates/transcripts/data
 pages='README.md docs/TUTORIAL.md docs/MANUAL.md docs/LANGUAGE.md docs/PORTING.md examples library'
+asked=src/assertions.rt
+asking='program_tests shadow_tests shadow_care_tests'
 copy_to() {
     mkdir -p "$1/docs"
     for page in $pages; do
@@ -21,6 +24,12 @@ if [ "${1:-}" = --check ]; then
     for page in $pages; do
         diff -r "$data/$page" "$fresh/$page" || status=1
     done
+    for crate in $asking; do
+        diff "crates/$crate/$asked" "crates/disk_tests/$asked" || status=1
+    done
     exit "$status"
 fi
 copy_to "$data"
+for crate in $asking; do
+    cp "crates/disk_tests/$asked" "crates/$crate/$asked"
+done

@@ -1,4 +1,5 @@
 // Four buffers in the order of their use.
+use crate::assertions::{Assert, assert_same};
 use block_buffers::{Buffers, NoMemory, Slot};
 use std::process::Abort;
 use std::test::Fail;
@@ -33,7 +34,7 @@ fn the_least_recently_used_buffer_is_reused(rt: HostRuntime) -> Result<(), Fail>
             let (block, slot) = (block.parse::<u16>()?, slot.parse::<Slot>()?);
             let found = used(&rt, &mut buffers, block)?;
             let known = buffers.peek(block);
-            assert_eq!(rt;
+            assert_same!(rt;
                 (found, known),
                 (slot, Some(slot)),
                 "block {block} in {row}"
@@ -53,9 +54,9 @@ fn the_fourth_buffer_is_the_last_free_one(rt: HostRuntime) -> Result<(), Fail> {
     assert!(rt; buffers.mark());
     used(&rt, &mut buffers, 10)?;
     let oldest = buffers.oldest().ok_or("four are assigned")?;
-    assert_eq!(rt; (oldest.block, oldest.slot, oldest.updated), (11, 1, false));
+    assert_same!(rt; (oldest.block, oldest.slot, oldest.updated), (11, 1, false));
     used(&rt, &mut buffers, 15)?;
-    assert_eq!(rt; buffers.peek(11), None);
+    assert_same!(rt; buffers.peek(11), None);
     Ok(())
 }
 
@@ -71,12 +72,12 @@ fn a_save_begins_with_the_most_recently_used(rt: HostRuntime) -> Result<(), Fail
     used(&rt, &mut buffers, 1)?;
     let updated = buffers.updated();
     let want = [(1, 0), (3, 2), (2, 1)];
-    assert_eq!(rt; updated.len(), want.len());
+    assert_same!(rt; updated.len(), want.len());
     for (row, (block, slot)) in updated.iter().zip(want) {
-        assert_eq!(rt; (row.block, row.slot, row.updated), (block, slot, true));
+        assert_same!(rt; (row.block, row.slot, row.updated), (block, slot, true));
     }
     buffers.unmark_all();
-    assert_eq!(rt; (buffers.updated().len(), buffers.peek(3)), (0, Some(2)));
+    assert_same!(rt; (buffers.updated().len(), buffers.peek(3)), (0, Some(2)));
     Ok(())
 }
 
@@ -90,11 +91,11 @@ fn a_mark_ends_with_its_block(rt: HostRuntime) -> Result<(), Fail> {
         used(&rt, &mut buffers, block)?;
     }
     let taken = (buffers.peek(5), buffers.updated().len(), buffers.mark());
-    assert_eq!(rt; taken, (Some(0), 0, true));
+    assert_same!(rt; taken, (Some(0), 0, true));
     buffers.unassign_all();
     let empty = (buffers.mark(), buffers.updated().len());
-    assert_eq!(rt; empty, (false, 0));
+    assert_same!(rt; empty, (false, 0));
     let again = (used(&rt, &mut buffers, 1)?, buffers.updated().len());
-    assert_eq!(rt; again, (0, 0));
+    assert_same!(rt; again, (0, 0));
     Ok(())
 }

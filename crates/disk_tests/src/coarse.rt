@@ -1,4 +1,5 @@
 //! A disk whose sectors lie in larger units: what a write touches, and what a stop leaves of a save there.
+use crate::assertions::{Assert, assert_same};
 use crate::contents::holds;
 use sector_disk::{Coarse, Fate, Fused, MemoryDisk, SectorDevice};
 use std::alloc::{AllocError, Global};
@@ -90,7 +91,7 @@ fn a_save_is_all_or_nothing_where_units_are_sectors(rt: HostRuntime) -> Result<(
         let disk = save_until(formatted(&rt)?, call)?;
         add_line(rt.alloc(), &mut lines, call, &neither(&rt, &disk)?)?;
     }
-    assert_eq!(rt; lines.as_str(), "");
+    assert_same!(rt; lines.as_str(), "");
     Ok(())
 }
 
@@ -113,6 +114,6 @@ fn a_save_may_leave_neither_where_units_are_larger(rt: HostRuntime) -> Result<()
         let disk = save_until(Coarse::new(formatted(&rt)?), call)?.into_device();
         add_line(rt.alloc(), &mut lines, call, &neither(&rt, &disk)?)?;
     }
-    assert_eq!(rt; lines.as_str(), LEFT);
+    assert_same!(rt; lines.as_str(), LEFT);
     Ok(())
 }

@@ -1,4 +1,5 @@
 //! Compares what disks and blocks hold with what is wanted.
+use crate::assertions::{Assert, assert_same};
 use sector_disk::SectorDevice;
 use std::process::Abort;
 use std::test::Fail;
@@ -12,7 +13,7 @@ pub(crate) fn holds<D: SectorDevice>(
     k: u32,
     bytes: &[u8; 512],
 ) -> Result<(), Fail> {
-    assert_eq!(rt; &sector(disk, k)?, bytes, "sector {k}");
+    assert_same!(rt; &sector(disk, k)?, bytes, "sector {k}");
     Ok(())
 }
 
@@ -37,6 +38,6 @@ pub(crate) fn block_is_full<D: SectorDevice>(
     b: u16,
     byte: u8,
 ) -> Result<(), Fail> {
-    assert_eq!(rt; block(store, b)?, [byte; 1024], "block {b}");
+    assert_same!(rt; block(store, b)?, [byte; 1024], "block {b}");
     Ok(())
 }

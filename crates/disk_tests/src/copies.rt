@@ -1,4 +1,5 @@
 // Images are copied and salvaged, stopped at each call of either device.
+use crate::assertions::{Assert, assert_same};
 use crate::images::record;
 use image_care::{copy, salvage};
 use journal::layout;
@@ -103,10 +104,10 @@ fn a_copy_has_the_blocks_of_a_save_that_was_under_way(rt: HostRuntime) -> Result
         let mut new = before(&rt, is_image, blocks)?;
         let (old_before, new_before) = (old.counts(), new.counts());
         make(is_salvage, &mut old, &mut new)?;
-        assert_eq!(rt; since(old.counts(), old_before), [reads, 0, 0]);
-        assert_eq!(rt; since(new.counts(), new_before), [1, writes, syncs]);
-        assert_eq!(rt; sector(&mut new, 0)?, layout::label(blocks));
-        assert_eq!(rt; held(&rt, new)?.as_str(), "1A 2B 5E");
+        assert_same!(rt; since(old.counts(), old_before), [reads, 0, 0]);
+        assert_same!(rt; since(new.counts(), new_before), [1, writes, syncs]);
+        assert_same!(rt; sector(&mut new, 0)?, layout::label(blocks));
+        assert_same!(rt; held(&rt, new)?.as_str(), "1A 2B 5E");
         check(are_same(&mut old, &mut under_way(&rt)?)?, "the old image")?;
     }
     Ok(())
@@ -205,7 +206,7 @@ fn other_images_are_not_copied(rt: HostRuntime) -> Result<(), Fail> {
             UpgradeFault::Old(OpenFault::Damaged),
         ),
     ] {
-        assert_eq!(rt;
+        assert_same!(rt;
             refusal(&rt, false, old, (&label, &listed), new)?,
             Some(fault)
         );
@@ -220,7 +221,7 @@ fn a_salvage_is_refused_by_the_sizes_alone(rt: HostRuntime) -> Result<(), Fail> 
         (131, 135, UpgradeFault::New(OpenFault::BadSize)),
         (135, 131, UpgradeFault::New(OpenFault::BadSize)),
     ] {
-        assert_eq!(rt;
+        assert_same!(rt;
             refusal(&rt, true, old, (&[0; 512], &[0; 512]), new)?,
             Some(fault)
         );
@@ -245,7 +246,7 @@ fn a_damaged_image_is_salvaged(rt: HostRuntime) -> Result<(), Fail> {
         put(&mut old, k, &bytes)?;
         let mut new = before(&rt, true, 32)?;
         salvage(&mut old, &mut new)?;
-        assert_eq!(rt; held(&rt, new)?.as_str(), found, "another sector {k}");
+        assert_same!(rt; held(&rt, new)?.as_str(), found, "another sector {k}");
     }
     Ok(())
 }

@@ -1,3 +1,4 @@
+use crate::assertions::{Assert, assert_same};
 use crate::contents::are_full;
 use sector_disk::{FileDisk, FileFault, SectorDevice};
 use std::fs;
@@ -11,15 +12,15 @@ fn a_file_keeps_what_is_written(rt: HostRuntime) -> Result<(), Fail> {
     let _ = fs::remove_dir_all(&rt, folder);
     fs::create_dir(&rt, folder)?;
     let mut disk = FileDisk::create(&rt, path, 131)?;
-    assert_eq!(rt; disk.sectors(), 131);
+    assert_same!(rt; disk.sectors(), 131);
     are_full(&rt, &mut disk, &[(0, 130, 0)])?;
     put(&mut disk, 0, &[1; 512])?;
     put(&mut disk, 130, &[2; 512])?;
     disk.sync()?;
     drop(disk);
-    assert_eq!(rt; fs::metadata(&rt, path)?.len(), 67_072);
+    assert_same!(rt; fs::metadata(&rt, path)?.len(), 67_072);
     let mut disk = FileDisk::open(&rt, path)?;
-    assert_eq!(rt; disk.sectors(), 131);
+    assert_same!(rt; disk.sectors(), 131);
     let rows = [(0, 0, 1), (1, 1, 0), (129, 129, 0), (130, 130, 2)];
     are_full(&rt, &mut disk, &rows)?;
     fs::remove_dir_all(&rt, folder)?;
@@ -54,19 +55,19 @@ fn files_are_refused(rt: HostRuntime) -> Result<(), Fail> {
     let folder = "sector_disk_refused";
     let path = "sector_disk_refused/image";
     let _ = fs::remove_dir_all(&rt, folder);
-    assert_eq!(rt;
+    assert_same!(rt;
         FileDisk::create(&rt, path, 1).err(),
         Some(FileFault::Cannot)
     );
     fs::create_dir(&rt, folder)?;
-    assert_eq!(rt; FileDisk::open(&rt, path).err(), Some(FileFault::Cannot));
-    assert_eq!(rt; FileDisk::open(&rt, folder).err(), Some(FileFault::Cannot));
+    assert_same!(rt; FileDisk::open(&rt, path).err(), Some(FileFault::Cannot));
+    assert_same!(rt; FileDisk::open(&rt, folder).err(), Some(FileFault::Cannot));
     assert!(rt; FileDisk::create(&rt, path, 1).is_ok());
-    assert_eq!(rt;
+    assert_same!(rt;
         FileDisk::create(&rt, path, 1).err(),
         Some(FileFault::Exists)
     );
-    assert_eq!(rt;
+    assert_same!(rt;
         FileDisk::create(&rt, folder, 1).err(),
         Some(FileFault::Exists)
     );
@@ -95,7 +96,7 @@ fn a_length_of_no_sectors_has_none(rt: HostRuntime) -> Result<(), Fail> {
             .write(true)
             .open(&rt, path)?
             .set_len(len)?;
-        assert_eq!(rt; FileDisk::open(&rt, path)?.sectors(), sectors, "at {len}");
+        assert_same!(rt; FileDisk::open(&rt, path)?.sectors(), sectors, "at {len}");
     }
     fs::remove_dir_all(&rt, folder)?;
     Ok(())
@@ -122,7 +123,7 @@ fn calls_of_a_file_that_was_cut_fail(rt: HostRuntime) -> Result<(), Fail> {
 #[test]
 fn a_sync_that_fails_is_told(rt: HostRuntime) -> Result<(), Fail> {
     let mut disk = FileDisk::open(&rt, "/dev/null")?;
-    assert_eq!(rt; disk.sectors(), 0);
+    assert_same!(rt; disk.sectors(), 0);
     assert!(rt; disk.sync().is_err());
     assert!(rt; disk.sync().is_err());
     Ok(())

@@ -1,3 +1,4 @@
+use crate::assertions::{Assert, assert_same};
 use crate::contents::are_full;
 use sector_disk::{Counts, Fused, MemoryDisk, SectorDevice};
 use std::process::Abort;
@@ -41,10 +42,10 @@ fn compare(
     bytes: [u8; 2],
 ) -> Result<(), Fail> {
     let mut fused = device;
-    assert_eq!(rt; fused.sectors(), 2);
-    assert_eq!(rt; outcomes(&mut fused), want);
+    assert_same!(rt; fused.sectors(), 2);
+    assert_same!(rt; outcomes(&mut fused), want);
     let mut disk = fused.into_device();
-    assert_eq!(rt; disk.counts(), passed_counts(want), "{want:?}");
+    assert_same!(rt; disk.counts(), passed_counts(want), "{want:?}");
     are_full(rt, &mut disk, &[(0, 0, bytes[0]), (1, 1, bytes[1])])
 }
 

@@ -1,4 +1,5 @@
 // The bytes of an image, and which images are refused.
+use crate::assertions::{Assert, assert_same};
 use crate::contents::{are_full, block_is_full, holds};
 use journal::layout;
 use recovery::{OpenFault, format, open};
@@ -110,14 +111,14 @@ fn a_gate_is_opened_with_zeros_after_its_name(rt: HostRuntime) -> Result<(), Fai
     assert!(rt; store.commit().is_err());
     let mut disk = store.into_device().into_device().stop(&[]);
     holds(&rt, &mut disk, 1, &open_gate())?;
-    assert_eq!(rt; sector(&mut disk, 2)?[0], 6);
+    assert_same!(rt; sector(&mut disk, 2)?[0], 6);
     are_full(&rt, &mut disk, &[(69, 69, b' ')])
 }
 
 /// Compares why an image isn't opened.
 fn is_refused(rt: &impl Abort, disk: MemoryDisk, fault: OpenFault) -> Result<(), Fail> {
     let sectors = disk.sectors();
-    assert_eq!(rt; opened(disk).err(), Some(fault), "{sectors} sectors");
+    assert_same!(rt; opened(disk).err(), Some(fault), "{sectors} sectors");
     Ok(())
 }
 
@@ -126,7 +127,7 @@ fn other_images_are_refused(rt: HostRuntime) -> Result<(), Fail> {
     let alloc = rt.alloc();
     for (sectors, blocks) in [(130, 32), (127, 31)] {
         let refused = format(MemoryDisk::new(alloc, sectors)?, blocks).map_err(|e| e.0);
-        assert_eq!(rt;
+        assert_same!(rt;
             refused.err(),
             Some(OpenFault::BadSize),
             "{sectors} sectors"
@@ -169,12 +170,12 @@ fn the_largest_image_is_formatted_and_opened(rt: HostRuntime) -> Result<(), Fail
         return Err("not formatted")?;
     };
     let mut store = opened(store.into_device())?;
-    assert_eq!(rt; store.blocks(), 3_840);
+    assert_same!(rt; store.blocks(), 3_840);
     spill(&mut store, 3_839, 65)?;
     store.commit()?;
     block_is_full(&rt, &mut store, 3_839, 65)?;
     let mut disk = store.into_device();
-    assert_eq!(rt; sector(&mut disk, 2)?[479], 128);
+    assert_same!(rt; sector(&mut disk, 2)?[479], 128);
     are_full(&rt, &mut disk, &[(15_362, 15_362, 65)])
 }
 
@@ -308,7 +309,7 @@ fn a_closed_gate_is_left_as_it_is(rt: HostRuntime) -> Result<(), Fail> {
     let mut disk = store.into_device();
     let after = disk.counts();
     let calls = (after.writes, after.syncs);
-    assert_eq!(rt; calls, (before.writes, before.syncs.saturating_add(1)));
+    assert_same!(rt; calls, (before.writes, before.syncs.saturating_add(1)));
     holds(&rt, &mut disk, 1, &gate)
 }
 
@@ -322,8 +323,8 @@ fn an_opening_begins_with_a_sync(rt: HostRuntime) -> Result<(), Fail> {
     };
     let after = fused.into_device().counts();
     let calls = (after.reads, after.syncs);
-    assert_eq!(rt; fault, OpenFault::Device);
-    assert_eq!(rt; calls, (before.reads, before.syncs.saturating_add(1)));
+    assert_same!(rt; fault, OpenFault::Device);
+    assert_same!(rt; calls, (before.reads, before.syncs.saturating_add(1)));
     Ok(())
 }
 
@@ -344,6 +345,6 @@ fn a_commit_counts_its_calls(rt: HostRuntime) -> Result<(), Fail> {
     let after = store.into_device().counts();
     let writes = after.writes.saturating_sub(before.writes);
     let syncs = after.syncs.saturating_sub(before.syncs);
-    assert_eq!(rt; (writes, syncs), (67, 4));
+    assert_same!(rt; (writes, syncs), (67, 4));
     Ok(())
 }

@@ -1,3 +1,4 @@
+use crate::assertions::{Assert, assert_same};
 use crate::contents::{are_full, holds};
 use sector_disk::{Counts, Fate, MemoryDisk, SectorDevice};
 use std::test::Fail;
@@ -38,8 +39,8 @@ fn left(fate: Fate, lost: u8, kept: u8) -> [u8; 512] {
 #[test]
 fn a_new_disk_is_blank(rt: HostRuntime) -> Result<(), Fail> {
     let mut disk = MemoryDisk::new(rt.alloc(), 131)?;
-    assert_eq!(rt; disk.sectors(), 131);
-    assert_eq!(rt;
+    assert_same!(rt; disk.sectors(), 131);
+    assert_same!(rt;
         disk.counts(),
         Counts {
             reads: 0,
@@ -48,7 +49,7 @@ fn a_new_disk_is_blank(rt: HostRuntime) -> Result<(), Fail> {
         }
     );
     are_full(&rt, &mut disk, &[(0, 130, 0)])?;
-    assert_eq!(rt; MemoryDisk::new(rt.alloc(), 0)?.sectors(), 0);
+    assert_same!(rt; MemoryDisk::new(rt.alloc(), 0)?.sectors(), 0);
     Ok(())
 }
 
@@ -62,7 +63,7 @@ fn calls_are_counted_as_begun(rt: HostRuntime) -> Result<(), Fail> {
         syncs: 1,
     };
     let before = disk.counts();
-    assert_eq!(rt; [before, disk.stop(&[]).counts()], [wanted; 2]);
+    assert_same!(rt; [before, disk.stop(&[]).counts()], [wanted; 2]);
     Ok(())
 }
 

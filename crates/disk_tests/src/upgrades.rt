@@ -1,4 +1,5 @@
 // Images of layout 1, written sector by sector, are upgraded.
+use crate::assertions::{Assert, assert_same};
 use crate::contents::holds;
 use journal::layout;
 use recovery::{OpenFault, UpgradeFault, format, upgrade};
@@ -66,11 +67,11 @@ fn an_old_image_is_upgraded(rt: HostRuntime) -> Result<(), Fail> {
         new_after.writes.saturating_sub(new_before.writes),
         new_after.syncs.saturating_sub(new_before.syncs),
     ];
-    assert_eq!(rt; calls, [5, 3, 67, 3]);
+    assert_same!(rt; calls, [5, 3, 67, 3]);
     holds(&rt, &mut new, 0, &layout::label(BLOCKS))?;
     holds(&rt, &mut old, 0, &layout::label_1(BLOCKS))?;
-    assert_eq!(rt; held(&rt, new)?.as_str(), "1A 2B");
-    assert_eq!(rt; old_held(&rt, old)?.as_str(), "1A 2B");
+    assert_same!(rt; held(&rt, new)?.as_str(), "1A 2B");
+    assert_same!(rt; old_held(&rt, old)?.as_str(), "1A 2B");
     Ok(())
 }
 
@@ -82,9 +83,9 @@ fn the_largest_old_image_is_upgraded(rt: HostRuntime) -> Result<(), Fail> {
     let mut new = MemoryDisk::new(rt.alloc(), 8_195)?;
     upgrade(&mut old, &mut new)?;
     let mut store = opened(new)?;
-    assert_eq!(rt; store.blocks(), 2_048);
+    assert_same!(rt; store.blocks(), 2_048);
     let bytes = block(&mut store, 2_047)?;
-    assert_eq!(rt;
+    assert_same!(rt;
         (bytes[0], bytes[511], bytes[512], bytes[1023]),
         (0, 0, 65, 65)
     );
@@ -132,7 +133,7 @@ fn other_old_images_are_refused(rt: HostRuntime) -> Result<(), Fail> {
             UpgradeFault::Old(OpenFault::WrongCount),
         ),
     ] {
-        assert_eq!(rt; refusal(&rt, old, &label, new)?, Some(fault));
+        assert_same!(rt; refusal(&rt, old, &label, new)?, Some(fault));
     }
     Ok(())
 }

@@ -2,6 +2,7 @@
 use super::stopping::{Disk, FATES, Fate, NAMED, OneDisk};
 use super::support::{call_over, call_over_both, make_over, told_of_making, transcript};
 use super::systems::{BOTH, SAVED, SEVENS};
+use crate::assertions::{Assert, assert_same};
 use std::fs::File;
 use std::process::Abort;
 use std::rt::Files;
@@ -40,7 +41,7 @@ fn saves_that_are_under_way(rt: HostRuntime) -> Result<(), Fail> {
         let new = Disk::new(&rt)?;
         let (looking, files) = (OneDisk::new(&old), OneDisk::new(&new));
         let left = call_over_both(&rt, &files, &looking, &["forth83", name, "A", "A"], b"");
-        assert_eq!(rt;
+        assert_same!(rt;
             (left.status, left.output.as_slice()),
             (0, told.as_bytes()),
             "{name}"
@@ -48,7 +49,7 @@ fn saves_that_are_under_way(rt: HostRuntime) -> Result<(), Fail> {
         assert!(rt; left.errors.is_empty(), "{name}");
         assert!(rt; old.copy(&rt)? == before, "{name}");
         let left = call_over(&rt, &files, &["forth83", "run", "A"], BOTH.as_bytes());
-        assert_eq!(rt; left.output.as_slice(), SEVENS.as_bytes(), "{name}");
+        assert_same!(rt; left.output.as_slice(), SEVENS.as_bytes(), "{name}");
     }
     Ok(())
 }
@@ -101,13 +102,13 @@ fn making_is_stopped(
     let (looking, files) = (OneDisk::beside(old, &new), OneDisk::new(&new));
     new.begin(k);
     let left = call_over_both(rt, &files, &looking, &["forth83", name, "A", "A"], b"");
-    assert_eq!(rt;
+    assert_same!(rt;
         (left.status, left.output.is_empty()),
         (3, true),
         "{name} at {k}"
     );
     let told = told_of_making(k, NAMED).as_bytes();
-    assert_eq!(rt; left.errors.as_slice(), told, "{name} at {k}");
+    assert_same!(rt; left.errors.as_slice(), told, "{name} at {k}");
     new.restart(fate);
     old.restart(fate);
     let left = call_over(rt, &files, &["forth83", "run", "A"], BOTH.as_bytes());

@@ -1,6 +1,7 @@
 //! Sessions over blocks in memory: streams that fail, and when the replies come.
 use super::streams::{Ended, Failing, Fitful, Listener, Narrow, Patient};
 use super::support::run;
+use crate::assertions::{Assert, assert_same};
 use sessions::{RunFault, laws};
 use std::cell::Cell;
 use std::test::Fail;
@@ -37,13 +38,13 @@ fn replied_length(input: &[u8]) -> usize {
 fn readers(rt: HostRuntime) -> Result<(), Fail> {
     let mut written: Vec<u8> = Vec::new(rt.alloc());
     run(&rt, 100, &mut Fitful::new(INPUT, false), &mut written)??;
-    assert_eq!(rt; written.as_slice(), OUTPUT);
+    assert_same!(rt; written.as_slice(), OUTPUT);
     for length in 0..=INPUT.len() {
         let mut reader = Fitful::new(&INPUT[..length], true);
         let mut written: Vec<u8> = Vec::new(rt.alloc());
         let end = run(&rt, 100, &mut reader, &mut written)?;
-        assert_eq!(rt; end, Err(RunFault::Read), "after {length} bytes");
-        assert_eq!(rt; written.len(), replied_length(&INPUT[..length]));
+        assert_same!(rt; end, Err(RunFault::Read), "after {length} bytes");
+        assert_same!(rt; written.len(), replied_length(&INPUT[..length]));
         assert!(rt; OUTPUT.starts_with(written.as_slice()));
     }
     Ok(())
@@ -55,13 +56,13 @@ fn a_writer_that_fails(rt: HostRuntime) -> Result<(), Fail> {
         for room in 0..=OUTPUT.len() {
             let mut writer = Narrow::new(rt.alloc(), room, failing);
             let end = run(&rt, 100, &mut &*INPUT, &mut writer)?;
-            assert_eq!(rt;
+            assert_same!(rt;
                 end.is_ok(),
                 room == OUTPUT.len(),
                 "with room for {room} bytes"
             );
             assert!(rt; end != Err(RunFault::Read));
-            assert_eq!(rt; writer.written(), &OUTPUT[..room]);
+            assert_same!(rt; writer.written(), &OUTPUT[..room]);
         }
     }
     Ok(())
@@ -72,9 +73,9 @@ fn a_writer_that_is_not_flushed(rt: HostRuntime) -> Result<(), Fail> {
     for (flushes, length) in [(0, 6), (1, 21), (2, 25), (3, 25)] {
         let mut writer = Narrow::new(rt.alloc(), 1000, Failing::Flushes(flushes));
         let end = run(&rt, 100, &mut &*INPUT, &mut writer)?;
-        assert_eq!(rt; end.is_ok(), flushes == 3);
+        assert_same!(rt; end.is_ok(), flushes == 3);
         assert!(rt; end != Err(RunFault::Read));
-        assert_eq!(rt; writer.written(), &OUTPUT[..length]);
+        assert_same!(rt; writer.written(), &OUTPUT[..length]);
     }
     Ok(())
 }
@@ -85,8 +86,8 @@ fn replies_come_before_the_next_line(rt: HostRuntime) -> Result<(), Fail> {
     let flushed = Cell::new(0usize);
     let mut reader = Patient::new(&LINES, &flushed);
     let mut writer = Listener::new(&flushed);
-    assert_eq!(rt; run(&rt, 100, &mut reader, &mut writer)?, Ok(()));
-    assert_eq!(rt; flushed.get(), OUTPUT.len());
+    assert_same!(rt; run(&rt, 100, &mut reader, &mut writer)?, Ok(()));
+    assert_same!(rt; flushed.get(), OUTPUT.len());
     Ok(())
 }
 
@@ -96,7 +97,7 @@ fn the_end_is_final(rt: HostRuntime) -> Result<(), Fail> {
     let mut reader = Ended::new(b"7 .\n8 .", b"9 .\n");
     let mut written: Vec<u8> = Vec::new(rt.alloc());
     run(&rt, 100, &mut reader, &mut written)??;
-    assert_eq!(rt; written.as_slice(), b"7  ok\n8  ok\n".as_slice());
+    assert_same!(rt; written.as_slice(), b"7  ok\n8  ok\n".as_slice());
     Ok(())
 }
 

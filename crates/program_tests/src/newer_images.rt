@@ -1,6 +1,7 @@
 //! What makes images of layout 3, where it is stopped or a call fails.
 use super::stopping::{Making, making_is_stopped_now_and_then};
 use super::upgrades::{Upgrade, new_image_fails, old_image_fails};
+use crate::assertions::{Assert, assert_same};
 use std::test::Fail;
 
 /// The bytes of an image of 32 blocks.
@@ -28,7 +29,7 @@ const UPGRADE: Upgrade = Upgrade {
 fn makings_of_layout_3_that_are_stopped(rt: HostRuntime) -> Result<(), Fail> {
     let calls = making_is_stopped_now_and_then(&rt, MAKING)?;
     // After the file is made: a sync and a read of the label, four sectors of each block, gate and records, a sync, the label and a sync.
-    assert_eq!(rt; calls, 7 + 2 + 4 * 32 + 3 + 1 + 2);
+    assert_same!(rt; calls, 7 + 2 + 4 * 32 + 3 + 1 + 2);
     Ok(())
 }
 

@@ -5,6 +5,7 @@ use super::support::{
     DEVICE_FAULT, Left, call_over, call_over_both, check, overwrite, run_over_files, told_of_making,
 };
 use super::systems::{BOTH, SAVED, SEVENS};
+use crate::assertions::{Assert, assert_same};
 use sector_disk::{FileFault, HostFault, HostFiles};
 use sha2::{Digest, Sha256};
 use std::alloc::Global;
@@ -55,7 +56,7 @@ fn with_sevens(rt: &(impl Files<File = File> + AllocGlobal + Abort)) -> Result<D
     let files = OneDisk::new(&disk);
     let words = ["forth83", "new", "A", "--blocks", "32", "--layout", "3"];
     let left = call_over(rt, &files, &words, b"");
-    assert_eq!(rt; (left.status, left.errors.as_slice()), (0, b"".as_slice()));
+    assert_same!(rt; (left.status, left.errors.as_slice()), (0, b"".as_slice()));
     run_over_files(rt, &files, SAVED)?;
     disk.begin(u64::MAX);
     Ok(disk)
@@ -75,7 +76,7 @@ fn saves_that_were_stopped_are_checked(rt: HostRuntime) -> Result<(), Fail> {
     let known = [before.as_str(), after.as_str()];
     let _ = call_over(&rt, &OneDisk::new(&disk), &["forth83", "run", "A"], EIGHTS);
     // An opening makes a sync and 99 reads; four sectors are read and four written, and a save makes 6 reads, 4 writes and 2 syncs.
-    assert_eq!(rt; disk.calls(), 100 + 8 + 12);
+    assert_same!(rt; disk.calls(), 100 + 8 + 12);
     for (k, fate) in (104..120).zip(FATES.iter().cycle()) {
         save_is_stopped(&rt, &disk, made.as_slice(), k, *fate, known)?;
     }
@@ -100,7 +101,7 @@ fn save_is_stopped(
     let _ = call_over(rt, &files, &["forth83", "run", "A"], EIGHTS);
     disk.restart(fate);
     let left = call_over(rt, &files, &["forth83", "check", "A"], b"");
-    assert_eq!(rt; left.status, 0, "{fate:?} at {k}");
+    assert_same!(rt; left.status, 0, "{fate:?} at {k}");
     let told = str::from_utf8(left.output.as_slice()).unwrap_or("?");
     assert!(rt; known.contains(&told), "{fate:?} at {k}");
     if k % 5 == 4 {
@@ -119,9 +120,9 @@ fn check_copies(
         let new = Disk::of_length(rt, LENGTH)?;
         let (looking, files) = (OneDisk::new(old), OneDisk::new(&new));
         let left = call_over_both(rt, &files, &looking, &["forth83", name, "A", "A"], b"");
-        assert_eq!(rt; left.status, 0, "{name}");
+        assert_same!(rt; left.status, 0, "{name}");
         let left = call_over(rt, &files, &["forth83", "check", "A"], b"");
-        assert_eq!(rt; left.output.as_slice(), told, "{name}");
+        assert_same!(rt; left.output.as_slice(), told, "{name}");
     }
     Ok(())
 }
@@ -135,8 +136,8 @@ fn checks_whose_reads_fail(rt: HostRuntime) -> Result<(), Fail> {
     let words = ["forth83", "check", "A"];
     let left = call_over(&rt, &files, &words, b"");
     let wanted = report(rt.alloc(), 32, BOTH_SEVENS)?;
-    assert_eq!(rt; left.output.as_slice(), wanted.as_bytes());
-    assert_eq!(rt; disk.calls(), 163);
+    assert_same!(rt; left.output.as_slice(), wanted.as_bytes());
+    assert_same!(rt; disk.calls(), 163);
     for k in (0..163).step_by(6) {
         disk.begin(k);
         let left = call_over(&rt, &files, &words, b"");
@@ -162,7 +163,7 @@ fn checks_of_damage_whose_reads_fail(rt: HostRuntime) -> Result<(), Fail> {
     let left = call_over(&rt, &files, &words, b"");
     let told =
         b"block 1: damaged, whole in its other place\nblock 2: damaged, whole in its other place\n".as_slice();
-    assert_eq!(rt; (left.status, left.output.as_slice()), (3, told));
+    assert_same!(rt; (left.status, left.output.as_slice()), (3, told));
     let calls = disk.calls();
     for k in (0..calls).step_by(7) {
         disk.begin(k);
@@ -176,7 +177,7 @@ fn checks_of_damage_whose_reads_fail(rt: HostRuntime) -> Result<(), Fail> {
 
 /// A call of the device failed, and that was told.
 fn check_fault(rt: &impl Abort, left: &Left, k: u64) {
-    assert_eq!(rt;
+    assert_same!(rt;
         (left.status, left.errors.as_slice()),
         (3, DEVICE_FAULT.as_bytes()),
         "at {k}"
@@ -209,10 +210,10 @@ fn makings_are_stopped(
     let (looking, files) = (OneDisk::beside(&old, &new), OneDisk::new(&new));
     let left = call_over_both(rt, &files, &looking, &["forth83", name, "A", "A"], b"");
     let calls = new.calls();
-    assert_eq!(rt; left.status, 0, "{name}");
+    assert_same!(rt; left.status, 0, "{name}");
     // The file is made first; then come a sync and a read of the label, four sectors of each block, gate and records, a sync, the label and a sync.
     let made = NAMED + 1;
-    assert_eq!(rt;
+    assert_same!(rt;
         calls,
         made + reads as u64 + 2 + 4 * 32 + 3 + 1 + 2,
         "{name}"
@@ -240,13 +241,13 @@ fn making_is_stopped(
     let (looking, files) = (OneDisk::beside(old, &new), OneDisk::new(&new));
     new.begin(k);
     let left = call_over_both(rt, &files, &looking, &["forth83", name, "A", "A"], b"");
-    assert_eq!(rt;
+    assert_same!(rt;
         (left.status, left.output.is_empty()),
         (3, true),
         "{name} at {k}"
     );
     let told = told_of_making(k, NAMED).as_bytes();
-    assert_eq!(rt; left.errors.as_slice(), told, "{name} at {k}");
+    assert_same!(rt; left.errors.as_slice(), told, "{name} at {k}");
     new.restart(fate);
     let left = call_over(rt, &files, &["forth83", "run", "A"], BOTH.as_bytes());
     let is_none = left.status == 3
@@ -298,14 +299,14 @@ fn listings_by_reads_alone(rt: HostRuntime) -> Result<(), Fail> {
         disk.begin(u64::MAX);
         let left = list_unwritable(&rt, &disk, block);
         // Label, gate, record, each block with its tag, and the block once more.
-        assert_eq!(rt; (left.status, disk.calls()), (0, 101), "{block}");
+        assert_same!(rt; (left.status, disk.calls()), (0, 101), "{block}");
         assert!(rt; left.errors.is_empty(), "{block}");
         assert!(rt; disk.copy(&rt)? == before);
         let files = OneDisk::new(&disk);
         let opened = call_over(&rt, &files, &["forth83", "list", "A", block], b"");
-        assert_eq!(rt; left.output.as_slice(), opened.output.as_slice(), "{block}");
+        assert_same!(rt; left.output.as_slice(), opened.output.as_slice(), "{block}");
         let is_seven = left.output.as_slice().starts_with(b".. ");
-        assert_eq!(rt; is_seven, block == "1" || block == "2");
+        assert_same!(rt; is_seven, block == "1" || block == "2");
     }
     assert!(rt; disk.copy(&rt)? == before);
     Ok(())
@@ -344,7 +345,7 @@ fn listings_by_reads_alone_that_are_refused(rt: HostRuntime) -> Result<(), Fail>
     let _ = OneDisk::new(&cut).make("A");
     cut.set(whole.as_slice());
     check_unlisted(&rt, &cut, "1", "bad size")?;
-    assert_eq!(rt; cut.calls(), 0);
+    assert_same!(rt; cut.calls(), 0);
     Ok(())
 }
 
@@ -357,7 +358,7 @@ fn check_unlisted(
 ) -> Result<(), Fail> {
     let left = list_unwritable(rt, disk, block);
     let wanted = format!(in rt.alloc(); "forth83: image: {text}\n")?;
-    assert_eq!(rt; (left.status, left.output.is_empty()), (3, true), "{text}");
-    assert_eq!(rt; left.errors.as_slice(), wanted.as_bytes(), "{text}");
+    assert_same!(rt; (left.status, left.output.is_empty()), (3, true), "{text}");
+    assert_same!(rt; left.errors.as_slice(), wanted.as_bytes(), "{text}");
     Ok(())
 }

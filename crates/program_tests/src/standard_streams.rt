@@ -1,6 +1,7 @@
 //! The standard streams of the program: outputs that fail, inputs that fail, and how many calls reach them.
 use super::streams::{Failing, Narrow};
 use super::support::{call, check, command, fresh_folder, overwrite};
+use crate::assertions::{Assert, assert_same};
 use sessions::ByteReader;
 use std::cell::Cell;
 use std::fs::{File, OpenOptions};
@@ -27,10 +28,10 @@ fn check_narrow(
         &mut output,
         &mut errors,
     );
-    assert_eq!(rt; status, 4, "{words:?}");
+    assert_same!(rt; status, 4, "{words:?}");
     let text = b"forth83: output: cannot write\n".as_slice();
-    assert_eq!(rt; errors.as_slice(), text, "{words:?}");
-    assert_eq!(rt; output.written().len(), room, "{words:?}");
+    assert_same!(rt; errors.as_slice(), text, "{words:?}");
+    assert_same!(rt; output.written().len(), room, "{words:?}");
 }
 
 #[test]
@@ -68,12 +69,12 @@ fn traces_that_fail(rt: HostRuntime) -> Result<(), Fail> {
             &mut output,
             &mut errors,
         );
-        assert_eq!(rt; status, 0);
-        assert_eq!(rt;
+        assert_same!(rt; status, 0);
+        assert_same!(rt;
             output.as_slice(),
             b" ? UNDEFINED\n ? UNDEFINED\n ? UNDEFINED\n7  ok\n".as_slice()
         );
-        assert_eq!(rt;
+        assert_same!(rt;
             errors.written(),
             b"line 1: UNDEFINED at column 2, after FOO\nline 2: U".as_slice()
         );
@@ -129,8 +130,8 @@ fn a_full_device(rt: HostRuntime) -> Result<(), Fail> {
         &mut output,
         &mut errors,
     );
-    assert_eq!(rt; status, 4);
-    assert_eq!(rt;
+    assert_same!(rt; status, 4);
+    assert_same!(rt;
         errors.as_slice(),
         b"forth83: output: cannot write\n".as_slice()
     );
@@ -144,8 +145,8 @@ fn an_input_that_fails(rt: HostRuntime) -> Result<(), Fail> {
     let mut output: Vec<u8> = Vec::new(rt.alloc());
     let mut errors: Vec<u8> = Vec::new(rt.alloc());
     let status = command(&rt, &["forth83"], &mut input, &mut output, &mut errors);
-    assert_eq!(rt; status, 4);
-    assert_eq!(rt;
+    assert_same!(rt; status, 4);
+    assert_same!(rt;
         errors.as_slice(),
         b"forth83: input: cannot read\n".as_slice()
     );
@@ -212,13 +213,13 @@ fn calls_are_few(rt: HostRuntime) -> Result<(), Fail> {
     let path = "program_calls/A";
     call(&rt, &["forth83", "new", path, "--blocks", "32"], b"");
     let lines = b"1 2 + . 65 EMIT CR .\n1 . 2 . 3 .\n\n".as_slice();
-    assert_eq!(rt; calls_of(&rt, &["forth83"], lines)?, (2, 3));
-    assert_eq!(rt; calls_of(&rt, &["forth83", "run", path], lines)?, (2, 3));
-    assert_eq!(rt;
+    assert_same!(rt; calls_of(&rt, &["forth83"], lines)?, (2, 3));
+    assert_same!(rt; calls_of(&rt, &["forth83", "run", path], lines)?, (2, 3));
+    assert_same!(rt;
         calls_of(&rt, &["forth83", "list", path, "0"], lines)?,
         (0, 1)
     );
-    assert_eq!(rt;
+    assert_same!(rt;
         calls_of(&rt, &["forth83", "export", path, "0", "31"], lines)?,
         (0, 1)
     );
@@ -251,7 +252,7 @@ fn texts_and_statuses(rt: HostRuntime) -> Result<(), Fail> {
     ];
     for (failure, text) in rows {
         let shown = format!(in rt.alloc(); "{failure} {}", failure.status())?;
-        assert_eq!(rt; shown.as_str(), text);
+        assert_same!(rt; shown.as_str(), text);
     }
     Ok(())
 }

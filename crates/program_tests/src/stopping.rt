@@ -1,6 +1,7 @@
 //! The program over an image on a disk that loses its power at each call: what wasn't synced is lost or kept, sector by sector.
 use super::support::{call_over, make_over, told_of_making, transcript};
 use super::systems::{BLANK, BOTH, SAVED, SEVENS, SEVENS_FILE};
+use crate::assertions::{Assert, assert_same};
 use sector_disk::{FileFault, HostFault, HostFile, HostFiles};
 use std::cell::{Cell, RefCell};
 use std::fs;
@@ -394,7 +395,7 @@ const MAKING: Making = Making {
 #[test]
 fn makings_that_are_stopped(rt: HostRuntime) -> Result<(), Fail> {
     let calls = making_is_stopped_now_and_then(&rt, MAKING)?;
-    assert_eq!(rt; calls, 4 + 71);
+    assert_same!(rt; calls, 4 + 71);
     Ok(())
 }
 
@@ -405,7 +406,7 @@ pub(crate) fn making_is_stopped_now_and_then(
 ) -> Result<u64, Fail> {
     let disk = Disk::of_length(rt, making.length)?;
     let left = call_over(rt, &OneDisk::new(&disk), making.words, b"");
-    assert_eq!(rt; (left.status, left.errors.as_slice()), (0, b"".as_slice()));
+    assert_same!(rt; (left.status, left.errors.as_slice()), (0, b"".as_slice()));
     let calls = disk.made.get();
     for k in (0..calls).rev().step_by(16) {
         for fate in FATES {
@@ -428,8 +429,8 @@ fn making_is_stopped(
     let files = OneDisk::new(&disk);
     disk.begin(k);
     let left = call_over(rt, &files, making.words, b"");
-    assert_eq!(rt; left.status, 3, "at {k}");
-    assert_eq!(rt;
+    assert_same!(rt; left.status, 3, "at {k}");
+    assert_same!(rt;
         left.errors.as_slice(),
         told_of_making(k, making.named).as_bytes(),
         "at {k}"

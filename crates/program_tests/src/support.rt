@@ -1,6 +1,7 @@
 //! Calls of the program, and what they leave.
 ghost use Rattle.std.specs.Prelude.{◌<◌};
 
+use crate::assertions::{Assert, assert_same};
 use interpreter::{Forth, Memory};
 use recovery::format;
 use sector_disk::{FileDisk, HostFile, HostFiles, MemoryDisk, SectorFile};
@@ -73,9 +74,9 @@ pub(crate) fn check(
     errors: &[u8],
 ) {
     let left = call(rt, words, input);
-    assert_eq!(rt; left.errors.as_slice(), errors, "{words:?}");
-    assert_eq!(rt; left.status, status, "{words:?}");
-    assert_eq!(rt; left.output.as_slice(), output, "{words:?}");
+    assert_same!(rt; left.errors.as_slice(), errors, "{words:?}");
+    assert_same!(rt; left.status, status, "{words:?}");
+    assert_same!(rt; left.output.as_slice(), output, "{words:?}");
 }
 
 /// Calls the program over a system of files, and gives its status with what it printed and told.
@@ -137,7 +138,7 @@ pub(crate) fn make_over<H: HostFile + Drop, O: HostFiles<H>>(
     files: &O,
 ) {
     let left = call_over(rt, files, &["forth83", "new", "A", "--blocks", "32"], b"");
-    assert_eq!(rt; (left.status, left.errors.as_slice()), (0, b"".as_slice()));
+    assert_same!(rt; (left.status, left.errors.as_slice()), (0, b"".as_slice()));
 }
 
 /// Runs a transcript over the image.
@@ -148,12 +149,12 @@ pub(crate) fn run_over_files<H: HostFile + Drop, O: HostFiles<H>>(
 ) -> Result<(), Fail> {
     let (input, wanted) = transcript(rt, text)?;
     let left = call_over(rt, files, &["forth83", "run", "A"], input.as_slice());
-    assert_eq!(rt;
+    assert_same!(rt;
         (left.status, left.errors.as_slice()),
         (0, b"".as_slice()),
         "{text}"
     );
-    assert_eq!(rt; left.output.as_slice(), wanted.as_slice(), "{text}");
+    assert_same!(rt; left.output.as_slice(), wanted.as_slice(), "{text}");
     Ok(())
 }
 

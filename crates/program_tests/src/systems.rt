@@ -3,6 +3,7 @@ use super::support::{
     DEVICE_FAULT, Left, call_over, call_over_both, make_over, run_over_files, told_of_making,
     transcript,
 };
+use crate::assertions::{Assert, assert_same};
 use sector_disk::{FileFault, HostFault, HostFile, HostFiles, MemoryFile, Script};
 use std::cell::{Cell, RefCell};
 use std::fs;
@@ -256,18 +257,18 @@ fn sessions_whose_calls_fail(rt: HostRuntime) -> Result<(), Fail> {
         calls.begin(k);
         let (input, _) = transcript(&rt, SAVED)?;
         let left = call_over(&rt, &files, &["forth83", "run", "A"], input.as_slice());
-        assert_eq!(rt; calls.openings.get(), 1, "at {k}");
+        assert_same!(rt; calls.openings.get(), 1, "at {k}");
         let (status, told) = if k < OPENING {
             (3, DEVICE_FAULT)
         } else {
             (0, "")
         };
-        assert_eq!(rt;
+        assert_same!(rt;
             (left.status, left.output.is_empty()),
             (status, k < OPENING),
             "at {k}"
         );
-        assert_eq!(rt; left.errors.as_slice(), told.as_bytes(), "at {k}");
+        assert_same!(rt; left.errors.as_slice(), told.as_bytes(), "at {k}");
         calls.begin(u64::MAX);
         let left = call_over(&rt, &files, &["forth83", "run", "A"], BOTH.as_bytes());
         let is_so = left.output.as_slice() == BLANK.as_bytes()
@@ -284,7 +285,7 @@ fn imports_whose_calls_fail(rt: HostRuntime) -> Result<(), Fail> {
     fs::write(&rt, "program_import", SEVENS_FILE)?;
     let words = ["forth83", "import", "A", "1", "program_import", "--check"].as_slice();
     let (import, _) = words.split_at(5);
-    assert_eq!(rt; saving_fails(&rt, words, SEVENS, u64::MAX)?, 0);
+    assert_same!(rt; saving_fails(&rt, words, SEVENS, u64::MAX)?, 0);
     each_call_of_a_save_fails(&rt, import, SEVENS)?;
     fs::remove_file(&rt, "program_import")?;
     Ok(())
@@ -332,15 +333,15 @@ fn saving_fails(
     make_over(rt, &files);
     calls.begin(fails_at);
     let left = call_over(rt, &files, words, b"");
-    assert_eq!(rt;
+    assert_same!(rt;
         (left.output.len(), calls.openings.get()),
         (0, 1),
         "at {fails_at}"
     );
     if fails_at == u64::MAX {
-        assert_eq!(rt; left.status, 0);
+        assert_same!(rt; left.status, 0);
     } else {
-        assert_eq!(rt;
+        assert_same!(rt;
             (left.status, left.errors.as_slice()),
             (3, DEVICE_FAULT.as_bytes()),
             "at {fails_at}"
@@ -390,14 +391,14 @@ fn making_fails(
     calls.begin(k);
     let words = ["forth83", "new", "A", "--blocks", "32"].as_slice();
     let left = call_over(rt, &files, words, b"");
-    assert_eq!(rt; (left.status, left.output.is_empty()), (3, true), "at {k}");
-    assert_eq!(rt;
+    assert_same!(rt; (left.status, left.output.is_empty()), (3, true), "at {k}");
+    assert_same!(rt;
         left.errors.as_slice(),
         told_of_making(k, named).as_bytes(),
         "at {k}"
     );
     let left = call_over(rt, &files, words, b"");
-    assert_eq!(rt;
+    assert_same!(rt;
         (left.status, left.errors.as_slice()),
         (3, b"forth83: image: exists\n".as_slice()),
         "at {k}"
@@ -422,7 +423,7 @@ fn what_is_put_aside_is_given_up(rt: HostRuntime) -> Result<(), Fail> {
     calls.begin(u64::MAX);
     run_over_files(&rt, &files, "> 1 BLOCK @ . 2 BLOCK @ .\n7 7  ok\n")?;
     let left = call_over(&rt, &files, &["forth83", "list", "A", "1"], b"");
-    assert_eq!(rt; (left.status, calls.writes.get()), (0, 0));
+    assert_same!(rt; (left.status, calls.writes.get()), (0, 0));
     run_over_files(&rt, &files, "> 1 BLOCK @ . 2 BLOCK @ .\n7 7  ok\n")
 }
 
@@ -457,23 +458,23 @@ fn checks_whose_calls_fail(rt: HostRuntime) -> Result<(), Fail> {
     };
     make_over(&rt, &files);
     let left = call_over(&rt, &files, CHECK.as_slice(), b"");
-    assert_eq!(rt; left.status, 0);
-    assert_eq!(rt; left.output.as_slice(), CHECKED_BLANK.as_bytes());
+    assert_same!(rt; left.status, 0);
+    assert_same!(rt; left.output.as_slice(), CHECKED_BLANK.as_bytes());
     run_over_files(&rt, &files, SAVED)?;
     calls.begin(u64::MAX);
     let left = call_over(&rt, &files, CHECK.as_slice(), b"");
-    assert_eq!(rt; left.status, 0);
-    assert_eq!(rt; left.output.as_slice(), CHECKED_SEVENS.as_bytes());
-    assert_eq!(rt;
+    assert_same!(rt; left.status, 0);
+    assert_same!(rt; left.output.as_slice(), CHECKED_SEVENS.as_bytes());
+    assert_same!(rt;
         (calls.openings.get(), calls.writes.get(), calls.made.get()),
         (1, 0, 66)
     );
     for k in 0..66 {
         calls.begin(k);
         let left = call_over(&rt, &files, CHECK.as_slice(), b"");
-        assert_eq!(rt; (left.status, left.output.is_empty()), (3, true), "at {k}");
-        assert_eq!(rt; left.errors.as_slice(), DEVICE_FAULT.as_bytes(), "at {k}");
-        assert_eq!(rt; calls.writes.get(), 0, "at {k}");
+        assert_same!(rt; (left.status, left.output.is_empty()), (3, true), "at {k}");
+        assert_same!(rt; left.errors.as_slice(), DEVICE_FAULT.as_bytes(), "at {k}");
+        assert_same!(rt; calls.writes.get(), 0, "at {k}");
     }
     Ok(())
 }
@@ -487,13 +488,13 @@ fn check_each_call(
 ) -> Result<(), Fail> {
     files.calls.begin(u64::MAX);
     let left = call_over(rt, files, words, b"");
-    assert_eq!(rt; (left.status, files.calls.made.get()), (0, count));
+    assert_same!(rt; (left.status, files.calls.made.get()), (0, count));
     for k in 0..count {
         files.calls.begin(k);
         let left = call_over(rt, files, words, b"");
-        assert_eq!(rt; (left.status, left.output.is_empty()), (3, true), "at {k}");
-        assert_eq!(rt; left.errors.as_slice(), DEVICE_FAULT.as_bytes(), "at {k}");
-        assert_eq!(rt; files.calls.writes.get(), 0, "at {k}");
+        assert_same!(rt; (left.status, left.output.is_empty()), (3, true), "at {k}");
+        assert_same!(rt; left.errors.as_slice(), DEVICE_FAULT.as_bytes(), "at {k}");
+        assert_same!(rt; files.calls.writes.get(), 0, "at {k}");
     }
     Ok(())
 }
@@ -532,7 +533,7 @@ fn checks_before_a_recovery(rt: HostRuntime) -> Result<(), Fail> {
         let _ = call_over(&rt, &files, &["forth83", "run", "A"], input.as_slice());
         calls.begin(u64::MAX);
         let before = call_over(&rt, &files, CHECK.as_slice(), b"");
-        assert_eq!(rt; (before.status, calls.writes.get()), (0, 0), "at {k}");
+        assert_same!(rt; (before.status, calls.writes.get()), (0, 0), "at {k}");
         let _ = call_over(&rt, &files, &["forth83", "run", "A"], b"");
         let after = call_over(&rt, &files, CHECK.as_slice(), b"");
         let before = str::from_utf8(before.output.as_slice()).unwrap_or("?");
@@ -541,7 +542,7 @@ fn checks_before_a_recovery(rt: HostRuntime) -> Result<(), Fail> {
             under_way = under_way.saturating_add(1);
         }
         assert!(rt; after.contains(": none\n"), "at {k}");
-        assert_eq!(rt; digest_in(before), digest_in(after), "at {k}");
+        assert_same!(rt; digest_in(before), digest_in(after), "at {k}");
     }
     assert!(rt; under_way > 4, "{under_way}");
     Ok(())
@@ -615,9 +616,9 @@ fn check_unlisted(
 ) -> Result<(), Fail> {
     let left = list_unwritable(rt, files, block);
     let wanted = format!(in rt.alloc(); "forth83: image: {text}\n")?;
-    assert_eq!(rt; (left.status, left.output.is_empty()), (3, true), "{text}");
-    assert_eq!(rt; left.errors.as_slice(), wanted.as_bytes(), "{text}");
-    assert_eq!(rt; files.calls.writes.get(), 0, "{text}");
+    assert_same!(rt; (left.status, left.output.is_empty()), (3, true), "{text}");
+    assert_same!(rt; left.errors.as_slice(), wanted.as_bytes(), "{text}");
+    assert_same!(rt; files.calls.writes.get(), 0, "{text}");
     Ok(())
 }
 
@@ -640,14 +641,14 @@ fn listings_before_a_recovery(rt: HostRuntime) -> Result<(), Fail> {
         let _ = call_over(&rt, &files, &["forth83", "run", "A"], input.as_slice());
         calls.begin(u64::MAX);
         let before = list_unwritable(&rt, &files, "2");
-        assert_eq!(rt; (before.status, calls.openings.get()), (0, 1), "at {k}");
+        assert_same!(rt; (before.status, calls.openings.get()), (0, 1), "at {k}");
         // The gate, the record and the two slots that it lists are read besides the label and the block.
         let made = calls.made.get();
         assert!(rt; made == 4 || made == 9, "at {k}");
         let told = call_over(&rt, &files, CHECK.as_slice(), b"");
-        assert_eq!(rt; calls.writes.get(), 0, "at {k}");
+        assert_same!(rt; calls.writes.get(), 0, "at {k}");
         let told = str::from_utf8(told.output.as_slice()).unwrap_or("?");
-        assert_eq!(rt;
+        assert_same!(rt;
             told.contains(": 2 blocks, digest true\n"),
             made == 9,
             "at {k}"
@@ -657,8 +658,8 @@ fn listings_before_a_recovery(rt: HostRuntime) -> Result<(), Fail> {
             assert!(rt; before.output.as_slice().starts_with(b".. "), "at {k}");
         }
         let after = call_over(&rt, &files, &["forth83", "list", "A", "2"], b"");
-        assert_eq!(rt; after.status, 0, "at {k}");
-        assert_eq!(rt; before.output.as_slice(), after.output.as_slice(), "at {k}");
+        assert_same!(rt; after.status, 0, "at {k}");
+        assert_same!(rt; before.output.as_slice(), after.output.as_slice(), "at {k}");
     }
     assert!(rt; under_way > 4, "{under_way}");
     Ok(())
@@ -690,11 +691,11 @@ fn listings_that_are_refused(rt: HostRuntime) -> Result<(), Fail> {
         fault: FileFault::InUse,
     };
     let left = call_over_both(&rt, &in_use, &files, &["forth83", "list", "A", "1"], b"");
-    assert_eq!(rt;
+    assert_same!(rt;
         left.errors.as_slice(),
         b"forth83: image: in use\n".as_slice()
     );
-    assert_eq!(rt; (left.status, calls.openings.get()), (3, 0));
+    assert_same!(rt; (left.status, calls.openings.get()), (3, 0));
     // In use where it is opened for reading.
     let left = call_over_both(
         &rt,
@@ -703,7 +704,7 @@ fn listings_that_are_refused(rt: HostRuntime) -> Result<(), Fail> {
         &["forth83", "list", "A", "1"],
         b"",
     );
-    assert_eq!(rt;
+    assert_same!(rt;
         left.errors.as_slice(),
         b"forth83: image: in use\n".as_slice()
     );
@@ -722,7 +723,7 @@ fn listings_that_are_refused(rt: HostRuntime) -> Result<(), Fail> {
 fn overwrite_file(rt: &impl Abort, files: &OneFile, at: u64, bytes: &[u8]) -> Result<(), Fail> {
     match files.file.try_borrow_mut() {
         Ok(mut file) => match file.write_at(at, bytes) {
-            Ok(n) => assert_eq!(rt; n, bytes.len()),
+            Ok(n) => assert_same!(rt; n, bytes.len()),
             Err(_) => return Err(Fail::from("it can't be written")),
         },
         Err(_) => return Err(Fail::from("it is open")),

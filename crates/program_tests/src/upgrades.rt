@@ -2,6 +2,7 @@
 use super::stopping::{Disk, FATES, Fate, LENGTH, NAMED, OneDisk, Opened};
 use super::support::{DEVICE_FAULT, call_over, overwrite, told_of_making};
 use super::systems::{BOTH, SEVENS};
+use crate::assertions::{Assert, assert_same};
 use journal::layout;
 use sector_disk::{FileFault, HostFault, HostFiles};
 use std::fs::File;
@@ -110,7 +111,7 @@ fn calls_of_both(
     let (old, new) = (old_image(rt)?, Disk::of_length(rt, upgrade.length)?);
     old.begin(u64::MAX);
     let left = call_over(rt, &TwoDisks::of(&old, &new), upgrade.words, b"");
-    assert_eq!(rt; left.status, 0);
+    assert_same!(rt; left.status, 0);
     Ok((old.calls(), new.calls()))
 }
 
@@ -121,7 +122,7 @@ fn check_upgrade(
     files: &TwoDisks<'_>,
 ) {
     let left = call_over(rt, files, upgrade.words, b"");
-    assert_eq!(rt; (left.status, left.output.is_empty()), (0, true));
+    assert_same!(rt; (left.status, left.output.is_empty()), (0, true));
     assert!(rt; left.errors.is_empty());
     assert!(rt; is_whole(rt, files));
 }
@@ -130,10 +131,10 @@ fn check_upgrade(
 fn is_whole(rt: &(impl Files<File = File> + AllocGlobal + Abort), files: &TwoDisks<'_>) -> bool {
     let left = call_over(rt, files, &["forth83", "run", "NEW"], BOTH.as_bytes());
     if left.status == 0 {
-        assert_eq!(rt; left.output.as_slice(), SEVENS.as_bytes());
+        assert_same!(rt; left.output.as_slice(), SEVENS.as_bytes());
         return true;
     }
-    assert_eq!(rt;
+    assert_same!(rt;
         (left.status, left.errors.as_slice()),
         (3, b"forth83: image: no label\n".as_slice())
     );
@@ -154,8 +155,8 @@ fn upgrade_fails(
     old.begin(at.0);
     new.begin(at.1);
     let left = call_over(rt, &files, upgrade.words, b"");
-    assert_eq!(rt; (left.status, left.output.is_empty()), (3, true), "{at:?}");
-    assert_eq!(rt; left.errors.as_slice(), told.as_bytes(), "{at:?}");
+    assert_same!(rt; (left.status, left.output.is_empty()), (3, true), "{at:?}");
+    assert_same!(rt; left.errors.as_slice(), told.as_bytes(), "{at:?}");
     old.restart(fate);
     new.restart(fate);
     new_file_stays(rt, upgrade, &files, &old, &new)?;
@@ -175,11 +176,11 @@ fn new_file_stays(
 ) -> Result<(), Fail> {
     let before = new.copy(rt)?;
     let left = call_over(rt, files, upgrade.words, b"");
-    assert_eq!(rt;
+    assert_same!(rt;
         (left.status, left.errors.as_slice()),
         (3, b"forth83: image: exists\n".as_slice())
     );
-    assert_eq!(rt; (old.calls(), new.calls()), (0, 0));
+    assert_same!(rt; (old.calls(), new.calls()), (0, 0));
     assert!(rt; new.copy(rt)? == before);
     Ok(())
 }
@@ -204,7 +205,7 @@ pub(crate) fn old_image_fails(
     wanted: u64,
 ) -> Result<(), Fail> {
     let (calls, _) = calls_of_both(rt, upgrade)?;
-    assert_eq!(rt; calls, wanted);
+    assert_same!(rt; calls, wanted);
     for (k, fate) in (0..calls).zip(FATES.iter().cycle()) {
         if upgrade.fails_at(k) {
             let whole = upgrade_fails(rt, upgrade, (k, u64::MAX), *fate, DEVICE_FAULT)?;
@@ -221,7 +222,7 @@ pub(crate) fn new_image_fails(
     wanted: u64,
 ) -> Result<(), Fail> {
     let (_, calls) = calls_of_both(rt, upgrade)?;
-    assert_eq!(rt; calls, wanted);
+    assert_same!(rt; calls, wanted);
     let label = calls.saturating_sub(2);
     for (k, fate) in (0..label).zip(FATES.iter().cycle()) {
         if upgrade.fails_at(k) {
@@ -233,7 +234,7 @@ pub(crate) fn new_image_fails(
     for k in label..calls {
         for fate in FATES {
             let whole = upgrade_fails(rt, upgrade, (u64::MAX, k), fate, DEVICE_FAULT)?;
-            assert_eq!(rt;
+            assert_same!(rt;
                 whole,
                 fate == Fate::Kept || fate == Fate::EvenKept,
                 "{fate:?} at {k}"

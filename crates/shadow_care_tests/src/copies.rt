@@ -1,4 +1,5 @@
 // Images are copied, stopped at each call of either device.
+use crate::assertions::{Assert, assert_same};
 use crate::images::{are_same, change, saved, sector, since, stopped};
 use recovery::{OpenFault, UpgradeFault};
 use sector_disk::{Coarse, Counts, Fate, Fused, MemoryDisk, SectorDevice};
@@ -32,10 +33,10 @@ fn a_copy_has_the_same_blocks(rt: HostRuntime) -> Result<(), Fail> {
         };
         let (old_before, new_before) = (old.counts(), new.counts());
         copy(&mut old, &mut new).map_err(|_| "not copied")?;
-        assert_eq!(rt; since(old.counts(), old_before), [195, 0, 0]);
-        assert_eq!(rt; since(new.counts(), new_before), [1, writes, syncs]);
-        assert_eq!(rt; sector(&mut new, 0)?, label(32));
-        assert_eq!(rt; digest(&mut new)?, digest(&mut old)?);
+        assert_same!(rt; since(old.counts(), old_before), [195, 0, 0]);
+        assert_same!(rt; since(new.counts(), new_before), [1, writes, syncs]);
+        assert_same!(rt; sector(&mut new, 0)?, label(32));
+        assert_same!(rt; digest(&mut new)?, digest(&mut old)?);
         assert!(rt; are_same(&mut old, &mut saved(rt.alloc(), 32, &SAVES)?)?);
         assert!(rt; open(stopped(new)).is_ok());
     }
@@ -48,8 +49,8 @@ fn a_larger_copy_has_blank_blocks_above(rt: HostRuntime) -> Result<(), Fail> {
     let mut new = MemoryDisk::new(rt.alloc(), 672)?;
     let before = old.counts();
     copy(&mut old, &mut new).map_err(|_| "not copied")?;
-    assert_eq!(rt; since(old.counts(), before), [195, 0, 0]);
-    assert_eq!(rt;
+    assert_same!(rt; since(old.counts(), before), [195, 0, 0]);
+    assert_same!(rt;
         digest(&mut new)?,
         digest(&mut saved(rt.alloc(), 40, &SAVES)?)?
     );
@@ -115,7 +116,7 @@ fn other_images_are_not_copied(rt: HostRuntime) -> Result<(), Fail> {
             UpgradeFault::Old(OpenFault::Damaged),
         ),
     ] {
-        assert_eq!(rt;
+        assert_same!(rt;
             refusal(rt.alloc(), old, changed, new)?,
             Some(fault),
             "{old} to {new}"
@@ -178,7 +179,7 @@ fn a_fault_is_told_of_its_device(rt: HostRuntime) -> Result<(), Fail> {
     for call in [1, 99, 100, 195] {
         let mut old = Fused::from(saved(rt.alloc(), 32, &SAVES)?, call);
         let mut new = MemoryDisk::new(rt.alloc(), 544)?;
-        assert_eq!(rt;
+        assert_same!(rt;
             copy(&mut old, &mut new),
             Err(UpgradeFault::Old(OpenFault::Device))
         );
@@ -186,7 +187,7 @@ fn a_fault_is_told_of_its_device(rt: HostRuntime) -> Result<(), Fail> {
     for call in [1, 2, 3, 136] {
         let mut old = saved(rt.alloc(), 32, &SAVES)?;
         let mut new = Fused::from(MemoryDisk::new(rt.alloc(), 544)?, call);
-        assert_eq!(rt;
+        assert_same!(rt;
             copy(&mut old, &mut new),
             Err(UpgradeFault::New(OpenFault::Device))
         );

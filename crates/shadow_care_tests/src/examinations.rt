@@ -1,4 +1,5 @@
 // Images are examined, and their blocks looked at, without a change of them.
+use crate::assertions::{Assert, assert_same};
 use crate::images::{are_same, change, saved, sector, since};
 use recovery::OpenFault;
 use sector_disk::{Fused, MemoryDisk, SectorDevice};
@@ -58,10 +59,10 @@ fn an_image_is_told_by_reads_alone(rt: HostRuntime) -> Result<(), Fail> {
         let mut disk = saved(rt.alloc(), 32, saves)?;
         let before = disk.counts();
         let found = examine(&mut disk).map_err(name_of)?;
-        assert_eq!(rt; since(disk.counts(), before), [163, 0, 0]);
-        assert_eq!(rt; found.blocks, 32);
-        assert_eq!(rt; found.is_open, is_open);
-        assert_eq!(rt; hex(rt.alloc(), &found.digest)?.as_str(), digest);
+        assert_same!(rt; since(disk.counts(), before), [163, 0, 0]);
+        assert_same!(rt; found.blocks, 32);
+        assert_same!(rt; found.is_open, is_open);
+        assert_same!(rt; hex(rt.alloc(), &found.digest)?.as_str(), digest);
         assert!(rt; are_same(&mut disk, &mut saved(rt.alloc(), 32, saves)?)?);
     }
     Ok(())
@@ -86,7 +87,7 @@ fn each_image_is_examined_or_refused(rt: HostRuntime) -> Result<(), Fail> {
     ] {
         let mut disk = saved(rt.alloc(), 32, &[(5, b'A')])?;
         change(&mut disk, k, at, byte)?;
-        assert_eq!(rt; refusal(&mut disk), want, "sector {k} byte {at}");
+        assert_same!(rt; refusal(&mut disk), want, "sector {k} byte {at}");
     }
     Ok(())
 }
@@ -101,13 +102,13 @@ fn other_sizes_are_refused(rt: HostRuntime) -> Result<(), Fail> {
         (0, 0, "bad size", "bad size"),
     ] {
         let mut disk = MemoryDisk::new(rt.alloc(), sectors)?;
-        assert_eq!(rt; refusal(&mut disk), want, "{sectors} sectors");
-        assert_eq!(rt; disk.counts().reads, reads, "{sectors} sectors");
+        assert_same!(rt; refusal(&mut disk), want, "{sectors} sectors");
+        assert_same!(rt; disk.counts().reads, reads, "{sectors} sectors");
         let said = match find_standing(&mut disk, 5) {
             Ok(_) => "stands",
             Err(fault) => name_of(fault),
         };
-        assert_eq!(rt; said, looked, "{sectors} sectors");
+        assert_same!(rt; said, looked, "{sectors} sectors");
     }
     Ok(())
 }
@@ -131,8 +132,8 @@ fn a_damaged_block_is_found_in_its_other_place(rt: HostRuntime) -> Result<(), Fa
         }
         let before = disk.counts();
         let found = find_standing(&mut disk, 5).map_err(name_of)?;
-        assert_eq!(rt; found, Some(want));
-        assert_eq!(rt; since(disk.counts(), before), [reads, 0, 0]);
+        assert_same!(rt; found, Some(want));
+        assert_same!(rt; since(disk.counts(), before), [reads, 0, 0]);
     }
     Ok(())
 }
@@ -148,7 +149,7 @@ fn blocks_are_looked_for_where_the_image_has_them(rt: HostRuntime) -> Result<(),
         (32, None),
     ] {
         let found = find_standing(&mut disk, b).map_err(name_of)?;
-        assert_eq!(rt; found, want, "block {b}");
+        assert_same!(rt; found, want, "block {b}");
     }
     Ok(())
 }
@@ -165,12 +166,12 @@ fn one_block_is_read(rt: HostRuntime) -> Result<(), Fail> {
         let before = disk.counts();
         let found = read_block(&mut disk, b).map_err(name_of)?;
         let [reads, writes, syncs] = since(disk.counts(), before);
-        assert_eq!(rt; reads, if b < 32 { 101 } else { 99 }, "block {b}");
-        assert_eq!(rt; [writes, syncs], [0, 0], "block {b}");
-        assert_eq!(rt; found, want.map(|byte| [byte; 1024]), "block {b}");
+        assert_same!(rt; reads, if b < 32 { 101 } else { 99 }, "block {b}");
+        assert_same!(rt; [writes, syncs], [0, 0], "block {b}");
+        assert_same!(rt; found, want.map(|byte| [byte; 1024]), "block {b}");
     }
     change(&mut disk, 32, 0, b'?')?;
-    assert_eq!(rt; read_block(&mut disk, 5), Err(OpenFault::Damaged));
+    assert_same!(rt; read_block(&mut disk, 5), Err(OpenFault::Damaged));
     Ok(())
 }
 
@@ -179,7 +180,7 @@ fn one_block_is_read(rt: HostRuntime) -> Result<(), Fail> {
 fn a_fault_is_told(rt: HostRuntime) -> Result<(), Fail> {
     for call in [1, 2, 3, 4, 99, 100, 163] {
         let disk = saved(rt.alloc(), 32, &[(5, b'A')])?;
-        assert_eq!(rt;
+        assert_same!(rt;
             refusal(&mut Fused::from(disk, call)),
             "device",
             "call {call}"
@@ -188,9 +189,9 @@ fn a_fault_is_told(rt: HostRuntime) -> Result<(), Fail> {
     for call in 1..=5 {
         let disk = saved(rt.alloc(), 32, &[(5, b'A')])?;
         let found = find_standing(&mut Fused::from(disk, call), 5);
-        assert_eq!(rt; found, Err(OpenFault::Device), "call {call}");
+        assert_same!(rt; found, Err(OpenFault::Device), "call {call}");
     }
     let mut disk = saved(rt.alloc(), 32, &[(5, b'A')])?;
-    assert_eq!(rt; sector(&mut disk, 120)?, [b'A'; 512]);
+    assert_same!(rt; sector(&mut disk, 120)?, [b'A'; 512]);
     Ok(())
 }

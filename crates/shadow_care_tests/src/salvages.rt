@@ -1,4 +1,5 @@
 // What can be had of damaged images is salvaged.
+use crate::assertions::{Assert, assert_same};
 use crate::images::{change, put, saved, sector, since, stopped};
 use journal::layout::is_listed;
 use recovery::{OpenFault, UpgradeFault};
@@ -58,19 +59,19 @@ fn damaged_blocks_are_taken_from_their_other_places(rt: HostRuntime) -> Result<(
         let mut new = MemoryDisk::new(rt.alloc(), 544)?;
         let before = old.counts();
         let taken = salvage(&mut old, &mut new).map_err(|_| "not salvaged")?;
-        assert_eq!(rt;
+        assert_same!(rt;
             since(old.counts(), before),
             [reads, 0, 0],
             "{} changes",
             changes.len()
         );
-        assert_eq!(rt;
+        assert_same!(rt;
             since(new.counts(), Counts::default()),
             [1, 132, 3],
             "{} changes",
             changes.len()
         );
-        assert_eq!(rt; told(rt.alloc(), &mut new, &taken)?.as_str(), want);
+        assert_same!(rt; told(rt.alloc(), &mut new, &taken)?.as_str(), want);
         assert!(rt; open(stopped(new)).is_ok(), "{} changes", changes.len());
     }
     Ok(())
@@ -86,7 +87,7 @@ fn a_block_of_another_number_is_damaged(rt: HostRuntime) -> Result<(), Fail> {
     }
     let mut new = MemoryDisk::new(rt.alloc(), 544)?;
     let taken = salvage(&mut old, &mut new).map_err(|_| "not salvaged")?;
-    assert_eq!(rt;
+    assert_same!(rt;
         told(rt.alloc(), &mut new, &taken)?.as_str(),
         " 5B 31C, lost 0"
     );
@@ -103,9 +104,9 @@ fn other_sizes_are_not_salvaged(rt: HostRuntime) -> Result<(), Fail> {
     ] {
         let mut from = MemoryDisk::new(rt.alloc(), old)?;
         let mut to = MemoryDisk::new(rt.alloc(), new)?;
-        assert_eq!(rt; salvage(&mut from, &mut to), Err(fault), "{old} to {new}");
-        assert_eq!(rt; from.counts(), Counts::default(), "{old} to {new}");
-        assert_eq!(rt; to.counts(), Counts::default(), "{old} to {new}");
+        assert_same!(rt; salvage(&mut from, &mut to), Err(fault), "{old} to {new}");
+        assert_same!(rt; from.counts(), Counts::default(), "{old} to {new}");
+        assert_same!(rt; to.counts(), Counts::default(), "{old} to {new}");
     }
     Ok(())
 }
@@ -118,7 +119,7 @@ fn nothing_is_salvaged_of_nothing(rt: HostRuntime) -> Result<(), Fail> {
     let taken = salvage(&mut old, &mut new).map_err(|_| "not salvaged")?;
     for b in 0..32 {
         assert!(rt; is_listed(&taken.lost, b), "block {b}");
-        assert_eq!(rt;
+        assert_same!(rt;
             read_block(&mut new, b),
             Ok(Some([b' '; 1024])),
             "block {b}"
@@ -133,7 +134,7 @@ fn a_fault_is_told_of_its_device(rt: HostRuntime) -> Result<(), Fail> {
     for call in [1, 2, 3, 98] {
         let mut old = Fused::from(saved(rt.alloc(), 32, &SAVES)?, call);
         let mut new = MemoryDisk::new(rt.alloc(), 544)?;
-        assert_eq!(rt;
+        assert_same!(rt;
             salvage(&mut old, &mut new),
             Err(UpgradeFault::Old(OpenFault::Device))
         );
@@ -141,7 +142,7 @@ fn a_fault_is_told_of_its_device(rt: HostRuntime) -> Result<(), Fail> {
     for call in [1, 2, 3, 136] {
         let mut old = saved(rt.alloc(), 32, &SAVES)?;
         let mut new = Fused::from(MemoryDisk::new(rt.alloc(), 544)?, call);
-        assert_eq!(rt;
+        assert_same!(rt;
             salvage(&mut old, &mut new),
             Err(UpgradeFault::New(OpenFault::Device))
         );

@@ -1,4 +1,5 @@
 // Formats: what is written, and what a stop leaves of it.
+use crate::assertions::{Assert, assert_same};
 use crate::images::{adopted, blank, blank_record, sector, spill, told};
 use crate::openings::refusal;
 use sector_disk::{Coarse, Fate, Fused, MemoryDisk};
@@ -12,10 +13,10 @@ fn a_format_makes_the_blank_image(rt: HostRuntime) -> Result<(), Fail> {
         return Err("not made")?;
     };
     let mut disk = store.into_device().into_device();
-    assert_eq!(rt; disk.counts().syncs, 3);
+    assert_same!(rt; disk.counts().syncs, 3);
     let mut want = blank(rt.alloc())?;
     for k in 0..544 {
-        assert_eq!(rt; sector(&mut disk, k)?, sector(&mut want, k)?, "sector {k}");
+        assert_same!(rt; sector(&mut disk, k)?, sector(&mut want, k)?, "sector {k}");
     }
     Ok(())
 }

@@ -1,4 +1,5 @@
 // Openings: which images are refused, and what an opening does.
+use crate::assertions::{Assert, assert_same};
 use crate::images::{adopted, blank, blank_record, put, sector, spill, told};
 use recovery::OpenFault;
 use sector_disk::{Coarse, Fate, MemoryDisk};
@@ -46,7 +47,7 @@ fn each_image_is_opened_or_refused(rt: HostRuntime) -> Result<(), Fail> {
         (120, 0, b'A', "opened"), // a free place
     ] {
         let said = refusal(changed(rt.alloc(), k, at, byte)?);
-        assert_eq!(rt; said, want, "sector {k} byte {at}");
+        assert_same!(rt; said, want, "sector {k} byte {at}");
     }
     Ok(())
 }
@@ -58,8 +59,8 @@ fn sizes_of_other_images_are_refused(rt: HostRuntime) -> Result<(), Fail> {
     let mut label = [0; 512];
     label[..12].copy_from_slice(b"F83BLOCK\x02\x00\x20\x00");
     put(&mut older, 0, &label)?;
-    assert_eq!(rt; refusal(older), "other version");
-    assert_eq!(rt; refusal(MemoryDisk::new(rt.alloc(), 546)?), "bad size");
+    assert_same!(rt; refusal(older), "other version");
+    assert_same!(rt; refusal(MemoryDisk::new(rt.alloc(), 546)?), "bad size");
     Ok(())
 }
 
@@ -74,7 +75,7 @@ fn a_stale_block_is_damage(rt: HostRuntime) -> Result<(), Fail> {
         let bytes = sector(&mut disk, k)?;
         put(&mut disk, k + 8, &bytes)?;
     }
-    assert_eq!(rt; refusal(disk), "damaged");
+    assert_same!(rt; refusal(disk), "damaged");
     Ok(())
 }
 
@@ -87,11 +88,11 @@ fn an_opening_syncs_once_and_writes_nothing(rt: HostRuntime) -> Result<(), Fail>
     };
     let disk = store.into_device().into_device();
     let after = disk.counts();
-    assert_eq!(rt; after.reads.saturating_sub(before.reads), 99);
-    assert_eq!(rt; after.writes, before.writes);
-    assert_eq!(rt; after.syncs.saturating_sub(before.syncs), 1);
+    assert_same!(rt; after.reads.saturating_sub(before.reads), 99);
+    assert_same!(rt; after.writes, before.writes);
+    assert_same!(rt; after.syncs.saturating_sub(before.syncs), 1);
     let mut disk = disk.stop(&[Fate::Lost; 8]);
-    assert_eq!(rt; sector(&mut disk, 120)?[0], b'A');
+    assert_same!(rt; sector(&mut disk, 120)?[0], b'A');
     Ok(())
 }
 
@@ -106,6 +107,6 @@ fn what_was_saved_is_opened(rt: HostRuntime) -> Result<(), Fail> {
         return Err("not opened again")?;
     };
     let mut disk = store.into_device().into_device();
-    assert_eq!(rt; told(rt.alloc(), &mut disk)?.as_str(), " 5A");
+    assert_same!(rt; told(rt.alloc(), &mut disk)?.as_str(), " 5A");
     Ok(())
 }

@@ -1,4 +1,5 @@
 // A save on a disk whose sectors lie in units of eight: what it writes, and what a stop leaves of it.
+use crate::assertions::{Assert, assert_same};
 use crate::images::{adopted, blank, blank_record, hex, sector, spill, told};
 use sector_disk::{Coarse, Fate, Fused, MemoryDisk, SectorDevice};
 use shadow::Store;
@@ -25,9 +26,9 @@ fn is_record(
     let record = sector(disk, k)?;
     let (front, rest) = record.split_at(4);
     let (zeros, end) = rest.split_at(476);
-    assert_eq!(rt; front, bits.as_slice(), "record {k}");
-    assert_eq!(rt; zeros, [0; 476].as_slice(), "record {k}");
-    assert_eq!(rt; hex(alloc, end)?.as_str(), sum, "record {k}");
+    assert_same!(rt; front, bits.as_slice(), "record {k}");
+    assert_same!(rt; zeros, [0; 476].as_slice(), "record {k}");
+    assert_same!(rt; hex(alloc, end)?.as_str(), sum, "record {k}");
     Ok(())
 }
 
@@ -43,7 +44,7 @@ fn disk_of(store: Store<Fused<Coarse>>) -> MemoryDisk {
 fn a_blank_image_is_whole(rt: HostRuntime) -> Result<(), Fail> {
     let mut disk = blank(rt.alloc())?;
     is_record(&rt, rt.alloc(), &mut disk, 24, &[0; 4], BLANK)?;
-    assert_eq!(rt; told(rt.alloc(), &mut disk)?.as_str(), "");
+    assert_same!(rt; told(rt.alloc(), &mut disk)?.as_str(), "");
     Ok(())
 }
 
@@ -53,19 +54,19 @@ fn a_save_writes_free_places_the_other_record_and_the_gate(rt: HostRuntime) -> R
     spill(&mut store, 5, b'A')?;
     saved(&mut store)?;
     let mut disk = disk_of(store);
-    assert_eq!(rt; sector(&mut disk, 120)?, [b'A'; 512]);
-    assert_eq!(rt; sector(&mut disk, 121)?, [b'A'; 512]);
+    assert_same!(rt; sector(&mut disk, 120)?, [b'A'; 512]);
+    assert_same!(rt; sector(&mut disk, 121)?, [b'A'; 512]);
     let tagged = sector(&mut disk, 122)?;
     let (tag, _) = tagged.split_at(34);
-    assert_eq!(rt;
+    assert_same!(rt;
         hex(rt.alloc(), tag)?.as_str(),
         "80de12f98d73883f97fc8008980545085be0be5b15c150c8ebb20d8218cc91820000"
     );
-    assert_eq!(rt; sector(&mut disk, 112)?, [b' '; 512]);
+    assert_same!(rt; sector(&mut disk, 112)?, [b' '; 512]);
     assert!(rt; sector(&mut disk, 8)?.starts_with(b"COMMIT83\x00"));
     is_record(&rt, rt.alloc(), &mut disk, 16, &[0x20, 0, 0, 0], WITH_A)?;
     is_record(&rt, rt.alloc(), &mut disk, 24, &[0; 4], BLANK)?;
-    assert_eq!(rt; told(rt.alloc(), &mut disk)?.as_str(), " 5A");
+    assert_same!(rt; told(rt.alloc(), &mut disk)?.as_str(), " 5A");
     Ok(())
 }
 
@@ -78,9 +79,9 @@ fn the_next_save_goes_back(rt: HostRuntime) -> Result<(), Fail> {
     spill(&mut store, 5, b'B')?;
     saved(&mut store)?;
     let mut disk = disk_of(store);
-    assert_eq!(rt; sector(&mut disk, 112)?, [b'B'; 512]);
-    assert_eq!(rt; sector(&mut disk, 536)?, [b'C'; 512]);
-    assert_eq!(rt; sector(&mut disk, 8)?, [0; 512]);
+    assert_same!(rt; sector(&mut disk, 112)?, [b'B'; 512]);
+    assert_same!(rt; sector(&mut disk, 536)?, [b'C'; 512]);
+    assert_same!(rt; sector(&mut disk, 8)?, [0; 512]);
     is_record(
         &rt,
         rt.alloc(),
@@ -89,7 +90,7 @@ fn the_next_save_goes_back(rt: HostRuntime) -> Result<(), Fail> {
         &[0, 0, 0, 0x80],
         WITH_B_AND_C,
     )?;
-    assert_eq!(rt; told(rt.alloc(), &mut disk)?.as_str(), " 5B 31C");
+    assert_same!(rt; told(rt.alloc(), &mut disk)?.as_str(), " 5B 31C");
     Ok(())
 }
 

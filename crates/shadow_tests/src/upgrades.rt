@@ -1,4 +1,5 @@
 // Upgrades of images of layout 1 and 2: what is refused, what is written, and what a stop leaves of both images.
+use crate::assertions::{Assert, assert_same};
 use crate::images::{adopted, blank, blank_record, put, sector, spill, told};
 use crate::openings::refusal;
 use recovery::{OpenFault, UpgradeFault};
@@ -74,15 +75,15 @@ fn an_older_image_is_upgraded_by_reads_alone(rt: HostRuntime) -> Result<(), Fail
         let mut old = older(rt.alloc(), version)?;
         let mut new = before(rt.alloc(), false)?;
         let (from, to) = (old.counts(), new.counts());
-        assert_eq!(rt; outcome(&mut old, &mut new).1, "upgraded", "{version}");
-        assert_eq!(rt; old.counts().reads.saturating_sub(from.reads), reads);
-        assert_eq!(rt; old.counts().writes, from.writes);
-        assert_eq!(rt; old.counts().syncs.saturating_sub(from.syncs), 1);
-        assert_eq!(rt; new.counts().reads.saturating_sub(to.reads), 1);
-        assert_eq!(rt; new.counts().writes.saturating_sub(to.writes), 132);
-        assert_eq!(rt; new.counts().syncs.saturating_sub(to.syncs), 3);
-        assert_eq!(rt; told(rt.alloc(), &mut new)?.as_str(), " 1A 2B");
-        assert_eq!(rt; refusal(new), "opened");
+        assert_same!(rt; outcome(&mut old, &mut new).1, "upgraded", "{version}");
+        assert_same!(rt; old.counts().reads.saturating_sub(from.reads), reads);
+        assert_same!(rt; old.counts().writes, from.writes);
+        assert_same!(rt; old.counts().syncs.saturating_sub(from.syncs), 1);
+        assert_same!(rt; new.counts().reads.saturating_sub(to.reads), 1);
+        assert_same!(rt; new.counts().writes.saturating_sub(to.writes), 132);
+        assert_same!(rt; new.counts().syncs.saturating_sub(to.syncs), 3);
+        assert_same!(rt; told(rt.alloc(), &mut new)?.as_str(), " 1A 2B");
+        assert_same!(rt; refusal(new), "opened");
     }
     Ok(())
 }
@@ -92,7 +93,7 @@ fn an_older_image_is_upgraded_by_reads_alone(rt: HostRuntime) -> Result<(), Fail
 fn the_new_image_is_made_as_by_a_format(rt: HostRuntime) -> Result<(), Fail> {
     let mut old = older(rt.alloc(), 2)?;
     let mut new = before(rt.alloc(), false)?;
-    assert_eq!(rt; outcome(&mut old, &mut new).1, "upgraded");
+    assert_same!(rt; outcome(&mut old, &mut new).1, "upgraded");
     let mut want = blank(rt.alloc())?;
     for k in 0..544 {
         let is_other = matches!(k, 24 | 48..=50 | 64..=66);
@@ -110,10 +111,10 @@ fn the_largest_image_of_layout_1_is_upgraded(rt: HostRuntime) -> Result<(), Fail
     put(&mut old, 0, &label)?;
     put(&mut old, 8_194, &[b'Z'; 512])?;
     let mut new = MemoryDisk::new(rt.alloc(), 32_800)?;
-    assert_eq!(rt; outcome(&mut old, &mut new).1, "upgraded");
-    assert_eq!(rt; sector(&mut new, 32_785)?, [b'Z'; 512]);
-    assert_eq!(rt; sector(&mut new, 32_784)?, [0; 512]);
-    assert_eq!(rt; refusal(new), "opened");
+    assert_same!(rt; outcome(&mut old, &mut new).1, "upgraded");
+    assert_same!(rt; sector(&mut new, 32_785)?, [b'Z'; 512]);
+    assert_same!(rt; sector(&mut new, 32_784)?, [0; 512]);
+    assert_same!(rt; refusal(new), "opened");
     Ok(())
 }
 
@@ -156,7 +157,7 @@ fn other_images_are_refused(rt: HostRuntime) -> Result<(), Fail> {
         let mut old = labelled(rt.alloc(), sectors, version, low, high)?;
         let mut new = MemoryDisk::new(rt.alloc(), new_sectors)?;
         let said = outcome(&mut old, &mut new);
-        assert_eq!(rt; said, want, "{sectors} of version {version}");
+        assert_same!(rt; said, want, "{sectors} of version {version}");
     }
     Ok(())
 }
@@ -169,7 +170,7 @@ fn a_false_record_is_damage_by_layout_2(rt: HostRuntime) -> Result<(), Fail> {
         put(&mut old, 6, &[b'?'; 512])?;
         let mut new = before(rt.alloc(), false)?;
         let said = outcome(&mut old, &mut new);
-        assert_eq!(rt; said.1, want, "version {version}");
+        assert_same!(rt; said.1, want, "version {version}");
     }
     Ok(())
 }
@@ -241,7 +242,7 @@ fn a_stop_at_a_call_of_the_new_device(rt: HostRuntime) -> Result<(), Fail> {
     for is_image in [false, true] {
         for m in 1..=139 {
             let (old, new) = upgrade_until(rt.alloc(), is_image, 100, as_of_an_image(is_image, m))?;
-            assert_eq!(rt; older_meant(rt.alloc(), old)?.as_str(), " 1A 2B");
+            assert_same!(rt; older_meant(rt.alloc(), old)?.as_str(), " 1A 2B");
             for torn in [0, 7] {
                 for others in [Fate::Kept, Fate::Lost] {
                     let text = meant(rt.alloc(), left(rt.alloc(), &new, torn, others)?)?;
@@ -267,9 +268,9 @@ fn a_stop_at_a_call_of_the_old_device(rt: HostRuntime) -> Result<(), Fail> {
         } else {
             " 1A 2B"
         };
-        assert_eq!(rt; text.as_str(), want, "before call {k}");
+        assert_same!(rt; text.as_str(), want, "before call {k}");
         let old = left(rt.alloc(), &old, 0, Fate::Lost)?;
-        assert_eq!(rt; older_meant(rt.alloc(), old)?.as_str(), " 1A 2B");
+        assert_same!(rt; older_meant(rt.alloc(), old)?.as_str(), " 1A 2B");
     }
     Ok(())
 }
