@@ -7,7 +7,8 @@ use Rattle.cell_machine.specs.Events.{Doing}
 use Rattle.compiler.specs.Definition.{Adding}
 use Rattle.lexicon.specs.declared.language.Lexicon.{Lexicon}
 use Rattle.lexicon.specs.Language.{Language}
-use Rattle.lexicon.specs.Promise.{Goes, Stops}
+use Rattle.lexicon.specs.Promise.{Goes, Stops, GivesPart, StopsPart}
+use Rattle.lexicon.specs.Stands.{Stands, IsLeft}
 use Rattle.lexicon.specs.Running.{IsReady, Runs, AsksFor}
 use Rattle.parts_tests.specs.Going.{Finds, GoesOn}
 use Rattle.cell_machine.specs.declared.event.Op.{Op}
@@ -25,6 +26,15 @@ kept old new step fault doing entries (Ok v) goes stops ready =
     let g = goes ready.0 ready.2.0 in (g.0, ready.1, (g.1.1.stands, g.1.1.left doing entries ready.1 ready.2.1))
 kept old new step fault doing entries (Err e) goes stops ready =
     subst (λ l. IsReady l doing entries) (sym stops.1) ready
+
+-- the same after a part is given
+pub given : {E : Type 0} (old new : Lexicon) (place : ℕ) (fault : E → Fault) (doing : Doing) (entries : List Entry) (r : Result (Unit {0}) E) →
+    OnOk r (GivesPart old new place) → IfErr r (λ e. StopsPart old new place (fault e)) →
+    (x : Language) (levels : List Level) → Stands old x → IsLeft old x doing entries levels → Finds old x (op.Does place) → IsReady new doing entries
+given old new place fault doing entries (Ok v) gives stops x levels stands left found =
+    let g = gives x found.0 found.1 stands found.2 in (g.0, levels, (g.1.1.stands, g.1.1.left doing entries levels left))
+given old new place fault doing entries (Err e) gives stops x levels stands left found =
+    subst (λ l. IsReady l doing entries) (sym stops.1) (x, levels, (stands, left))
 
 pub goes_on : (l : Lexicon) (e : Event) (doing doing' : Doing) (entries entries' : List Entry) (before after : Core) → Runs l e doing entries before doing' entries' after → IsReady l doing entries → GoesOn l e doing' entries'
 goes_on l event.Done doing doing' entries entries' before after runs ready =

@@ -1,12 +1,12 @@
 //! A lexicon with a machine and all that it works on.
 
-ghost use Rattle.std.specs.Prelude.{◌≡◌, ◌<◌, ◌≤◌, None, IfOk, OnOk, length};
+ghost use Rattle.std.specs.Prelude.{◌≡◌, ◌<◌, ◌≤◌, None, IfOk, length};
 ghost use Rattle.cell_machine.specs.Layout.{most_tokens};
 ghost use Rattle.lexicon.specs.Running.{IsReady};
 ghost use Rattle.parts_tests.specs.Going.{GoesOn};
 ghost use Rattle.lexicon.specs.Stands.{IsHere};
 
-use cell_machine::event::{Event, Op, Work};
+use cell_machine::event::{Event, Work};
 use cell_machine::machine::Machine;
 use data_space::DataSpace;
 use lexicon::{CompileRefusal, Lexicon, Refusal, TextKind};
@@ -19,9 +19,9 @@ use system_words::words::Structure;
 #[derive(Drop)]
 pub(super) struct Desk {
     pub(super) lexicon: Lexicon,
-    machine: Machine,
+    pub(super) machine: Machine,
     stack: DataStack,
-    returns: ReturnStack,
+    pub(super) returns: ReturnStack,
     space: DataSpace,
     budget: u32,
 }
@@ -154,56 +154,6 @@ impl Desk {
         )
     }
 
-    /// Runs a word to its end.
-    pub(super) fn does(&mut self, token: u16) -> Result<(), Event>
-        requires ready { IsReady self.old.lexicon self.old.machine self.old.returns }
-        requires idle { self.old.machine.pending ≡ None }
-        ensures ready { OnOk result (IsReady self.new.lexicon self.new.machine self.new.returns) }
-        ensures idle { self.new.machine.pending ≡ None }
-    {
-        match self.run(token) {
-            Event::Done => Ok(()),
-            event => Err(event),
-        }
-    }
-
-    /// Runs a word up to a service that it asks for.
-    pub(super) fn asks(&mut self, token: u16) -> Result<Op, Event>
-        requires ready { IsReady self.old.lexicon self.old.machine self.old.returns }
-        requires idle { self.old.machine.pending ≡ None }
-        ensures ready { OnOk result (IsReady self.new.lexicon self.new.machine self.new.returns) }
-        ensures idle { self.new.machine.pending ≡ None }
-    {
-        match self.run(token) {
-            Event::Service(op) => Ok(op),
-            event => Err(event),
-        }
-    }
-
-    /// Goes on to the end.
-    pub(super) fn ends(&mut self) -> Result<(), Event>
-        requires { IsReady self.old.lexicon self.old.machine self.old.returns }
-        ensures ready { OnOk result (IsReady self.new.lexicon self.new.machine self.new.returns) }
-        ensures idle { self.new.machine.pending ≡ None }
-    {
-        match self.resume() {
-            Event::Done => Ok(()),
-            event => Err(event),
-        }
-    }
-
-    /// Forgets a word, while what is left to do is left.
-    pub(super) fn forget(&mut self, token: u16) -> Result<(), Refusal>
-        requires { IsReady self.old.lexicon self.old.machine self.old.returns }
-        ensures ready { IsReady self.new.lexicon self.new.machine self.new.returns }
-        ensures idle { self.new.machine ≡ self.old.machine }
-    {
-        if token == 0 || usize::from(token) > self.lexicon.len() {
-            return Err(Refusal::Protected);
-        }
-        self.lexicon.forget(token, &self.machine, &self.returns)
-    }
-
     /// A cell more on the data stack.
     pub(super) fn push(&mut self, cell: u16)
         ensures lexicon { self.new.lexicon ≡ self.old.lexicon }
@@ -220,42 +170,6 @@ impl Desk {
         ensures returns { self.new.returns ≡ self.old.returns }
     {
         self.stack.pop().unwrap_or(65535)
-    }
-
-    /// Makes a vocabulary the first one.
-    pub(super) fn first(&mut self, vocabulary: u16)
-        requires { IsReady self.old.lexicon self.old.machine self.old.returns }
-        ensures ready { IsReady self.new.lexicon self.new.machine self.new.returns }
-        ensures idle { self.new.machine ≡ self.old.machine }
-    {
-        if vocabulary > 0 && usize::from(vocabulary) <= self.lexicon.len() {
-            self.lexicon.set_first(vocabulary);
-        }
-    }
-
-    /// Runs a word up to a text, and copies that out.
-    pub(super) fn print(&mut self, token: u16, out: &mut [u8; 1024]) -> Result<usize, Event>
-        requires ready { IsReady self.old.lexicon self.old.machine self.old.returns }
-        requires idle { self.old.machine.pending ≡ None }
-        ensures ready { OnOk result (IsReady self.new.lexicon self.new.machine self.new.returns) }
-        ensures idle { self.new.machine.pending ≡ None }
-    {
-        match self.run(token) {
-            Event::Service(Op::Text(place)) => Ok(self.lexicon.text(place, out)),
-            event => Err(event),
-        }
-    }
-
-    /// Goes on to a part that is given, and gives it.
-    pub(super) fn give(&mut self) -> Result<(), Fail>
-        requires { IsReady self.old.lexicon self.old.machine self.old.returns }
-        ensures ready { OnOk result (IsReady self.new.lexicon self.new.machine self.new.returns) }
-        ensures idle { self.new.machine.pending ≡ None }
-    {
-        match self.resume() {
-            Event::Service(Op::Does(place)) => Ok(self.lexicon.give_part(place)?),
-            event => Err(Fail::from(event)),
-        }
     }
 
     /// `HERE` is at this address.
@@ -284,5 +198,13 @@ impl Desk {
         ensures idle { self.new.machine ≡ self.old.machine }
     {
         self.lexicon.set_first_to_forth();
+    }
+    /// Drops the open definition.
+    pub(super) fn abandon(&mut self)
+        requires { IsReady self.old.lexicon self.old.machine self.old.returns }
+        ensures ready { IsReady self.new.lexicon self.new.machine self.new.returns }
+        ensures idle { self.new.machine ≡ self.old.machine }
+    {
+        self.lexicon.abandon();
     }
 }
