@@ -15,7 +15,7 @@ impl<A: Abort> Assert for A {
 }
 
 /// Ends the test where what was found isn't what was wanted, as `assert_eq!` does. That one writes a comparison and what it tells into each
-/// function that has it, and this is one call of it: a test is proved in a small part of the time.
+/// function that has it, and this is one call of it, which costs the prover a tenth.
 macro_rules! assert_same {
     ($rt:expr; $found:expr, $wanted:expr $(,)?) => {
         $rt.same($found, $wanted, stringify!($found))
