@@ -11,8 +11,10 @@ use Rattle.stores.specs.declared.store.Store.{Store}
 use Rattle.journal.specs.Calls.{BeginsAtMost, ReadsAtMost}
 use Rattle.stores.specs.Images.{Means}
 use Rattle.journal.specs.Layout.{count_below}
+use Rattle.recovery.specs.Label.{is_size}
 use Rattle.journal.specs.Maps.{Maps, contents, latest, spilled, committed, shut, any_pending}
-use Rattle.stores.specs.Store.{Continues, MeansBy, StandsFor, KeepsSaved, SavesAllOrNone, is_pending, pending_count, DeviceBegins, DeviceReads, device_of, closed_of, blocks_of}
+use Rattle.stores.specs.Costs.{each_reads, each_writes, more_writes, save_syncs}
+use Rattle.stores.specs.Store.{Continues, MeansBy, StandsFor, KeepsSaved, SavesAllOrNone, is_pending, pending_count, DeviceBegins, DeviceReads, device_of, closed_of, blocks_of, by_older}
 use Rattle.block_words.specs.Parts.{ChangesAllOrNone}
 use Rattle.block_words.specs.Uses.{is_among, is_changed, changed_count}
 use Rattle.data_space.specs.Space.{buffer_bytes}
@@ -23,7 +25,7 @@ use Rattle.block_words.specs.declared.buffered_blocks.BlockFault.TheVariants.{De
 use Rattle.block_words.specs.Words.{Answer, Well, Failed, Save, Wear, no_wear, add_wear, spill_wear, commit_wear, pending_number, Blocks, BlockOutcome, Gives, Fails, spill_each, open_store, commit, returned, all_spilled, next_map, save_and}
 use Rattle.block_words.specs.Calls.{state, ended, failures_after, WordRuns, WearsAtMost, CallKeeps, CallLeaves, save_begun}
 use Rattle.block_words.proofs.Runs.{saved_then}
-use Rattle.block_words.proofs.Worn.{none_more, wear_assoc, spills_wear, spills_counted, commit_wear_if, wears_then, pending_same, none_counted}
+use Rattle.block_words.proofs.Worn.{none_more, wear_assoc, spills_wear, spills_counted, commit_wear_if, wears_by, wears_then, pending_same, none_counted}
 
 pub continues_then : {D : Type 0} {G : Ghosts D} (a b d : Store D G) → ((s t : ℕ) (c : Image) → s ≤ t → G.left_since (device_of d) t c → G.left_since (device_of d) s c)
     → Continues a b → Continues b d → Continues a d
@@ -231,44 +233,70 @@ saves_then G old mid new b sp first then stands p q = λ m from is_open.
     (q all (stands m from) (spilled_closed (updated_ones b) sp m ∙ is_open)))
     (λ x means. inl means) (λ x means. subst (λ n. Means n m.saved x ⊎ Means n (latest all) x) first.sectors means)
 
--- the reads of a commit after spills
-pub save_reads : {D : Type 0} (G : Ghosts D) (old mid new : Store D G) (b : Buffers) → Continues old mid
-    → ((u : ℕ) → is_pending mid u ≡ (is_among (updated_ones b) u || is_pending old u)) → DeviceReads old mid 0
-    → DeviceReads mid new (4 * pending_count mid) → DeviceReads old new (4 * changed_count old b)
-save_reads G old mid new b on pending first then =
-    let same : pending_count mid ≡ changed_count old b = ap (λ n. count_below (is_pending mid) n) on.blocks ∙ count_below_same (is_pending mid) (is_changed old b) (blocks_of old) pending in
-    omega (arith, first, then, same)
+-- what a commit after spills costs
+module _ {D : Type 0} (G : Ghosts D) (old mid new : Store D G) (b : Buffers) (on : Continues old mid)
+    (pending : (u : ℕ) → is_pending mid u ≡ (is_among (updated_ones b) u || is_pending old u)) where
+  changed : pending_count mid ≡ changed_count old b
+  changed = ap (λ n. count_below (is_pending mid) n) on.blocks ∙ count_below_same (is_pending mid) (is_changed old b) (blocks_of old) pending
 
--- the writes of a commit after spills
-pub save_begins : {D : Type 0} (G : Ghosts D) (old mid new : Store D G) (b : Buffers) → Continues old mid
-    → ((u : ℕ) → is_pending mid u ≡ (is_among (updated_ones b) u || is_pending old u)) → DeviceBegins old mid (2 * length (updated_ones b)) 0
-    → DeviceBegins mid new (2 * pending_count mid + 3) 4 → DeviceBegins old new (2 * length (updated_ones b) + 2 * changed_count old b + 3) 4
-save_begins G old mid new b on pending first then =
-    let same : pending_count mid ≡ changed_count old b = ap (λ n. count_below (is_pending mid) n) on.blocks ∙ count_below_same (is_pending mid) (is_changed old b) (blocks_of old) pending in
-    record {
-      few_writes = omega (arith, first.few_writes, then.few_writes, same);
-      few_syncs = omega (arith, first.few_syncs, then.few_syncs);
-    }
+  older : by_older mid ≡ by_older old
+  older = ap is_size on.sectors
+
+  pub save_reads : DeviceReads old mid 0 → DeviceReads mid new (each_reads (by_older mid) * pending_count mid)
+      → DeviceReads old new (each_reads (by_older old) * changed_count old b)
+  save_reads first then = more (each_reads (by_older old) * changed_count old b)
+      (subst (λ n. DeviceReads mid new (each_reads (by_older old) * n)) changed (subst (λ t. DeviceReads mid new (each_reads t * pending_count mid)) older then))
+    where
+      more : (x : ℕ) → DeviceReads mid new x → DeviceReads old new x
+      more x reads = omega (arith, first, reads)
+
+  pub save_begins : DeviceBegins old mid (2 * length (updated_ones b)) 0
+      → DeviceBegins mid new (each_writes (by_older mid) * pending_count mid + more_writes (by_older mid)) (save_syncs (by_older mid))
+      → DeviceBegins old new (2 * length (updated_ones b) + (each_writes (by_older old) * changed_count old b + more_writes (by_older old))) (save_syncs (by_older old))
+  save_begins first then = more (each_writes (by_older old) * changed_count old b + more_writes (by_older old)) (save_syncs (by_older old))
+      (subst (λ n. DeviceBegins mid new (each_writes (by_older old) * n + more_writes (by_older old)) (save_syncs (by_older old))) changed
+      (subst (λ t. DeviceBegins mid new (each_writes t * pending_count mid + more_writes t) (save_syncs t)) older then))
+    where
+      more : (x y : ℕ) → DeviceBegins mid new x y → DeviceBegins old new (2 * length (updated_ones b) + x) y
+      more x y begins = record { few_writes = omega (arith, first.few_writes, begins.few_writes); few_syncs = omega (arith, first.few_syncs, begins.few_syncs) }
+
+-- of the spills alone
+pub spilled_begins : {D : Type 0} {G : Ghosts D} (old new : Store D G) (n x y : ℕ) → DeviceBegins old new n 0 → DeviceBegins old new (n + x) y
+spilled_begins old new n x y begins = record { few_writes = omega (arith, begins.few_writes); few_syncs = omega (arith, begins.few_syncs) }
+
+pub spilled_reads : {D : Type 0} {G : Ghosts D} (old new : Store D G) (x : ℕ) → DeviceReads old new 0 → DeviceReads old new x
+spilled_reads old new x reads = omega (arith, reads)
 
 -- ---- what a save wears
 
 -- it stopped at a spill
-pub unspilled_wears : {D : Type 0} (G : Ghosts D) (old new : D) (before : List Assigned) → BeginsAtMost G old new (2 * length before + 2) 0
-    → ReadsAtMost G old new 0 → WearsAtMost G old new (add_wear (spills_wear before) spill_wear)
-unspilled_wears G old new before begins reads =
-    subst (λ w. WearsAtMost G old new (add_wear w spill_wear)) (sym (spills_counted before)) (record { begins = begins; reads = reads })
+pub unspilled_wears : {D : Type 0} (G : Ghosts D) (old new : D) (before : List Assigned) → G.sector_count new ≡ G.sector_count old
+    → BeginsAtMost G old new (2 * length before + 2) 0 → ReadsAtMost G old new 0 → WearsAtMost G old new (add_wear (spills_wear before) spill_wear)
+unspilled_wears G old new before sectors begins reads =
+    subst (λ w. WearsAtMost G old new (add_wear w spill_wear)) (sym (spills_counted before))
+    (wears_by G old new 0 (length before + 1) sectors (record { few_writes = omega (arith, begins.few_writes); few_syncs = begins.few_syncs }) reads)
 
 -- it came to the commit
 module _ {D : Type 0} (G : Ghosts D) (old : D) (mid new : Store D G) (b : Buffers) (all : Maps) (stands : StandsFor mid all) (is_open : closed_of mid ≡ false)
+    (sectors : G.sector_count (device_of mid) ≡ G.sector_count old) (more_sectors : G.sector_count (device_of new) ≡ G.sector_count (device_of mid))
     (first : BeginsAtMost G old (device_of mid) (2 * length (updated_ones b)) 0) (first_reads : ReadsAtMost G old (device_of mid) 0)
-    (then : DeviceBegins mid new (2 * pending_count mid + 3) 4) (then_reads : DeviceReads mid new (4 * pending_count mid)) where
+    (then : DeviceBegins mid new (each_writes (by_older mid) * pending_count mid + more_writes (by_older mid)) (save_syncs (by_older mid)))
+    (then_reads : DeviceReads mid new (each_reads (by_older mid) * pending_count mid)) where
   spills : WearsAtMost G old (device_of mid) (spills_wear (updated_ones b))
-  spills = subst (λ w. WearsAtMost G old (device_of mid) w) (sym (spills_counted (updated_ones b))) (record { begins = first; reads = first_reads })
+  spills = subst (λ w. WearsAtMost G old (device_of mid) w) (sym (spills_counted (updated_ones b)))
+      (wears_by G old (device_of mid) 0 (length (updated_ones b)) sectors first first_reads)
+
+  commits : WearsAtMost G (device_of mid) (device_of new) (commit_wear (pending_count mid))
+  commits = record {
+    sectors = more_sectors;
+    begins = record { few_writes = omega (arith, then.few_writes); few_syncs = omega (arith, then.few_syncs) };
+    reads = omega (arith, then_reads);
+  }
 
   pub committed_wears : WearsAtMost G old (device_of new) (add_wear (spills_wear (updated_ones b)) (commit_wear (pending_number all.pending)))
   committed_wears =
       wears_then G old (device_of mid) (device_of new) (spills_wear (updated_ones b)) (commit_wear (pending_number all.pending)) spills
-      (subst (λ n. WearsAtMost G (device_of mid) (device_of new) (commit_wear n)) (sym (pending_same mid all stands is_open)) (record { begins = then; reads = then_reads }))
+      (subst (λ n. WearsAtMost G (device_of mid) (device_of new) (commit_wear n)) (sym (pending_same mid all stands is_open)) commits)
 
   pub saved_wears : (pending_count mid ≡ 0 → device_of new ≡ device_of mid) → WearsAtMost G old (device_of new) (add_wear (spills_wear (updated_ones b)) (commit_wear_if (any_pending all.pending) (pending_number all.pending)))
   saved_wears nothing = pick (any_pending all.pending) refl

@@ -1,5 +1,5 @@
 -- The wear of one thing and then another, and how many blocks a commit writes.
-use Rattle.std.proofs.Common.{◌≡◌, ℕ, zero, suc, ◌+◌, ◌*◌, ◌<◌, Bool, true, false, cond, List, [], ◌∷◌, length, Option, Some, None, refl, sym, ◌∙◌, ap, subst, arith}
+use Rattle.std.proofs.Common.{◌≡◌, ℕ, zero, suc, ◌+◌, ◌*◌, ◌<◌, ◌≤◌, Bool, true, false, cond, List, [], ◌∷◌, length, Option, Some, None, refl, sym, ◌∙◌, ap, subst, arith}
 use Rattle.std.specs.Prelude.{slice_index_or, if◌then◌else◌}
 use Rattle.sector_disk.specs.declared.device.SectorDevice.{Ghosts}
 use Rattle.stores.specs.declared.store.Store.{Store}
@@ -8,41 +8,73 @@ use Rattle.journal.specs.Maps.{Maps, any_pending, contents}
 use Rattle.stores.specs.Store.{StandsFor, is_pending, pending_count, closed_of}
 use Rattle.block_buffers.specs.declared.buffers.Assigned.{Assigned}
 use Rattle.block_words.specs.Words.{Wear, no_wear, add_wear, spill_wear, commit_wear, pending_number}
-use Rattle.block_words.specs.Calls.{WearsAtMost}
+use Rattle.block_words.specs.Calls.{WearsAtMost, reads_of, writes_of}
+use Rattle.journal.specs.Calls.{BeginsAtMost, ReadsAtMost}
+use Rattle.recovery.specs.Label.{is_size}
+use Rattle.stores.specs.Costs.{each_reads, each_writes, more_writes, save_syncs}
 
 pub none_more : (w : Wear) → add_wear w no_wear ≡ w
 none_more w =
-    let writes : w.writes + 0 ≡ w.writes = omega arith in
-    let syncs : w.syncs + 0 ≡ w.syncs = omega arith in
     let reads : w.reads + 0 ≡ w.reads = omega arith in
-    λ t. record { writes = writes t; syncs = syncs t; reads = reads t }
+    let spills : w.spills + 0 ≡ w.spills = omega arith in
+    let commits : w.commits + 0 ≡ w.commits = omega arith in
+    let committed : w.committed + 0 ≡ w.committed = omega arith in
+    λ t. record { reads = reads t; spills = spills t; commits = commits t; committed = committed t }
 
 pub none_first : (w : Wear) → add_wear no_wear w ≡ w
 none_first w =
-    let writes : 0 + w.writes ≡ w.writes = omega arith in
-    let syncs : 0 + w.syncs ≡ w.syncs = omega arith in
     let reads : 0 + w.reads ≡ w.reads = omega arith in
-    λ t. record { writes = writes t; syncs = syncs t; reads = reads t }
+    let spills : 0 + w.spills ≡ w.spills = omega arith in
+    let commits : 0 + w.commits ≡ w.commits = omega arith in
+    let committed : 0 + w.committed ≡ w.committed = omega arith in
+    λ t. record { reads = reads t; spills = spills t; commits = commits t; committed = committed t }
 
 pub wear_assoc : (a b c : Wear) → add_wear (add_wear a b) c ≡ add_wear a (add_wear b c)
 wear_assoc a b c =
-    let writes : a.writes + b.writes + c.writes ≡ a.writes + (b.writes + c.writes) = omega arith in
-    let syncs : a.syncs + b.syncs + c.syncs ≡ a.syncs + (b.syncs + c.syncs) = omega arith in
     let reads : a.reads + b.reads + c.reads ≡ a.reads + (b.reads + c.reads) = omega arith in
-    λ t. record { writes = writes t; syncs = syncs t; reads = reads t }
+    let spills : a.spills + b.spills + c.spills ≡ a.spills + (b.spills + c.spills) = omega arith in
+    let commits : a.commits + b.commits + c.commits ≡ a.commits + (b.commits + c.commits) = omega arith in
+    let committed : a.committed + b.committed + c.committed ≡ a.committed + (b.committed + c.committed) = omega arith in
+    λ t. record { reads = reads t; spills = spills t; commits = commits t; committed = committed t }
 
 module _ {D : Type 0} (G : Ghosts D) where
+  -- so many blocks were read and spilled
+  pub wears_by : (d e : D) (reads spills : ℕ) → G.sector_count e ≡ G.sector_count d → BeginsAtMost G d e (2 * spills) 0 → ReadsAtMost G d e (2 * reads)
+      → WearsAtMost G d e (record { reads = reads; spills = spills; commits = 0; committed = 0 })
+  wears_by d e reads spills sectors begins few = record {
+    sectors = sectors;
+    begins = record { few_writes = omega (arith, begins.few_writes); few_syncs = omega (arith, begins.few_syncs) };
+    reads = omega (arith, few);
+  }
+
   pub wears_none : (d : D) → WearsAtMost G d d no_wear
-  wears_none d = record { begins = record { few_writes = omega arith; few_syncs = omega arith }; reads = omega arith }
+  wears_none d = wears_by d d 0 0 refl (record { few_writes = omega arith; few_syncs = omega arith }) (omega arith)
 
   pub wears_then : (a b d : D) (wear more : Wear) → WearsAtMost G a b wear → WearsAtMost G b d more → WearsAtMost G a d (add_wear wear more)
-  wears_then a b d wear more one two = record {
-    begins = record {
-      few_writes = omega (arith, one.begins.few_writes, two.begins.few_writes);
-      few_syncs = omega (arith, one.begins.few_syncs, two.begins.few_syncs);
-    };
-    reads = omega (arith, one.reads, two.reads);
-  }
+  wears_then a b d wear more one two =
+      let t = is_size (G.sector_count a) in
+      let begins = subst (λ n. BeginsAtMost G b d (writes_of (is_size n) more) (save_syncs (is_size n) * more.commits)) one.sectors two.begins in
+      let reads = subst (λ n. ReadsAtMost G b d (reads_of (is_size n) more)) one.sectors two.reads in
+      record {
+        sectors = two.sectors ∙ one.sectors;
+        begins = record {
+          few_writes = sum_writes t ((G.counts a).writes) ((G.counts b).writes) ((G.counts d).writes) one.begins.few_writes begins.few_writes;
+          few_syncs = sum_syncs t ((G.counts a).syncs) ((G.counts b).syncs) ((G.counts d).syncs) one.begins.few_syncs begins.few_syncs;
+        };
+        reads = sum_reads t ((G.counts a).reads) ((G.counts b).reads) ((G.counts d).reads) one.reads reads;
+      }
+    where
+      sum_writes : (t : Bool) (x y z : ℕ) → y ≤ x + writes_of t wear → z ≤ y + writes_of t more → z ≤ x + writes_of t (add_wear wear more)
+      sum_writes true x y z p q = omega (arith, p, q)
+      sum_writes false x y z p q = omega (arith, p, q)
+
+      sum_syncs : (t : Bool) (x y z : ℕ) → y ≤ x + save_syncs t * wear.commits → z ≤ y + save_syncs t * more.commits → z ≤ x + save_syncs t * (wear.commits + more.commits)
+      sum_syncs true x y z p q = omega (arith, p, q)
+      sum_syncs false x y z p q = omega (arith, p, q)
+
+      sum_reads : (t : Bool) (x y z : ℕ) → y ≤ x + reads_of t wear → z ≤ y + reads_of t more → z ≤ x + reads_of t (add_wear wear more)
+      sum_reads true x y z p q = omega (arith, p, q)
+      sum_reads false x y z p q = omega (arith, p, q)
 
 -- ---- what a save wears
 
@@ -51,11 +83,11 @@ abbrev pub spills_wear : List Assigned → Wear
 spills_wear [] = no_wear
 spills_wear (x ∷ xs) = add_wear spill_wear (spills_wear xs)
 
-pub spills_counted : (xs : List Assigned) → spills_wear xs ≡ record { writes = 2 * length xs; syncs = 0; reads = 0 }
+pub spills_counted : (xs : List Assigned) → spills_wear xs ≡ record { reads = 0; spills = length xs; commits = 0; committed = 0 }
 spills_counted [] = refl
 spills_counted (x ∷ xs) =
-    let writes : 2 + 2 * length xs ≡ 2 * suc (length xs) = omega arith in
-    ap (λ w. add_wear spill_wear w) (spills_counted xs) ∙ ap (λ n. record { writes = n; syncs = 0; reads = 0 }) writes
+    let spills : 1 + length xs ≡ suc (length xs) = omega arith in
+    ap (λ w. add_wear spill_wear w) (spills_counted xs) ∙ ap (λ n. record { reads = 0; spills = n; commits = 0; committed = 0 }) spills
 
 -- of a commit, where something is pending
 abbrev pub commit_wear_if : Bool → ℕ → Wear

@@ -1,5 +1,5 @@
 -- What a call of a block word does, by the words and by what a stop may leave.
-use Rattle.std.specs.Prelude.{◌≡◌, ℕ, ◌+◌, ◌++◌, Bool, true, false, List, [], ◌∷◌, Result, Ok, Err}
+use Rattle.std.specs.Prelude.{◌≡◌, ℕ, ◌+◌, ◌++◌, Bool, true, false, List, [], ◌∷◌, Result, Ok, Err, ◌*◌}
 use Rattle.sector_disk.specs.Counting.{count_up}
 use Rattle.sector_disk.specs.Disk.{MayLeave}
 use Rattle.sector_disk.specs.Moments.{LeavesOnly}
@@ -12,6 +12,8 @@ use Rattle.stores.specs.Store.{StandsFor, device_of}
 use Rattle.block_buffers.specs.Buffers.{Buffers}
 use Rattle.block_words.specs.declared.buffered_blocks.BlockFault.{BlockFault}
 use Rattle.block_words.specs.declared.buffered_blocks.BlockFault.TheVariants.{Device}
+use Rattle.recovery.specs.Label.{is_size}
+use Rattle.stores.specs.Costs.{each_reads, each_writes, more_writes, save_syncs}
 use Rattle.block_words.specs.Words.{Answer, Save, Wear, add_wear, Blocks, BlockOutcome, Gives, Fails}
 use Rattle.block_words.specs.Kept.{KeptFrom, last_map}
 
@@ -51,11 +53,20 @@ pub record WordRuns {A : Type 0} (word : Blocks → BlockOutcome A) (result : Re
       → word (state m buffers space (answers ++ rest) failures before saves)
       ≡ ended result (state m' buffers' space' rest (failures_after result failures) (add_wear before wear) (saves ++ made))
 
+-- the writes of so many spills, and of these commits
+abbrev pub writes_of : Bool → Wear → ℕ
+writes_of older wear = 2 * wear.spills + (each_writes older * wear.committed + more_writes older * wear.commits)
+
+abbrev pub reads_of : Bool → Wear → ℕ
+reads_of older wear = 2 * wear.reads + each_reads older * wear.committed
+
 module _ {D : Type 0} (G : Ghosts D) where
-  -- The device began no more calls of each kind than these.
+  -- The device began no more calls of each kind than these take by the layout that its size tells, which it keeps: two for each
+  -- block that is read or spilled, and what a commit takes.
   pub record WearsAtMost (old new : D) (wear : Wear) : Type 0 where
-    pub begins : BeginsAtMost G old new wear.writes wear.syncs
-    pub reads : ReadsAtMost G old new wear.reads
+    pub sectors : G.sector_count new ≡ G.sector_count old
+    pub begins : BeginsAtMost G old new (writes_of (is_size (G.sector_count old)) wear) (save_syncs (is_size (G.sector_count old)) * wear.commits)
+    pub reads : ReadsAtMost G old new (reads_of (is_size (G.sector_count old)) wear)
 
   -- An open store keeps its saves from the call's start; a closed one adds nothing to what a stop may leave.
   abbrev pub CallLeaves : (closed : Bool) → (old new : D) → List (List ℕ) → List Save → Type 0

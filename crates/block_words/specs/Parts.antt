@@ -41,6 +41,6 @@ module _ {D : Type 0} (G : Ghosts D) where
   abbrev pub FewAreUpdated : Type 0
   FewAreUpdated = (blocks : Blocks D G) → length (updated_ones (buffers_of blocks)) ≤ 4
 
-  -- Each updated buffer is that of another changed block. So a save of n changed blocks begins 4n + 3 writes or fewer.
+  -- Each updated buffer is that of another changed block. So a save of n changed blocks begins 4n + 3 writes or fewer by layout 2, 3n + 2 by layout 3.
   abbrev pub UpdatedAreChanged : Type 0
   UpdatedAreChanged = (blocks : Blocks D G) → length (updated_ones (buffers_of blocks)) ≤ changed_count (store_of blocks) (buffers_of blocks)

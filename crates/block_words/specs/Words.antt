@@ -17,19 +17,25 @@ pub record Save : Type 0 where
   pub map : List (List ℕ)
   pub returned : Bool
 
--- how many calls of each kind the device may have begun at most
+-- how many blocks may have been read and spilled at most, how many commits may have been begun, and of how many blocks in all
 pub record Wear : Type 0 where
-  pub writes : ℕ
-  pub syncs : ℕ
   pub reads : ℕ
+  pub spills : ℕ
+  pub commits : ℕ
+  pub committed : ℕ
 
 abbrev pub no_wear : Wear
-no_wear = record { writes = 0; syncs = 0; reads = 0 }
+no_wear = record { reads = 0; spills = 0; commits = 0; committed = 0 }
 
 -- of one thing and then another
 abbrev pub add_wear : Wear → Wear → Wear
 add_wear wear more =
-    record { writes = wear.writes + more.writes; syncs = wear.syncs + more.syncs; reads = wear.reads + more.reads }
+    record {
+      reads = wear.reads + more.reads;
+      spills = wear.spills + more.spills;
+      commits = wear.commits + more.commits;
+      committed = wear.committed + more.committed;
+    }
 
 -- store, buffers, data space, what the device will answer, how often it failed, its wear, and the saves so far
 pub record Blocks : Type 0 where
@@ -80,13 +86,13 @@ view_of None s b = contents s.maps b
 abbrev pub view : Blocks → ℕ → List ℕ
 view s b = view_of (assigned s.buffers.list b) s b
 
--- both halves of a block are read
+-- a block is read
 abbrev pub read_wear : Wear
-read_wear = record { writes = 0; syncs = 0; reads = 2 }
+read_wear = record { reads = 1; spills = 0; commits = 0; committed = 0 }
 
--- a spill writes both halves of a block
+-- a block is spilled
 abbrev pub spill_wear : Wear
-spill_wear = record { writes = 2; syncs = 0; reads = 0 }
+spill_wear = record { reads = 0; spills = 1; commits = 0; committed = 0 }
 
 -- a spill of one buffer
 abbrev pub spill : {A : Type 0} → Assigned → Blocks → (Blocks → BlockOutcome A) → BlockOutcome A
@@ -171,10 +177,9 @@ pending_number [] = 0
 pending_number (Some bytes ∷ pending) = pending_number pending + 1
 pending_number (None ∷ pending) = pending_number pending
 
--- a commit writes each pending block to its home, a record, and the gate twice; it reads each of these blocks twice, for
--- the digest and for the home
+-- so many blocks are committed
 abbrev pub commit_wear : ℕ → Wear
-commit_wear blocks = record { writes = 2 * blocks + 3; syncs = 4; reads = 4 * blocks }
+commit_wear blocks = record { reads = 0; spills = 0; commits = 1; committed = blocks }
 
 -- a commit of nothing makes no call of the device
 abbrev pub commit : Bool → Blocks → (Blocks → BlockOutcome (Unit {0})) → BlockOutcome (Unit {0})

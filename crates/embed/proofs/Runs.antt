@@ -6,6 +6,7 @@ use Rattle.sector_disk.specs.Moments.{Elapses}
 use Rattle.stores.specs.declared.store.Store.{Store}
 use Rattle.journal.specs.Maps.{fresh}
 use Rattle.stores.specs.Store.{StandsFor, device_of}
+use Rattle.stores.specs.Suits.{suits}
 use Rattle.block_words.specs.Words.{Save}
 use Rattle.interpreter.specs.State.{Forth}
 use Rattle.interpreter.specs.Promise.{Keeps}
@@ -59,7 +60,7 @@ module _ {D A : Type 0} (G : Ghosts D) (device : D) (steps : ℕ) (left left' wr
       × IfErr outcome (λ fault. BreaksOff G fault (system_on G steps device) closing left left' written written' (device_of store) (device_of end) made)
 
   pub has_run : (after : D) (store end : Store D G) (outcome : Result A RunFault) (done : A) → outcome ≡ Ok done → after ≡ device_of end
-      → OpensOn G device store → Becomes G (device_of store) (device_of end) → (IsTrue (G.keeps_model device) → Ends store end outcome)
+      → OpensOn G device store → Becomes G (device_of store) (device_of end) → (IsTrue (suits G device) → Ends store end outcome)
       → RunsSession G steps left left' written written' device after
   has_run after store end outcome done well is opens goes ends =
       subst (RunsSession G steps left left' written written' device) (sym is) (record {
@@ -77,7 +78,7 @@ module _ {D A : Type 0} (G : Ghosts D) (device : D) (steps : ℕ) (left left' wr
       })
 
   pub has_broken : (after : D) (store end : Store D G) (outcome : Result A RunFault) (fault told : RunFault) → outcome ≡ Err fault → fault ≡ told
-      → after ≡ device_of end → OpensOn G device store → Becomes G (device_of store) (device_of end) → IsTrue (G.keeps_model device) → Ends store end outcome
+      → after ≡ device_of end → OpensOn G device store → Becomes G (device_of store) (device_of end) → IsTrue (suits G device) → Ends store end outcome
       → BreaksSession G told steps left left' written written' device after
   has_broken after store end outcome fault told broken is at opens goes keeps ended =
       subst (λ d. BreaksSession G told steps left left' written written' device d) (sym at) (subst (λ it. BreaksSession G it steps left left' written written' device (device_of end)) is (record {
@@ -97,7 +98,7 @@ module _ {D F A : Type 0} (G : Ghosts D) (stands : F → Forth → Type 0) (soun
     (before after : F) (at : before ≡ begun.over.system) (end : D) (ends : EndsOn G stands at_device after end) (outcome : Result A RunFault)
     (ok : OnOk outcome (Runs G stands at_device before after (λ opening closing made. Completes G opening closing left left' written written' (at_device before) (at_device after) made)))
     (err : IfErr outcome (λ fault. Runs G stands at_device before after (λ opening closing made. BreaksOff G fault opening closing left left' written written' (at_device before) (at_device after) made)))
-    (time : Elapses G.time G.left_since (at_device before) (at_device after)) (model : G.keeps_model (at_device after) ≡ G.keeps_model (at_device before))
+    (time : Elapses G.time G.left_since (at_device before) (at_device after)) (model : suits G (at_device after) ≡ suits G (at_device before))
     (failures : G.failures (at_device before) ≤ G.failures (at_device after))
   where
     first : at_device before ≡ device_of begun.store
@@ -113,10 +114,10 @@ module _ {D F A : Type 0} (G : Ghosts D) (stands : F → Forth → Type 0) (soun
       failures = rw (first, last) at failures;
     }
 
-    stood : IsTrue (G.keeps_model device) → stands before (system_on G steps device)
+    stood : IsTrue (suits G device) → stands before (system_on G steps device)
     stood keeps = subst (λ f. stands f (system_on G steps device)) (sym at) (begun.over.begins (fresh (meant_by G device)) (begun.opens.stands keeps))
 
-    run_ends : IsTrue (G.keeps_model device) → Ends G device steps left left' written written' begun.store ends.store outcome
+    run_ends : IsTrue (suits G device) → Ends G device steps left left' written written' begun.store ends.store outcome
     run_ends keeps =
         let well = rw (first, last) at ok in
         let broken = rw (first, last) at err in
@@ -125,7 +126,7 @@ module _ {D F A : Type 0} (G : Ghosts D) (stands : F → Forth → Type 0) (soun
     pub ran : (done : A) → outcome ≡ Ok done → RunsSession G steps left left' written written' device end
     ran done well = has_run G device steps left left' written written' end begun.store ends.store outcome done well ends.left begun.opens goes run_ends
 
-    pub broke : (fault told : RunFault) → outcome ≡ Err fault → fault ≡ told → IsTrue (G.keeps_model device)
+    pub broke : (fault told : RunFault) → outcome ≡ Err fault → fault ≡ told → IsTrue (suits G device)
         → BreaksSession G told steps left left' written written' device end
     broke fault told broken is keeps =
         has_broken G device steps left left' written written' end begun.store ends.store outcome fault told broken is ends.left begun.opens goes keeps (run_ends keeps)

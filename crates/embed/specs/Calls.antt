@@ -10,6 +10,7 @@ use Rattle.stores.specs.Store.{StandsFor, blocks_of, closed_of, device_of, is_pe
 use Rattle.shadow.specs.Upgraded.{known_blocks}
 use Rattle.stores.specs.Images.{Means, meaning}
 use Rattle.stores.specs.Opened.{OpeningLeaves}
+use Rattle.stores.specs.Suits.{suits}
 use Rattle.sessions.specs.Devices.{Becomes}
 use Rattle.embed.specs.declared.refusal.Refusal.{Refusal}
 use Rattle.embed.specs.Saving.{with_blocks}
@@ -58,8 +59,8 @@ module _ {D : Type 0} (G : Ghosts D) where
   pub record OpensOn (device : D) (store : Store D G) : Type 0 where
     pub size : blocks_of store ≡ blocks_on device
     pub sectors : G.sector_count (device_of store) ≡ G.sector_count device
-    pub stands : IsTrue (G.keeps_model device) → StandsFor store (fresh (meant_by device))
+    pub stands : IsTrue (suits G device) → StandsFor store (fresh (meant_by device))
     pub pending : (b : ℕ) → is_pending store b ≡ false
     pub closed : closed_of store ≡ false
     pub goes : Becomes G device (device_of store)
-    pub stops : IsTrue (G.keeps_model device) → StopsLeave G device (device_of store) (MayRecover device)
+    pub stops : IsTrue (suits G device) → StopsLeave G device (device_of store) (MayRecover device)

@@ -5,6 +5,7 @@ use Rattle.journal.specs.Calls.{StopsLeave}
 use Rattle.journal.specs.Maps.{Maps, fresh}
 use Rattle.stores.specs.Store.{StandsFor, device_of}
 use Rattle.stores.specs.declared.store.Store.{Store}
+use Rattle.stores.specs.Suits.{suits}
 use Rattle.block_words.specs.Words.{Save}
 use Rattle.interpreter.specs.State.{Forth}
 use Rattle.interpreter.specs.Lines.{new_forth}
@@ -33,8 +34,8 @@ module _ {D : Type 0} (G : Ghosts D) where
     pub begun : D
     pub goes : Becomes G device begun
     pub runs_on : Becomes G begun after
-    pub stops : IsTrue (G.keeps_model device) → StopsLeave G device begun (MayRecover G device)
-    pub runs : IsTrue (G.keeps_model device) → RunsFrom (system_on steps device) left left' written written' begun after
+    pub stops : IsTrue (suits G device) → StopsLeave G device begun (MayRecover G device)
+    pub runs : IsTrue (suits G device) → RunsFrom (system_on steps device) left left' written written' begun after
 
   -- The same, where input or output failed: the session broke off there.
   pub record BreaksSession (fault : RunFault) (steps : ℕ) (left left' written written' : Option (List ℕ)) (device after : D) : Type 0 where

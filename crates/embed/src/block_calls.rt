@@ -6,6 +6,7 @@ ghost use Rattle.journal.specs.Calls.{StopsLeave};
 ghost use Rattle.journal.specs.Layout.{sectors_for};
 ghost use Rattle.journal.specs.Maps.{Maps, block_in, contents, latest};
 ghost use Rattle.stores.specs.Store.{MeansBy, StandsFor, Continues, KeepsSaved, DeviceFailed, DeviceWentWell, blocks_of, closed_of, device_of};
+ghost use Rattle.stores.specs.Suits.{suits};
 ghost use Rattle.recovery.specs.Formatted.{FormatLeaves, blank_blocks};
 ghost use Rattle.recovery.specs.Label.{is_size_for};
 ghost use Rattle.recovery.specs.Opened.{first_of};
@@ -25,10 +26,10 @@ use stores::{Store, open};
 
 /// Makes an image of `blocks` blank blocks. A refusal hands the device back.
 pub fn make_image<D: SectorDevice>(device: D, blocks: u16) -> Result<D, (Refusal, D)>
-    ensures blank { IsTrue (D.keeps_model device)
+    ensures blank { IsTrue (D.keeps_sectors device)
         → IfOk result (λ after. LeavesOlder D.SectorDevice after (blank_blocks blocks)) }
     // At any moment a stop leaves no good label, or the blank image, or what was there.
-    ensures stops { IsTrue (D.keeps_model device) → (n : ℕ) → D.sector_count device ≡ sectors_for n
+    ensures stops { IsTrue (D.keeps_sectors device) → (n : ℕ) → D.sector_count device ≡ sectors_for n
         → StopsLeave D.SectorDevice device (device_after result) (FormatLeaves n (D.disk device)) }
     ensures sized { IfOk result (λ _. is_size_for blocks (D.sector_count device) ≡ true) }
     ensures refusal { IfErr result (λ e. MatchBool (is_size_for blocks (D.sector_count device))
@@ -53,16 +54,16 @@ pub fn opened<D: SectorDevice>(device: D) -> Result<Store<D>, (Refusal, D)>
     ensures unasked { IfErr result (λ e. e.0 ≡ Refusal.BadSize → e.1 ≡ device) }
     ensures image { IfErr result (λ e. IsOfImage e.0) }
     // Each refusal tells the first test that the image fails.
-    ensures exact { IsTrue (D.keeps_model device) → MatchResult result
+    ensures exact { IsTrue (suits D.SectorDevice device) → MatchResult result
         (λ _. refusal_of (D.sector_count device) (D.disk device).content ≡ None)
         (λ e. (e.0 ≡ Refusal.Device) ⊎ (refusal_of (D.sector_count device) (D.disk device).content ≡ Some e.0)) }
     ensures well { IfOk result (λ store. D.failures (device_of store) ≡ D.failures device) }
     ensures failed { IfErr result (λ e. e.0 ≡ Refusal.Device → D.failures e.1 ≡ count_up (D.failures device)) }
     ensures unfailed { IfErr result (λ e. e.0 ≢ Refusal.Device → D.failures e.1 ≡ D.failures device) }
-    ensures content { IsTrue (D.keeps_model device)
+    ensures content { IsTrue (suits D.SectorDevice device)
         → IfErr result (λ e. e.0 ≢ Refusal.Device → (D.disk e.1).content ≡ (D.disk device).content) }
     ensures goes { IfErr result (λ e. Becomes D.SectorDevice device e.1) }
-    ensures stops { IsTrue (D.keeps_model device) → IfErr result (λ e.
+    ensures stops { IsTrue (suits D.SectorDevice device) → IfErr result (λ e.
         StopsLeave D.SectorDevice device e.1 (MayRecover D.SectorDevice device)) }
 {
     match open(device) {
@@ -73,21 +74,21 @@ pub fn opened<D: SectorDevice>(device: D) -> Result<Store<D>, (Refusal, D)>
 
 /// Finishes what a stop has left half done. A refusal hands the device back.
 pub fn recover<D: SectorDevice>(device: D) -> Result<D, (Refusal, D)>
-    ensures ok { IsTrue (D.keeps_model device)
+    ensures ok { IsTrue (suits D.SectorDevice device)
         → IfOk result (λ after. LeavesBlocks D.SectorDevice after (meant_by D.SectorDevice device)) }
-    ensures stops { IsTrue (D.keeps_model device)
+    ensures stops { IsTrue (suits D.SectorDevice device)
         → StopsLeave D.SectorDevice device (device_after result) (MayRecover D.SectorDevice device) }
     ensures sized { IfOk result (λ _. is_known_size (D.sector_count device) ≡ true) }
     ensures bad_size { IfErr result (λ e. MatchBool (is_known_size (D.sector_count device))
         (e.0 ≢ Refusal.BadSize) (e.0 ≡ Refusal.BadSize)) }
     ensures unasked { IfErr result (λ e. e.0 ≡ Refusal.BadSize → e.1 ≡ device) }
-    ensures exact { IsTrue (D.keeps_model device) → MatchResult result
+    ensures exact { IsTrue (suits D.SectorDevice device) → MatchResult result
         (λ _. refusal_of (D.sector_count device) (D.disk device).content ≡ None)
         (λ e. (e.0 ≡ Refusal.Device) ⊎ (refusal_of (D.sector_count device) (D.disk device).content ≡ Some e.0)) }
     ensures well { IfOk result (λ after. D.failures after ≡ D.failures device) }
     ensures failed { IfErr result (λ e. e.0 ≡ Refusal.Device → D.failures e.1 ≡ count_up (D.failures device)) }
     ensures unfailed { IfErr result (λ e. e.0 ≢ Refusal.Device → D.failures e.1 ≡ D.failures device) }
-    ensures content { IsTrue (D.keeps_model device)
+    ensures content { IsTrue (suits D.SectorDevice device)
         → IfErr result (λ e. e.0 ≢ Refusal.Device → (D.disk e.1).content ≡ (D.disk device).content) }
     ensures goes { Becomes D.SectorDevice device (device_after result) }
 {
@@ -99,25 +100,25 @@ pub fn recover<D: SectorDevice>(device: D) -> Result<D, (Refusal, D)>
 
 /// Reads block `block` into `out`, of 1,024 bytes. A refusal hands the device back, and leaves `out`.
 pub fn read_block<D: SectorDevice>(device: D, block: u16, out: &mut [u8]) -> Result<D, (Refusal, D)>
-    ensures bytes { IsTrue (D.keeps_model device)
+    ensures bytes { IsTrue (suits D.SectorDevice device)
         → OnOk result (out.new ≡ block_in (meant_by D.SectorDevice device) block) }
     ensures kept { OnErr result (out.new ≡ out.old) }
-    ensures same { IsTrue (D.keeps_model device)
+    ensures same { IsTrue (suits D.SectorDevice device)
         → IfOk result (λ after. LeavesBlocks D.SectorDevice after (meant_by D.SectorDevice device)) }
-    ensures stops { IsTrue (D.keeps_model device)
+    ensures stops { IsTrue (suits D.SectorDevice device)
         → StopsLeave D.SectorDevice device (device_after result) (KeepsBlocks D.SectorDevice device) }
     // What is wrong with the arguments is told first, with no call of the device.
     ensures arguments { IfSome (read_refusal (D.sector_count device) block (length out.old))
         (λ e. result ≡ Err (e, device)) }
     ensures fits { OnOk result (read_refusal (D.sector_count device) block (length out.old) ≡ None) }
-    ensures exact { IsTrue (D.keeps_model device) → MatchResult result
+    ensures exact { IsTrue (suits D.SectorDevice device) → MatchResult result
         (λ _. refusal_of (D.sector_count device) (D.disk device).content ≡ None)
         (λ e. (e.0 ≡ Refusal.Device) ⊎ (first_of (read_refusal (D.sector_count device) block (length out.old))
         (refusal_of (D.sector_count device) (D.disk device).content) ≡ Some e.0)) }
     ensures well { IfOk result (λ after. D.failures after ≡ D.failures device) }
     ensures failed { IfErr result (λ e. e.0 ≡ Refusal.Device → D.failures e.1 ≡ count_up (D.failures device)) }
     ensures unfailed { IfErr result (λ e. e.0 ≢ Refusal.Device → D.failures e.1 ≡ D.failures device) }
-    ensures content { IsTrue (D.keeps_model device)
+    ensures content { IsTrue (suits D.SectorDevice device)
         → IfErr result (λ e. e.0 ≢ Refusal.Device → (D.disk e.1).content ≡ (D.disk device).content) }
     ensures goes { Becomes D.SectorDevice device (device_after result) }
 {
@@ -162,23 +163,23 @@ pub fn save_blocks<D: SectorDevice>(
     blocks: &[u16],
     bytes: &[u8],
 ) -> Result<D, (Refusal, D)>
-    ensures saved { IsTrue (D.keeps_model device) → IfOk result (λ after.
+    ensures saved { IsTrue (suits D.SectorDevice device) → IfOk result (λ after.
         LeavesBlocks D.SectorDevice after (with_blocks (meant_by D.SectorDevice device) blocks.now bytes.now)) }
     // A stop at any moment leaves all of them or none.
-    ensures stops { IsTrue (D.keeps_model device) → StopsLeave D.SectorDevice device (device_after result)
+    ensures stops { IsTrue (suits D.SectorDevice device) → StopsLeave D.SectorDevice device (device_after result)
         (AllOrNone D.SectorDevice device blocks.now bytes.now) }
     // What is wrong with the arguments is told first, with no call of the device.
     ensures arguments { IfSome (save_refusal (D.sector_count device) blocks.now (length bytes.now))
         (λ e. result ≡ Err (e, device)) }
     ensures fits { OnOk result (save_refusal (D.sector_count device) blocks.now (length bytes.now) ≡ None) }
-    ensures exact { IsTrue (D.keeps_model device) → MatchResult result
+    ensures exact { IsTrue (suits D.SectorDevice device) → MatchResult result
         (λ _. refusal_of (D.sector_count device) (D.disk device).content ≡ None)
         (λ e. (e.0 ≡ Refusal.Device) ⊎ (first_of (save_refusal (D.sector_count device) blocks.now (length bytes.now))
         (refusal_of (D.sector_count device) (D.disk device).content) ≡ Some e.0)) }
     ensures well { IfOk result (λ after. D.failures after ≡ D.failures device) }
     ensures failed { IfErr result (λ e. e.0 ≡ Refusal.Device → D.failures e.1 ≡ count_up (D.failures device)) }
     ensures unfailed { IfErr result (λ e. e.0 ≢ Refusal.Device → D.failures e.1 ≡ D.failures device) }
-    ensures content { IsTrue (D.keeps_model device)
+    ensures content { IsTrue (suits D.SectorDevice device)
         → IfErr result (λ e. e.0 ≢ Refusal.Device → (D.disk e.1).content ≡ (D.disk device).content) }
     ensures goes { Becomes D.SectorDevice device (device_after result) }
 {

@@ -10,7 +10,7 @@ use sector_disk::{Counts, DeviceFault, SectorDevice};
 
 /// A device of sectors at whose other end a host is: a sector is asked for, and then its bytes are moved.
 ///
-/// Over a host that keeps the disk model it keeps it too.
+/// Over a host that keeps the disk model it keeps it too, and by sectors over one that keeps it so.
 #[derive(Drop)]
 pub struct HostDisk<H: Host> {
     host: H,
@@ -39,6 +39,8 @@ impl<H: Host> SectorDevice for HostDisk<H> {
 
     ghost keeps_model = { λ d. H.keeps_model d.host };
 
+    ghost keeps_sectors = { λ d. H.keeps_sectors d.host };
+
     ghost disk = { λ d. H.disk d.host };
 
     ghost time = { λ d. H.time d.host };
@@ -50,6 +52,10 @@ impl<H: Host> SectorDevice for HostDisk<H> {
     ghost counts = { λ d. d.counts };
 
     ghost present = { λ d keeps. H.present d.host keeps };
+
+    ghost keeps_both = { λ d keeps. H.keeps_both d.host keeps };
+
+    ghost by_pages = { λ d keeps. H.by_pages d.host keeps };
 
     ghost by_sectors = { λ d k keeps. H.by_sectors d.host k keeps };
 
@@ -87,6 +93,7 @@ fn read_sector<H: Host>(host: &mut H, k: u32, out: &mut [u8; 512]) -> bool
     ensures bytes { IsTrue (H.keeps_model host.old) → OnTrue result (out.new ≡ (H.disk host.old).content k) }
     ensures disk { H.disk host.new ≡ H.disk host.old }
     ensures model { H.keeps_model host.new ≡ H.keeps_model host.old }
+    ensures units { H.keeps_sectors host.new ≡ H.keeps_sectors host.old }
     ensures time { Elapses H.time H.left_since host.old host.new }
     ensures stops { LeavesOnly H.time H.left_since host.old host.new
         (MayLeaveEither (H.disk host.old) (H.disk host.new)) }
@@ -101,6 +108,7 @@ fn write_sector<H: Host>(host: &mut H, k: u32, bytes: &[u8; 512]) -> bool
     ensures undone { IsTrue (H.keeps_model host.old)
         → OnFalse result (MayWrite k (H.disk host.old) (H.disk host.new)) }
     ensures model { H.keeps_model host.new ≡ H.keeps_model host.old }
+    ensures units { H.keeps_sectors host.new ≡ H.keeps_sectors host.old }
     ensures time { Elapses H.time H.left_since host.old host.new }
     ensures stops { LeavesOnly H.time H.left_since host.old host.new
         (MayLeaveEither (H.disk host.old) (H.disk host.new)) }

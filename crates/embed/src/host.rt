@@ -4,6 +4,7 @@ ghost use Rattle.std.specs.Int.{to_le_bytes, w32};
 ghost use Rattle.std.specs.Bool.{OnTrue, OnFalse};
 ghost use Rattle.sector_disk.specs.Disk.{Disk, Image, MayLeave, MayLeaveEither, MayWrite, SettlesNothing, settled, written};
 ghost use Rattle.sector_disk.specs.Moments.{Elapses, LeavesOnly};
+ghost use Rattle.sector_disk.specs.Pages.{IsPaged};
 ghost use Rattle.embed.specs.Requests.{request_bytes};
 ghost use Rattle.embed.specs.declared.host.Request.TheVariants.{Read, Write, Sync};
 
@@ -45,8 +46,11 @@ fn in_bytes(letter: u8, sector: u32) -> [u8; 8]
 ///
 /// The clauses with the premise `keeps_model` are what has to be assumed of a host. No device is asked for anything else.
 pub trait Host {
-    /// Whether it keeps the disk model.
+    /// Whether it keeps the disk model: a write may spoil its unit, which lies in a page of eight sectors.
     ghost keeps_model: { Self → Bool };
+
+    /// Whether it keeps the disk model by sectors: a write spoils its own sector alone.
+    ghost keeps_sectors: { Self → Bool };
 
     /// What it holds.
     ghost disk: { Self → Disk };
@@ -70,6 +74,7 @@ pub trait Host {
         ensures reading { (k : ℕ) → request.now ≡ request_bytes (Read k) → disk self.new ≡ disk self.old }
         ensures writing { (k : ℕ) → request.now ≡ request_bytes (Write k) → disk self.new ≡ disk self.old }
         ensures model { keeps_model self.new ≡ keeps_model self.old }
+        ensures units { keeps_sectors self.new ≡ keeps_sectors self.old }
         ensures time { Elapses time left_since self.old self.new }
         ensures stops { LeavesOnly time left_since self.old self.new (MayLeaveEither (disk self.old) (disk self.new)) };
 
@@ -79,6 +84,7 @@ pub trait Host {
             → OnTrue result (out.new ≡ (disk self.old).content k) }
         ensures disk { disk self.new ≡ disk self.old }
         ensures model { keeps_model self.new ≡ keeps_model self.old }
+        ensures units { keeps_sectors self.new ≡ keeps_sectors self.old }
         ensures time { Elapses time left_since self.old self.new }
         ensures stops { LeavesOnly time left_since self.old self.new (MayLeaveEither (disk self.old) (disk self.new)) };
 
@@ -89,14 +95,21 @@ pub trait Host {
         ensures undone { IsTrue (keeps_model self.old) → (k : ℕ) → k < 2 ^ 32 → asked self.old ≡ request_bytes (Write k)
             → OnFalse result (MayWrite k (disk self.old) (disk self.new)) }
         ensures model { keeps_model self.new ≡ keeps_model self.old }
+        ensures units { keeps_sectors self.new ≡ keeps_sectors self.old }
         ensures time { Elapses time left_since self.old self.new }
         ensures stops { LeavesOnly time left_since self.old self.new (MayLeaveEither (disk self.old) (disk self.new)) };
 
     /// A stop now may leave the present content.
     ghost present: { (h : Self) → IsTrue (keeps_model h) → MayLeave (disk h) (disk h).content };
 
-    /// Each sector is a unit of its own: a write spoils no other one.
-    ghost by_sectors: { (h : Self) (k : ℕ) → IsTrue (keeps_model h) → (disk h).unit k ≡ k };
+    /// Which keeps the disk model by sectors keeps it.
+    ghost keeps_both: { (h : Self) → IsTrue (keeps_sectors h) → IsTrue (keeps_model h) };
+
+    /// Sectors of one unit lie in one page: a write spoils no sector of another page.
+    ghost by_pages: { (h : Self) → IsTrue (keeps_model h) → IsPaged (disk h) };
+
+    /// By sectors each one is a unit of its own: a write spoils no other one.
+    ghost by_sectors: { (h : Self) (k : ℕ) → IsTrue (keeps_sectors h) → (disk h).unit k ≡ k };
 
     /// A stop now counts since any time until now.
     ghost counts_now: { (h : Self) (t : ℕ) (c : Image) → t ≤ time h → MayLeave (disk h) c → left_since h t c };
@@ -128,6 +141,8 @@ impl Host for Numbered {
 
     ghost keeps_model = { λ h. false };
 
+    ghost keeps_sectors = { λ h. false };
+
     ghost disk = { λ h. record { content = λ k. []; synced = λ k. []; unsynced = λ k. true; unit = λ k. k } };
 
     ghost asked = { λ h. [] };
@@ -137,6 +152,10 @@ impl Host for Numbered {
     ghost left_since = { λ h t c. Unit {0} };
 
     ghost present = { λ h keeps k synced. Prim.cc };
+
+    ghost keeps_both = { λ h keeps. keeps };
+
+    ghost by_pages = { λ h keeps. Prim.cc };
 
     ghost by_sectors = { λ h k keeps. Prim.cc };
 

@@ -18,6 +18,7 @@ impl MemoryHost {
     /// A host that holds this disk, and was asked for nothing yet.
     pub fn new(disk: MemoryDisk) -> MemoryHost
         ensures model { IsTrue (⟦<MemoryHost as Host>⟧.keeps_model result) }
+        ensures units { IsTrue (⟦<MemoryHost as Host>⟧.keeps_sectors result) }
         ensures disk { ⟦<MemoryHost as Host>⟧.disk result ≡ held disk }
     {
         MemoryHost {
@@ -45,8 +46,11 @@ impl MemoryHost {
 impl Host for MemoryHost {
     ghost use Rattle.std.specs.Prelude.{true};
     ghost use Rattle.sector_disk.specs.Laws.{present_of};
+    ghost use Rattle.sector_disk.specs.Pages.{IsPaged, paged_by_sectors};
 
     ghost keeps_model = { λ h. true };
+
+    ghost keeps_sectors = { λ h. true };
 
     ghost disk = { λ h. held h.disk };
 
@@ -58,6 +62,10 @@ impl Host for MemoryHost {
     ghost left_since = { λ h t c. MayLeave (held h.disk) c };
 
     ghost present = { λ h keeps. present_of h.disk.sectors.items };
+
+    ghost keeps_both = { λ h keeps. keeps };
+
+    ghost by_pages = { λ h keeps. paged_by_sectors (held h.disk) (λ k. Prim.cc) };
 
     ghost by_sectors = { λ h k keeps. Prim.cc };
 

@@ -3,6 +3,7 @@ ghost use Rattle.std.specs.Prelude.{◌≡◌, ◌≢◌, ◌⊎◌, ◌↔◌, 
 ghost use Rattle.sector_disk.specs.Counting.{count_up};
 ghost use Rattle.journal.specs.Calls.{StopsLeave};
 ghost use Rattle.stores.specs.Store.{device_of};
+ghost use Rattle.stores.specs.Suits.{suits};
 ghost use Rattle.shadow.specs.Label.{is_known_size};
 ghost use Rattle.sessions.specs.declared.run_fault.RunFault.TheVariants.{Read as ReadFault, Write as WriteFault};
 ghost use Rattle.sessions.specs.Devices.{Becomes};
@@ -33,10 +34,10 @@ pub fn run_image<D: SectorDevice + Drop, R: Read, W: Write>(
     ensures ran { IfOk result (λ after. RunsSession D.SectorDevice steps (R.remaining input.old) (R.remaining input.new)
         (W.contents output.old) (W.contents output.new) device after) }
     // Where input or output failed: that session up to there.
-    ensures input { IsTrue (D.keeps_model device) → IfErr result (λ e. e.0 ≡ Refusal.Input
+    ensures input { IsTrue (suits D.SectorDevice device) → IfErr result (λ e. e.0 ≡ Refusal.Input
         → BreaksSession D.SectorDevice ReadFault steps (R.remaining input.old) (R.remaining input.new)
         (W.contents output.old) (W.contents output.new) device e.1) }
-    ensures output { IsTrue (D.keeps_model device) → IfErr result (λ e. e.0 ≡ Refusal.Output
+    ensures output { IsTrue (suits D.SectorDevice device) → IfErr result (λ e. e.0 ≡ Refusal.Output
         → BreaksSession D.SectorDevice WriteFault steps (R.remaining input.old) (R.remaining input.new)
         (W.contents output.old) (W.contents output.new) device e.1) }
     ensures steps { MatchResult result (λ _. steps ≢ 0) (λ e. (e.0 ≡ Refusal.NoSteps) ↔ (steps ≡ 0)) }
@@ -46,22 +47,22 @@ pub fn run_image<D: SectorDevice + Drop, R: Read, W: Write>(
         (e.0 ≢ Refusal.BadSize) (e.0 ≡ Refusal.BadSize)) }
     ensures uncalled { IfErr result (λ e. e.0 ≡ Refusal.BadSize → e.1 ≡ device) }
     // An image is refused as at every other call.
-    ensures image { IsTrue (D.keeps_model device) → IfErr result (λ e. IsOfImage e.0
+    ensures image { IsTrue (suits D.SectorDevice device) → IfErr result (λ e. IsOfImage e.0
         → (e.0 ≡ Refusal.Device) ⊎ (refusal_of (D.sector_count device) (D.disk device).content ≡ Some e.0)) }
-    ensures opens { IsTrue (D.keeps_model device) → OnOk result (refusal_of (D.sector_count device) (D.disk device).content ≡ None) }
+    ensures opens { IsTrue (suits D.SectorDevice device) → OnOk result (refusal_of (D.sector_count device) (D.disk device).content ≡ None) }
     // Memory is asked for last: the image was well.
-    ensures memory { IsTrue (D.keeps_model device) → IfErr result (λ e. e.0 ≡ Refusal.NoMemory
+    ensures memory { IsTrue (suits D.SectorDevice device) → IfErr result (λ e. e.0 ≡ Refusal.NoMemory
         → refusal_of (D.sector_count device) (D.disk device).content ≡ None) }
     // Device is told where a call of the opening failed. A call that fails in the session is told in a reply.
     ensures failed { IfErr result (λ e. e.0 ≡ Refusal.Device → D.failures e.1 ≡ count_up (D.failures device)) }
     ensures unfailed { IfErr result (λ e. IsOfImage e.0 → e.0 ≢ Refusal.Device → D.failures e.1 ≡ D.failures device) }
-    ensures content { IsTrue (D.keeps_model device) → IfErr result (λ e. IsOfImage e.0 → e.0 ≢ Refusal.Device
+    ensures content { IsTrue (suits D.SectorDevice device) → IfErr result (λ e. IsOfImage e.0 → e.0 ≢ Refusal.Device
         → (D.disk e.1).content ≡ (D.disk device).content) }
     // Only where input or output failed was anything read or written before a refusal, and at another one a stop at any moment
     // leaves what one of a recovery may leave.
     ensures unread { IfErr result (λ e. e.0 ≢ Refusal.Input → e.0 ≢ Refusal.Output → input.new ≡ input.old) }
     ensures unwritten { IfErr result (λ e. e.0 ≢ Refusal.Input → e.0 ≢ Refusal.Output → output.new ≡ output.old) }
-    ensures recovers { IsTrue (D.keeps_model device) → IfErr result (λ e. e.0 ≢ Refusal.Input → e.0 ≢ Refusal.Output
+    ensures recovers { IsTrue (suits D.SectorDevice device) → IfErr result (λ e. e.0 ≢ Refusal.Input → e.0 ≢ Refusal.Output
         → StopsLeave D.SectorDevice device e.1 (MayRecover D.SectorDevice device)) }
     ensures goes { Becomes D.SectorDevice device (device_after result) }
 {
@@ -92,7 +93,7 @@ fn begun<D: SectorDevice + Drop, F: Lines<D> + Drop>(
 ) -> Result<Vec<F>, (Refusal, D)>
     requires steps { 0 < steps }
     ensures ok { IfOk result (λ room. BegunOn D.SectorDevice F.stands F.sound F.device steps device room.items) }
-    ensures opens { IsTrue (D.keeps_model device) → OnOk result (refusal_of (D.sector_count device) (D.disk device).content ≡ None) }
+    ensures opens { IsTrue (suits D.SectorDevice device) → OnOk result (refusal_of (D.sector_count device) (D.disk device).content ≡ None) }
     ensures steps { IfErr result (λ e. e.0 ≢ Refusal.NoSteps) }
     ensures input { IfErr result (λ e. e.0 ≢ Refusal.Input) }
     ensures output { IfErr result (λ e. e.0 ≢ Refusal.Output) }
@@ -100,15 +101,15 @@ fn begun<D: SectorDevice + Drop, F: Lines<D> + Drop>(
     ensures bad_size { IfErr result (λ e. MatchBool (is_known_size (D.sector_count device))
         (e.0 ≢ Refusal.BadSize) (e.0 ≡ Refusal.BadSize)) }
     ensures uncalled { IfErr result (λ e. e.0 ≡ Refusal.BadSize → e.1 ≡ device) }
-    ensures memory { IsTrue (D.keeps_model device) → IfErr result (λ e. e.0 ≡ Refusal.NoMemory
+    ensures memory { IsTrue (suits D.SectorDevice device) → IfErr result (λ e. e.0 ≡ Refusal.NoMemory
         → refusal_of (D.sector_count device) (D.disk device).content ≡ None) }
     ensures failed { IfErr result (λ e. e.0 ≡ Refusal.Device → D.failures e.1 ≡ count_up (D.failures device)) }
     ensures unfailed { IfErr result (λ e. IsOfImage e.0 → e.0 ≢ Refusal.Device → D.failures e.1 ≡ D.failures device) }
-    ensures content { IsTrue (D.keeps_model device) → IfErr result (λ e. IsOfImage e.0 → e.0 ≢ Refusal.Device
+    ensures content { IsTrue (suits D.SectorDevice device) → IfErr result (λ e. IsOfImage e.0 → e.0 ≢ Refusal.Device
         → (D.disk e.1).content ≡ (D.disk device).content) }
-    ensures image { IsTrue (D.keeps_model device) → IfErr result (λ e. IsOfImage e.0
+    ensures image { IsTrue (suits D.SectorDevice device) → IfErr result (λ e. IsOfImage e.0
         → (e.0 ≡ Refusal.Device) ⊎ (refusal_of (D.sector_count device) (D.disk device).content ≡ Some e.0)) }
-    ensures recovers { IsTrue (D.keeps_model device)
+    ensures recovers { IsTrue (suits D.SectorDevice device)
         → IfErr result (λ e. StopsLeave D.SectorDevice device e.1 (MayRecover D.SectorDevice device)) }
     ensures goes { IfErr result (λ e. Becomes D.SectorDevice device e.1) }
 {

@@ -1,22 +1,20 @@
 -- What a copy holds, and what a stop of its making leaves.
-use Rattle.std.proofs.Common.{◌≡◌, ◌≢◌, ◌⊎◌, inl, inr, ⊎_elim, ℕ, ◌+◌, ◌*◌, ◌-◌, ◌<◌, ◌≤◌, Bool, true, false, cond, List, [], ◌++◌, length, replicate, Option, Some, None, refl, sym, ◌∙◌, ap, subst, arith, IsTrue}
+use Rattle.std.proofs.Common.{◌≡◌, ◌≢◌, ◌⊎◌, inl, inr, ⊎_elim, ℕ, ◌+◌, ◌*◌, ◌-◌, ◌<◌, ◌≤◌, Bool, true, false, cond, List, [], ◌++◌, length, replicate, Option, Some, None, refl, sym, ◌∙◌, ap, subst, arith}
 use Rattle.std.specs.Prelude.{◌&&◌, not}
 use Rattle.std.proofs.lemmas.Bool.{cases_eq, cases_lt}
 use Rattle.std.proofs.lemmas.List.{length-append, length-replicate, get_or_append_left, get_or-append_right, get_or-replicate, append-nil}
 use Rattle.sector_disk.specs.Disk.{Disk, Image, MayLeave, written, settled}
-use Rattle.sector_disk.specs.declared.device.SectorDevice.{Ghosts}
-use Rattle.sector_disk.proofs.Moments.{sector_other, leaves_then}
+use Rattle.sector_disk.proofs.Moments.{sector_other}
 use Rattle.journal.specs.Images.{slot_of, home_of, block_of, blocks_below, meaning, is_true_record, is_damaged, Means}
 use Rattle.journal.specs.Layout.{fewest_blocks, most_blocks, sectors_for, label_of, gate_open, listed, home_at, InPair}
 use Rattle.journal.specs.Maps.{block_in}
 use Rattle.journal.specs.Steps.{WritesOnly, IsAsSynced}
 use Rattle.journal.proofs.Blocks.{same_below, at_below, length-below}
-use Rattle.journal.proofs.Calls.{Widens, proceeds_then}
 use Rattle.journal.proofs.Meaning.{pair_same}
 use Rattle.recovery.specs.Formatted.{MakingLeaves, blank_blocks}
 use Rattle.recovery.specs.Label.{blocks_in, is_size, label_refusal}
 use Rattle.recovery.specs.Opened.{damage_refusal, first_of, image_refusal}
-use Rattle.recovery.specs.Steps.{Sealed, OnlyRead}
+use Rattle.recovery.specs.Steps.{Sealed}
 use Rattle.recovery.specs.Upgraded.{of_old}
 use Rattle.recovery.specs.declared.fault.OpenFault.TheVariants.{BadSize}
 use Rattle.recovery.specs.declared.fault.UpgradeFault.{UpgradeFault}
@@ -164,23 +162,6 @@ all_there : (n : ℕ) (blocks : List (List ℕ)) → length blocks ≡ n → gro
 all_there n blocks long =
     let none : n - length blocks ≡ 0 = omega (arith, long) in
     ap (λ k. blocks ++ blank_blocks k) none ∙ append-nil blocks
-
--- A device was read, and then only read.
-pub only_read_then : {D : Type 0} (device : Ghosts D) (a b d : D) → Widens device → OnlyRead device a b → OnlyRead device b d → OnlyRead device a d
-only_read_then device a b d widens one two =
-    let honest : IsTrue (device.keeps_model a) → IsTrue (device.keeps_model b) = λ keeps. subst IsTrue (sym one.passes.model) keeps in
-    record {
-      disk = λ keeps. two.disk (honest keeps) ∙ one.disk keeps;
-      stops = λ keeps. leaves_then device.time device.left_since a b d
-          (MayLeave (device.disk a)) (MayLeave (device.disk b)) (MayLeave (device.disk a))
-          one.passes.time two.passes.time (one.stops keeps) (two.stops (honest keeps))
-          (λ x may. may) (λ x may. subst (λ (e : Disk). MayLeave e x) (one.disk keeps) may);
-      passes = proceeds_then device a b d widens one.passes two.passes;
-      begins = record {
-        few_writes = omega (arith, one.begins.few_writes, two.begins.few_writes);
-        few_syncs = omega (arith, one.begins.few_syncs, two.begins.few_syncs);
-      };
-    }
 
 -- What is carried to the new image, where the old one was only read before.
 pub carried_copy : (a b n : ℕ) (listing : Option (List ℕ)) (old now : Disk) → a ≡ n → now ≡ old → listing ≡ record_in old.content

@@ -25,11 +25,11 @@ fn carry_sector<A: SectorDevice, B: SectorDevice>(
 ) -> Result<(), UpgradeFault>
     requires readable { from < A.sector_count source.old }
     requires writable { to < B.sector_count target.old }
-    ensures ok { IsTrue (A.keeps_model source.old) → IsTrue (B.keeps_model target.old)
+    ensures ok { IsTrue (A.keeps_model source.old) → IsTrue (B.keeps_sectors target.old)
         → OnOk result (B.disk target.new ≡ written (B.disk target.old) to ((A.disk source.old).content from)) }
-    ensures only { IsTrue (B.keeps_model target.old)
+    ensures only { IsTrue (B.keeps_sectors target.old)
         → WritesOnly (λ k. k ≡ to) (B.disk target.old) (B.disk target.new) }
-    ensures stops { IsTrue (B.keeps_model target.old)
+    ensures stops { IsTrue (B.keeps_sectors target.old)
         → StopsLeave B.SectorDevice target.old target.new (IsAsSynced (λ k. k ≡ to) (B.disk target.old)) }
     ensures faults { IfErr result (TellsFault A.SectorDevice B.SectorDevice source.old source.new target.old target.new) }
     ensures well { OnOk result (WentWell A.SectorDevice B.SectorDevice source.old source.new target.old target.new) }
@@ -60,11 +60,11 @@ fn carry_block<A: SectorDevice, B: SectorDevice>(
     requires low { to < 2 ^ 16 }
     requires readable { from + 1 < A.sector_count source.old }
     requires writable { to + 1 < B.sector_count target.old }
-    ensures ok { IsTrue (A.keeps_model source.old) → IsTrue (B.keeps_model target.old)
+    ensures ok { IsTrue (A.keeps_model source.old) → IsTrue (B.keeps_sectors target.old)
         → OnOk result (pair_at (B.disk target.new).content to ≡ pair_at (A.disk source.old).content from) }
-    ensures only { IsTrue (B.keeps_model target.old)
+    ensures only { IsTrue (B.keeps_sectors target.old)
         → WritesOnly (InPair to) (B.disk target.old) (B.disk target.new) }
-    ensures stops { IsTrue (B.keeps_model target.old)
+    ensures stops { IsTrue (B.keeps_sectors target.old)
         → StopsLeave B.SectorDevice target.old target.new (IsAsSynced (InPair to) (B.disk target.old)) }
     ensures faults { IfErr result (TellsFault A.SectorDevice B.SectorDevice source.old source.new target.old target.new) }
     ensures well { OnOk result (WentWell A.SectorDevice B.SectorDevice source.old source.new target.old target.new) }
@@ -89,12 +89,12 @@ fn carry_blocks<A: SectorDevice, B: SectorDevice>(
     requires grows { blocks.number ≤ new_blocks.number }
     requires from { A.sector_count source.old ≡ sectors_for blocks.number }
     requires to { B.sector_count target.old ≡ sectors_for new_blocks.number }
-    ensures ok { IsTrue (A.keeps_model source.old) → IsTrue (B.keeps_model target.old)
+    ensures ok { IsTrue (A.keeps_model source.old) → IsTrue (B.keeps_sectors target.old)
         → OnOk result ((b : ℕ) → b < blocks.number
         → home_of new_blocks.number (B.disk target.new).content b ≡ found_in blocks.number listing.now (A.disk source.old).content b) }
-    ensures only { IsTrue (B.keeps_model target.old)
+    ensures only { IsTrue (B.keeps_sectors target.old)
         → WritesOnly (λ k. 3 + 2 * new_blocks.number ≤ k) (B.disk target.old) (B.disk target.new) }
-    ensures stops { IsTrue (B.keeps_model target.old)
+    ensures stops { IsTrue (B.keeps_sectors target.old)
         → StopsLeave B.SectorDevice target.old target.new (IsAsSynced (λ k. 3 + 2 * new_blocks.number ≤ k) (B.disk target.old)) }
     ensures faults { IfErr result (TellsFault A.SectorDevice B.SectorDevice source.old source.new target.old target.new) }
     ensures well { OnOk result (WentWell A.SectorDevice B.SectorDevice source.old source.new target.old target.new) }
@@ -123,12 +123,12 @@ fn fill_rest<D: SectorDevice>(
 ) -> Result<(), DeviceFault>
     requires grows { blocks.number ≤ new_blocks.number }
     requires size { D.sector_count device.old ≡ sectors_for new_blocks.number }
-    ensures ok { IsTrue (D.keeps_model device.old)
+    ensures ok { IsTrue (D.keeps_sectors device.old)
         → OnOk result ((k : ℕ) → 3 + 2 * new_blocks.number + 2 * blocks.number ≤ k → k < 3 + 4 * new_blocks.number
         → (D.disk device.new).content k ≡ replicate 512 32) }
-    ensures only { IsTrue (D.keeps_model device.old)
+    ensures only { IsTrue (D.keeps_sectors device.old)
         → WritesOnly (λ k. 3 + 2 * new_blocks.number + 2 * blocks.number ≤ k) (D.disk device.old) (D.disk device.new) }
-    ensures stops { IsTrue (D.keeps_model device.old)
+    ensures stops { IsTrue (D.keeps_sectors device.old)
         → StopsLeave D.SectorDevice device.old device.new (IsAsSynced (λ k. 3 + 2 * new_blocks.number + 2 * blocks.number ≤ k) (D.disk device.old)) }
     ensures passes { Passes D.SectorDevice device.old device.new result }
     ensures begins { BeginsAtMost D.SectorDevice device.old device.new (2 * (new_blocks.number - blocks.number)) 0 }
@@ -154,11 +154,11 @@ fn fill_homes<A: SectorDevice, B: SectorDevice>(
     requires grows { blocks.number ≤ new_blocks.number }
     requires from { A.sector_count source.old ≡ sectors_for blocks.number }
     requires to { B.sector_count target.old ≡ sectors_for new_blocks.number }
-    ensures ok { IsTrue (A.keeps_model source.old) → IsTrue (B.keeps_model target.old)
+    ensures ok { IsTrue (A.keeps_model source.old) → IsTrue (B.keeps_sectors target.old)
         → OnOk result (HasCarried blocks.number new_blocks.number (found_in blocks.number listing.now (A.disk source.old).content) (B.disk target.new).content) }
-    ensures only { IsTrue (B.keeps_model target.old)
+    ensures only { IsTrue (B.keeps_sectors target.old)
         → WritesOnly (λ k. 3 + 2 * new_blocks.number ≤ k) (B.disk target.old) (B.disk target.new) }
-    ensures stops { IsTrue (B.keeps_model target.old)
+    ensures stops { IsTrue (B.keeps_sectors target.old)
         → StopsLeave B.SectorDevice target.old target.new (IsAsSynced (λ k. 3 + 2 * new_blocks.number ≤ k) (B.disk target.old)) }
     ensures faults { IfErr result (TellsFault A.SectorDevice B.SectorDevice source.old source.new target.old target.new) }
     ensures well { OnOk result (WentWell A.SectorDevice B.SectorDevice source.old source.new target.old target.new) }
@@ -186,14 +186,14 @@ fn fill<A: SectorDevice, B: SectorDevice>(
     requires grows { blocks.number ≤ new_blocks.number }
     requires from { A.sector_count source.old ≡ sectors_for blocks.number }
     requires to { B.sector_count target.old ≡ sectors_for new_blocks.number }
-    ensures ok { IsTrue (A.keeps_model source.old) → IsTrue (B.keeps_model target.old)
+    ensures ok { IsTrue (A.keeps_model source.old) → IsTrue (B.keeps_sectors target.old)
         → OnOk result (HoldsBlocks new_blocks.number (carried_blocks blocks.number new_blocks.number listing.now (A.disk source.old).content)
         (B.disk target.new).content) }
-    ensures slots { IsTrue (B.keeps_model target.old)
+    ensures slots { IsTrue (B.keeps_sectors target.old)
         → OnOk result (KeepsSlots new_blocks.number (B.disk target.old).content (B.disk target.new).content) }
-    ensures only { IsTrue (B.keeps_model target.old)
+    ensures only { IsTrue (B.keeps_sectors target.old)
         → WritesOnly (λ k. k ≢ 0) (B.disk target.old) (B.disk target.new) }
-    ensures stops { IsTrue (B.keeps_model target.old)
+    ensures stops { IsTrue (B.keeps_sectors target.old)
         → StopsLeave B.SectorDevice target.old target.new (IsAsSynced (λ k. k ≢ 0) (B.disk target.old)) }
     ensures faults { IfErr result (TellsFault A.SectorDevice B.SectorDevice source.old source.new target.old target.new) }
     ensures well { OnOk result (WentWell A.SectorDevice B.SectorDevice source.old source.new target.old target.new) }
@@ -220,15 +220,15 @@ fn prepare<A: SectorDevice, B: SectorDevice>(
     requires grows { blocks.number ≤ new_blocks.number }
     requires from { A.sector_count source.old ≡ sectors_for blocks.number }
     requires to { B.sector_count target.old ≡ sectors_for new_blocks.number }
-    requires unlabelled { IsTrue (B.keeps_model target.old) → IsUnlabelled new_blocks.number (B.disk target.old) }
-    ensures ok { IsTrue (A.keeps_model source.old) → IsTrue (B.keeps_model target.old)
+    requires unlabelled { IsTrue (B.keeps_sectors target.old) → IsUnlabelled new_blocks.number (B.disk target.old) }
+    ensures ok { IsTrue (A.keeps_model source.old) → IsTrue (B.keeps_sectors target.old)
         → OnOk result (IsReady new_blocks.number (carried_blocks blocks.number new_blocks.number listing.now (A.disk source.old).content)
         (B.disk target.new)) }
-    ensures slots { IsTrue (B.keeps_model target.old)
+    ensures slots { IsTrue (B.keeps_sectors target.old)
         → OnOk result (KeepsSlots new_blocks.number (B.disk target.old).content (B.disk target.new).content) }
-    ensures synced { IsTrue (B.keeps_model target.old)
+    ensures synced { IsTrue (B.keeps_sectors target.old)
         → OnOk result ((k : ℕ) → (B.disk target.new).unsynced k ≡ false) }
-    ensures stops { IsTrue (B.keeps_model target.old)
+    ensures stops { IsTrue (B.keeps_sectors target.old)
         → StopsLeave B.SectorDevice target.old target.new (λ c. c 0 ≢ label_of new_blocks.number) }
     ensures faults { IfErr result (TellsFault A.SectorDevice B.SectorDevice source.old source.new target.old target.new) }
     ensures well { OnOk result (WentWell A.SectorDevice B.SectorDevice source.old source.new target.old target.new) }
@@ -256,13 +256,13 @@ fn write_image<A: SectorDevice, B: SectorDevice>(
     requires grows { blocks.number ≤ new_blocks.number }
     requires from { A.sector_count source.old ≡ sectors_for blocks.number }
     requires to { B.sector_count target.old ≡ sectors_for new_blocks.number }
-    requires unlabelled { IsTrue (B.keeps_model target.old) → IsUnlabelled new_blocks.number (B.disk target.old) }
-    ensures ok { IsTrue (A.keeps_model source.old) → IsTrue (B.keeps_model target.old)
+    requires unlabelled { IsTrue (B.keeps_sectors target.old) → IsUnlabelled new_blocks.number (B.disk target.old) }
+    ensures ok { IsTrue (A.keeps_model source.old) → IsTrue (B.keeps_sectors target.old)
         → OnOk result (IsWhole new_blocks.number (carried_blocks blocks.number new_blocks.number listing.now (A.disk source.old).content)
         (B.disk target.new)) }
-    ensures slots { IsTrue (B.keeps_model target.old)
+    ensures slots { IsTrue (B.keeps_sectors target.old)
         → OnOk result (KeepsSlots new_blocks.number (B.disk target.old).content (B.disk target.new).content) }
-    ensures stops { IsTrue (A.keeps_model source.old) → IsTrue (B.keeps_model target.old)
+    ensures stops { IsTrue (A.keeps_model source.old) → IsTrue (B.keeps_sectors target.old)
         → StopsLeave B.SectorDevice target.old target.new
         (WrittenLeaves new_blocks.number (carried_blocks blocks.number new_blocks.number listing.now (A.disk source.old).content)) }
     ensures faults { IfErr result (TellsFault A.SectorDevice B.SectorDevice source.old source.new target.old target.new) }
@@ -292,12 +292,12 @@ pub(crate) fn carry<A: SectorDevice, B: SectorDevice>(
     requires grows { blocks.number ≤ new_blocks.number }
     requires from { A.sector_count source.old ≡ sectors_for blocks.number }
     requires to { B.sector_count target.old ≡ sectors_for new_blocks.number }
-    ensures ok { IsTrue (A.keeps_model source.old) → IsTrue (B.keeps_model target.old)
+    ensures ok { IsTrue (A.keeps_model source.old) → IsTrue (B.keeps_sectors target.old)
         → OnOk result (IsWhole new_blocks.number (carried_blocks blocks.number new_blocks.number listing.now (A.disk source.old).content)
         (B.disk target.new)) }
-    ensures slots { IsTrue (B.keeps_model target.old)
+    ensures slots { IsTrue (B.keeps_sectors target.old)
         → OnOk result (KeepsSlots new_blocks.number (B.disk target.old).content (B.disk target.new).content) }
-    ensures stops { IsTrue (A.keeps_model source.old) → IsTrue (B.keeps_model target.old)
+    ensures stops { IsTrue (A.keeps_model source.old) → IsTrue (B.keeps_sectors target.old)
         → StopsLeave B.SectorDevice target.old target.new
         (MakingLeaves new_blocks.number (carried_blocks blocks.number new_blocks.number listing.now (A.disk source.old).content) (B.disk target.old)) }
     ensures faults { IfErr result (TellsFault A.SectorDevice B.SectorDevice source.old source.new target.old target.new) }

@@ -102,18 +102,18 @@ pub fn copy<A: SectorDevice, B: SectorDevice>(old: &mut A, new: &mut B) -> Resul
     // The old image is only read. A stop at any moment leaves of it what one before could leave.
     ensures old_stops { OnlyRead A.SectorDevice old.old old.new }
     // What a stop at any moment leaves of the new one, and what one leaves of it once it has returned.
-    ensures new_stops { IsTrue (A.keeps_model old.old) → IsTrue (B.keeps_model new.old) → (n m : ℕ)
+    ensures new_stops { IsTrue (A.keeps_model old.old) → IsTrue (B.keeps_sectors new.old) → (n m : ℕ)
         → A.sector_count old.old ≡ sectors_for n → B.sector_count new.old ≡ sectors_for m
         → StopsLeave B.SectorDevice new.old new.new
         (MakingLeaves m (grown m (meaning n (A.disk old.old).content)) (B.disk new.old)) }
-    ensures after { IsTrue (A.keeps_model old.old) → IsTrue (B.keeps_model new.old) → OnOk result ((n m : ℕ)
+    ensures after { IsTrue (A.keeps_model old.old) → IsTrue (B.keeps_sectors new.old) → OnOk result ((n m : ℕ)
         → A.sector_count old.old ≡ sectors_for n → B.sector_count new.old ≡ sectors_for m
         → (image : Image) → MayLeave (B.disk new.new) image → Means (grown m (meaning n (A.disk old.old).content)) image) }
     // The new image is made as by a format, with these blocks in its homes.
-    ensures filled { IsTrue (A.keeps_model old.old) → IsTrue (B.keeps_model new.old) → OnOk result ((n m : ℕ)
+    ensures filled { IsTrue (A.keeps_model old.old) → IsTrue (B.keeps_sectors new.old) → OnOk result ((n m : ℕ)
         → A.sector_count old.old ≡ sectors_for n → B.sector_count new.old ≡ sectors_for m
         → HoldsBlocks m (grown m (meaning n (A.disk old.old).content)) (B.disk new.new).content) }
-    ensures slots { IsTrue (B.keeps_model new.old) → OnOk result ((m : ℕ) → B.sector_count new.old ≡ sectors_for m
+    ensures slots { IsTrue (B.keeps_sectors new.old) → OnOk result ((m : ℕ) → B.sector_count new.old ≡ sectors_for m
         → KeepsSlots m (B.disk new.old).content (B.disk new.new).content) }
     ensures new_passes { Proceeds B.SectorDevice new.old new.new }
     // What an opening looks at is read, and each block once.

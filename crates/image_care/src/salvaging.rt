@@ -91,21 +91,21 @@ pub fn salvage<A: SectorDevice, B: SectorDevice>(
     // The old image is only read. A stop at any moment leaves of it what one before could leave.
     ensures old_stops { OnlyRead A.SectorDevice old.old old.new }
     // What a stop at any moment leaves of the new one, and what one leaves of it once it has returned.
-    ensures new_stops { IsTrue (A.keeps_model old.old) → IsTrue (B.keeps_model new.old) → (n : ℕ)
+    ensures new_stops { IsTrue (A.keeps_model old.old) → IsTrue (B.keeps_sectors new.old) → (n : ℕ)
         → B.sector_count new.old ≡ sectors_for n
         → StopsLeave B.SectorDevice new.old new.new (MakingLeaves n (salvaged_blocks n (A.disk old.old).content) (B.disk new.old)) }
-    ensures after { IsTrue (A.keeps_model old.old) → IsTrue (B.keeps_model new.old)
+    ensures after { IsTrue (A.keeps_model old.old) → IsTrue (B.keeps_sectors new.old)
         → OnOk result ((n : ℕ) → B.sector_count new.old ≡ sectors_for n
         → (image : Image) → MayLeave (B.disk new.new) image → Means (salvaged_blocks n (A.disk old.old).content) image) }
     // Of an image that isn't damaged it salvages the blocks that the image means.
-    ensures undamaged { IsTrue (A.keeps_model old.old) → IsTrue (B.keeps_model new.old)
+    ensures undamaged { IsTrue (A.keeps_model old.old) → IsTrue (B.keeps_sectors new.old)
         → OnOk result ((n : ℕ) → B.sector_count new.old ≡ sectors_for n → is_damaged n (A.disk old.old).content ≡ false
         → (image : Image) → MayLeave (B.disk new.new) image → Means (meaning n (A.disk old.old).content) image) }
     // The new image is made as by a format, with these blocks in its homes.
-    ensures filled { IsTrue (A.keeps_model old.old) → IsTrue (B.keeps_model new.old)
+    ensures filled { IsTrue (A.keeps_model old.old) → IsTrue (B.keeps_sectors new.old)
         → OnOk result ((n : ℕ) → B.sector_count new.old ≡ sectors_for n
         → HoldsBlocks n (salvaged_blocks n (A.disk old.old).content) (B.disk new.new).content) }
-    ensures slots { IsTrue (B.keeps_model new.old) → OnOk result ((n : ℕ) → B.sector_count new.old ≡ sectors_for n
+    ensures slots { IsTrue (B.keeps_sectors new.old) → OnOk result ((n : ℕ) → B.sector_count new.old ≡ sectors_for n
         → KeepsSlots n (B.disk new.old).content (B.disk new.new).content) }
     ensures new_passes { Proceeds B.SectorDevice new.old new.new }
     // The gate is read, under an open one the record and the listed slots, and each block once.

@@ -4,6 +4,7 @@ use Rattle.std.proofs.lemmas.List.{append-nil}
 use Rattle.sector_disk.specs.declared.device.SectorDevice.{Ghosts}
 use Rattle.journal.specs.Maps.{Maps}
 use Rattle.stores.specs.Store.{StandsFor, device_of}
+use Rattle.stores.specs.Suits.{suits}
 use Rattle.block_buffers.specs.Buffers.{Buffers}
 use Rattle.block_words.specs.declared.buffered_blocks.BlockFault.{BlockFault}
 use Rattle.block_words.specs.declared.buffered_blocks.BlockFault.TheVariants.{NoBlock, NoBuffer, Device, Closed, Memory}
@@ -85,12 +86,12 @@ pub record Called {A : Type 0} {D : Type 0} (G : Ghosts D) (word : words.Blocks 
   pub wear : Wear
   pub saves : List Save
   pub maps : Maps
-  pub holds : IsTrue (G.keeps_model (device_of (store_of new))) → StandsFor (store_of new) maps
-  pub runs : IsTrue (G.keeps_model (device_of (store_of old))) → (r : Run)
+  pub holds : IsTrue (suits G (device_of (store_of new))) → StandsFor (store_of new) maps
+  pub runs : IsTrue (suits G (device_of (store_of old))) → (r : Run)
       → word (state x.maps x.buffers space (answers ++ r.answers) r.failures r.wear r.saves)
       ≡ ended result (state maps (buffers_of new) space' r.answers (r.failures + failed result) (add_wear r.wear wear) (r.saves ++ saves))
   pub cause : HasRisenBy (failed result) (G.failures (device_of (store_of old))) (G.failures (device_of (store_of new)))
-  pub keeps : IsTrue (G.keeps_model (device_of (store_of old))) → KeepsAndWears G x.maps maps (device_of (store_of old)) (device_of (store_of new)) saves wear
+  pub keeps : IsTrue (suits G (device_of (store_of old))) → KeepsAndWears G x.maps maps (device_of (store_of old)) (device_of (store_of new)) saves wear
 
 blocks_ended : {A : Type 0} (result : Result A BlockFault) (maps : Maps) (buffers : Buffers) (space : List ℕ) (answers : List Answer) (failures : ℕ) (wear : Wear) (saves : List Save) (c : Core) (x : World) (go : A → Core → World → Outcome World)
     → blocks_done (ended result (state maps buffers space answers failures wear saves)) c x go
@@ -113,7 +114,7 @@ module _ {A : Type 0} {D : Type 0} {G : Ghosts D} {word : words.Blocks → Block
   world = with_blocks h.maps (buffers_of new) x
 
   -- what comes of it, in any run
-  pub comes_of : IsTrue (G.keeps_model (device_of (store_of old))) → (r : Run) (c : Core) (go : A → Core → World → Outcome World)
+  pub comes_of : IsTrue (suits G (device_of (store_of old))) → (r : Run) (c : Core) (go : A → Core → World → Outcome World)
       → blocks_done (word (block_state (record c { space = space }) (with_run (before deed r) x))) c (with_run (before deed r) x) go
       ≡ done_of result (record c { space = space' }) (with_run (after deed r) world) go
   comes_of model r c go =
@@ -133,11 +134,11 @@ module _ {A : Type 0} {D : Type 0} (G : Ghosts D) (word : words.Blocks → Block
       → ((m : Maps) → StandsFor (store_of old) m → CallRuns G word result (made m) m (store_of old) (store_of new) (buffers_of old) (buffers_of new) space space')
       → ((m : Maps) → m.closed ≡ true → made m ≡ [])
       → TellsFailures {G = G} result (store_of old) (store_of new)
-      → G.keeps_model (device_of (store_of new)) ≡ G.keeps_model (device_of (store_of old))
+      → suits G (device_of (store_of new)) ≡ suits G (device_of (store_of old))
       → RepresentsWorldIn lexicon picture old x → Called G word result old new space space' x
-  called {lexicon} {picture} {x} runs shut cause same s = pick (G.keeps_model (device_of (store_of old))) refl
+  called {lexicon} {picture} {x} runs shut cause same s = pick (suits G (device_of (store_of old))) refl
     where
-      pick : (t : Bool) → G.keeps_model (device_of (store_of old)) ≡ t → Called G word result old new space space' x
+      pick : (t : Bool) → suits G (device_of (store_of old)) ≡ t → Called G word result old new space space' x
       pick true is =
           let run = runs x.maps (s.maps is) in
           record {
@@ -154,7 +155,7 @@ module _ {A : Type 0} {D : Type 0} (G : Ghosts D) (word : words.Blocks → Block
             keeps = λ model. record { keeps = record { kept = run.kept; shuts = run.shuts; none = shut x.maps; last = run.last }; wears = run.wears };
           }
       pick false is =
-          let never : IsTrue (G.keeps_model (device_of (store_of old))) → ⊥ = λ h. let no : true ≡ false = sym h ∙ is in cc in
+          let never : IsTrue (suits G (device_of (store_of old))) → ⊥ = λ h. let no : true ≡ false = sym h ∙ is in cc in
           record {
             answers = [];
             wear = no_wear;

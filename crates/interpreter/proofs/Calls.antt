@@ -58,6 +58,12 @@ kept_none None b h = tt
 kept_none (Some l) None h = h
 kept_none (Some l) (Some k) h = sym h
 
+-- known bytes that stayed grew by none
+kept_appends : (a b : Option (List ℕ)) → Keeps a b → Appends a b []
+kept_appends None b h = tt
+kept_appends (Some l) None h = h
+kept_appends (Some l) (Some k) h = h ∙ sym (append-nil l)
+
 module _ {T : Type 0} (H : TerminalGhosts T) {t u : T} where
   -- it printed these bytes
   pub heard_print : (bytes : List ℕ) → H.input u ≡ H.input t → Appends (H.output t) (H.output u) bytes → H.calls u ≡ count_up (H.calls t) → Heard H (Ok tt) (printing bytes 1) t u
@@ -78,28 +84,28 @@ module _ {T : Type 0} (H : TerminalGhosts T) {t u : T} where
   }
 
   -- it gave a byte
-  pub heard_byte : (b : ℕ) → Consumes (H.input t) (H.input u) (b ∷ []) → H.output u ≡ H.output t → H.calls u ≡ count_up (H.calls t) → Heard H (Ok tt) (reads (b ∷ []) false 1) t u
+  pub heard_byte : (b : ℕ) → Consumes (H.input t) (H.input u) (b ∷ []) → Keeps (H.output t) (H.output u) → H.calls u ≡ count_up (H.calls t) → Heard H (Ok tt) (reads (b ∷ []) false 1) t u
   heard_byte b given output counted = record {
     given = given;
     at_end = λ no. absurd (let e : false ≡ true = no in cc);
-    printed = subst (λ o. Appends (H.output t) o []) (sym output) (Appends-nil (H.output t));
+    printed = kept_appends (H.output t) (H.output u) output;
     calls = counted;
   }
 
   -- it met the end of the input
-  pub heard_end : Consumes (H.input t) (H.input u) [] → H.input u ≡ Some [] → H.output u ≡ H.output t → H.calls u ≡ count_up (H.calls t) → Heard H (Ok tt) (reads [] true 1) t u
+  pub heard_end : Consumes (H.input t) (H.input u) [] → H.input u ≡ Some [] → Keeps (H.output t) (H.output u) → H.calls u ≡ count_up (H.calls t) → Heard H (Ok tt) (reads [] true 1) t u
   heard_end given none output counted = record {
     given = given;
     at_end = λ met. none;
-    printed = subst (λ o. Appends (H.output t) o []) (sym output) (Appends-nil (H.output t));
+    printed = kept_appends (H.output t) (H.output u) output;
     calls = counted;
   }
 
   -- it failed to give one
-  pub heard_fault : Keeps (H.input t) (H.input u) → H.output u ≡ H.output t → H.calls u ≡ count_up (H.calls t) → Heard H (Err stop.Io) nothing t u
+  pub heard_fault : Keeps (H.input t) (H.input u) → Keeps (H.output t) (H.output u) → H.calls u ≡ count_up (H.calls t) → Heard H (Err stop.Io) nothing t u
   heard_fault kept output counted = record {
     given = kept_none (H.input t) (H.input u) kept;
     at_end = λ no. absurd (let e : false ≡ true = no in cc);
-    printed = ([], ([], refl), subst (λ o. Appends (H.output t) o []) (sym output) (Appends-nil (H.output t)));
+    printed = ([], ([], refl), kept_appends (H.output t) (H.output u) output);
     calls = counted;
   }

@@ -3,6 +3,7 @@ use Rattle.std.proofs.Common.{◌≡◌, ℕ, ◌≤◌, true, false, IsTrue, Li
 use Rattle.sector_disk.specs.Disk.{Image, MayLeave}
 use Rattle.sector_disk.specs.declared.device.SectorDevice.{Ghosts}
 use Rattle.stores.specs.Store.{device_of}
+use Rattle.stores.specs.Suits.{suits}
 use Rattle.block_words.specs.declared.buffered_blocks.Blocks.{Blocks}
 use Rattle.block_words.specs.Words.{Wear, no_wear, Answer, Save}
 use Rattle.block_words.specs.Parts.{store_of}
@@ -40,8 +41,8 @@ ok_of (Ok v) is h = h
 ok_of (Err e) is h = absurd (let no : false ≡ true = is in cc)
 
 module _ {D : Type 0} {G : Ghosts D} where
-  same_model : (b c : Blocks D G) → c ≡ b → IsTrue (G.keeps_model (device_of (store_of b))) → IsTrue (G.keeps_model (device_of (store_of c)))
-  same_model b c same model = subst (λ (b : Blocks D G). IsTrue (G.keeps_model (device_of (store_of b)))) (sym same) model
+  same_model : (b c : Blocks D G) → c ≡ b → IsTrue (suits G (device_of (store_of b))) → IsTrue (suits G (device_of (store_of c)))
+  same_model b c same model = subst (λ (b : Blocks D G). IsTrue (suits G (device_of (store_of b)))) (sym same) model
 
   -- a value, and then a part that reaches neither terminal nor device
   pub handed_altered : {B : Type 0} {start : Run → (B → Core → World → Outcome World) → Outcome World} (go : B → Core → World → Outcome World) {v : B} {result : Result (Unit {0}) Fault} {old mid new : Forth D G} {levels : List Level} {x : World}

@@ -34,6 +34,7 @@ use Rattle.interpreter.specs.Representation.{core, device, HasModel, RepresentsW
 use Rattle.interpreter.specs.ServiceContract.{Comes, IsLike, Left, Broke, BreaksOff, Heard, KeepsAndWears, Lasts, Ran}
 use Rattle.block_words.specs.declared.buffered_blocks.Blocks.{Blocks}
 use Rattle.stores.specs.Store.{device_of}
+use Rattle.stores.specs.Suits.{suits}
 use Rattle.interpreter.specs.LineContract.{line_end, is_broken, heard_of, LineLeft, LineBroke, LineBreaksOff, LineComes, LineCame, RanLine, SameStackAndSpace, SameSpace}
 use Rattle.interpreter.proofs.Deeds.{printing, trying, after-then, mended-then}
 use Rattle.interpreter.proofs.Calls.{print-well, print-fails, heard_print, heard_unprinted}
@@ -75,8 +76,8 @@ replied_broke e place start deed c x h = record {
 
 -- ---- the end of a reply
 
-same_model : {D : Type 0} {G : Ghosts D} (b c : Blocks D G) → c ≡ b → IsTrue (G.keeps_model (device_of (store_of b))) → IsTrue (G.keeps_model (device_of (store_of c)))
-same_model {D} {G} b c same model = subst (λ (b : Blocks D G). IsTrue (G.keeps_model (device_of (store_of b)))) (sym same) model
+same_model : {D : Type 0} {G : Ghosts D} (b c : Blocks D G) → c ≡ b → IsTrue (suits G (device_of (store_of b))) → IsTrue (suits G (device_of (store_of c)))
+same_model {D} {G} b c same model = subst (λ (b : Blocks D G). IsTrue (suits G (device_of (store_of b)))) (sym same) model
 
 module _ {D T : Type 0} (G : Ghosts D) (H : TerminalGhosts T) (only_now : OnlyNow G) where
   -- it is printed
@@ -296,7 +297,7 @@ module _ {D T : Type 0} (G : Ghosts D) (H : TerminalGhosts T) (counts_now : (d :
       lined_then G H counts_now widens only_now h.deed on on_then h.heard h.cause h.keeps (λ model r fits. opens (before h.deed r) ∙ ap (λ o. ended o) (h.comes model r fits)) k
 
   -- where the device doesn't keep the disk model, nothing is said of the line
-  known : (d : D) → (b : Bool) → G.keeps_model d ≡ b → IsTrue (G.keeps_model d) ⊎ (IsTrue (G.keeps_model d) → ⊥)
+  known : (d : D) → (b : Bool) → suits G d ≡ b → IsTrue (suits G d) ⊎ (IsTrue (suits G d) → ⊥)
   known d true is = inl is
   known d false is = inr (λ h. let no : false ≡ true = sym is ∙ h in cc)
 
@@ -326,7 +327,7 @@ module _ {D T : Type 0} (G : Ghosts D) (H : TerminalGhosts T) (counts_now : (d :
       (λ no.
       lined_then G H counts_now widens only_now h.deed (lasts_calm G H s well on) on_then (heard_calm H s well h.heard) h.cause h.keeps
       (λ m r fits. absurd (no m)) (k (core mid) (like_itself (ending_of s) (core mid))))
-      (known (device old) (G.keeps_model (device old)) refl)
+      (known (device old) (suits G (device old)) refl)
 
   -- a fault, whose place is where the stream stood then: what the reply doesn't name may change before it
   pub fault_lined : {start : Run → Outcome World} (start' : Run → Ended) {e : LineEnd} (f : Fault) (place : Place) {old mid next new : Forth D G} {t u v : T} {x : World}

@@ -4,6 +4,7 @@ use Rattle.std.specs.Prelude.{◌||◌}
 use Rattle.std.proofs.lemmas.List.{append-nil}
 use Rattle.sector_disk.specs.declared.device.SectorDevice.{Ghosts}
 use Rattle.block_words.specs.Words.{Save, no_wear, add_wear}
+use Rattle.interpreter.proofs.Wearing.{wears_within}
 use Rattle.block_words.specs.Calls.{WearsAtMost}
 use Rattle.block_words.proofs.Worn.{none_first}
 use Rattle.cell_machine.specs.Frames.{Core}
@@ -14,7 +15,7 @@ use Rattle.interpreter.specs.declared.lines.LineEnd.TheVariants as end
 use Rattle.interpreter.specs.declared.forth.Forth.{Forth}
 use Rattle.interpreter.specs.declared.place.Place.{Place}
 use Rattle.interpreter.specs.Deeds.{Deed, before, after, mended}
-use Rattle.interpreter.specs.Law.{Grows}
+use Rattle.interpreter.specs.Law.{Grows, IsWithin}
 use Rattle.interpreter.specs.Lines as lines
 use Rattle.interpreter.specs.Lines.{Ended, Turn, Line, Broken, line, line_on, between_lines}
 use Rattle.interpreter.specs.Promise.{HasRisenBy, Replied, Stopped, Answers, Keeps}
@@ -25,6 +26,7 @@ use Rattle.interpreter.specs.ServiceContract.{Heard}
 use Rattle.interpreter.specs.Terminal.{Begins}
 use Rattle.interpreter.proofs.LineContract.{begins_then}
 use Rattle.interpreter.specs.LineContract.{line_end, heard_of, LineLeft, LineBroke, LineBreaksOff, LineComes, RanLine, IsSystem}
+use Rattle.stores.specs.Suits.{suits}
 
 or-none : (b : Bool) → (b || false) ≡ b
 or-none true = refl
@@ -102,13 +104,7 @@ module _ {D T : Type 0} (G : Ghosts D) (H : TerminalGhosts T) (opening : state.F
         begins = begins_then shown (d.printed ++ d.tried) whole.world.run.output front grows.output;
         saves = grows.saves;
         cause = subst (λ n. HasRisenBy n (G.failures old) (G.failures new)) (none_before ∙ sym told) cause;
-        wears = record {
-          begins = record {
-            few_writes = omega (arith, wears.begins.few_writes, grows.wear.writes);
-            few_syncs = omega (arith, wears.begins.few_syncs, grows.wear.syncs);
-          };
-          reads = omega (arith, wears.reads, grows.wear.reads);
-        };
+        wears = wears_within G old new d.wear whole.world.run.wear (subst (λ w. IsWithin w whole.world.run.wear) (none_first d.wear) grows.wear) wears;
         broken = record {
           calls = d.calls;
           breaks = ap (λ e. e.ending) broke;
@@ -132,7 +128,7 @@ module _ {D T : Type 0} (G : Ghosts D) (H : TerminalGhosts T) (opening : state.F
   answers_of end.Io l heard = cut_off G H opening bytes d place c x t u a b cause wears l heard
 
 module _ {D T : Type 0} (G : Ghosts D) (H : TerminalGhosts T) where
-  pub promised : (opening : state.Forth) (bytes : List ℕ) (e : LineEnd) (old new : Forth D G) (t u : T) → IsSystem old opening → new.budget ≡ old.budget → G.keeps_model (device new) ≡ G.keeps_model (device old)
+  pub promised : (opening : state.Forth) (bytes : List ℕ) (e : LineEnd) (old new : Forth D G) (t u : T) → IsSystem old opening → new.budget ≡ old.budget → suits G (device new) ≡ suits G (device old)
       → RanLine H (λ r. line opening bytes r) e old new t u opening.world
       → (after : state.Forth) × (made : List Save) × IsSystem new after
       × Answers G (line_end e) new.place opening bytes after (H.input t) (H.input u) (H.output t) (H.output u) (H.calls t) (H.calls u) (device old) (device new) made

@@ -20,6 +20,7 @@ use Rattle.interpreter.specs.State.{World, Run, with_run}
 use Rattle.cell_machine.specs.Fault.{Ending}
 use Rattle.block_words.specs.declared.buffered_blocks.Blocks.{Blocks}
 use Rattle.stores.specs.Store.{device_of}
+use Rattle.stores.specs.Suits.{suits}
 use Rattle.interpreter.specs.Promise.{HasRisenBy}
 use Rattle.interpreter.specs.Representation.{core, device, RepresentsWorld, Represents}
 use Rattle.interpreter.specs.ServiceContract.{Comes, Left, IsLike, Printed, KeepsAndWears, Lasts, WhereBroke, Ran, failed_calls}
@@ -127,10 +128,10 @@ module _ {D T : Type 0} {G : Ghosts D} (H : TerminalGhosts T) (n : ℕ) where
     world = h.world;
     stands = h.stands;
     steps = omega (arith, h.steps, less);
-    comes = λ model. round_comes_as n start start' h.deed result h.levels (core new) h.world same (h.comes (subst (λ (b : Blocks D G). IsTrue (G.keeps_model (device_of (store_of b)))) (sym blocks) model));
+    comes = λ model. round_comes_as n start start' h.deed result h.levels (core new) h.world same (h.comes (subst (λ (b : Blocks D G). IsTrue (suits G (device_of (store_of b)))) (sym blocks) model));
     heard = h.heard;
     cause = subst (λ (b : Blocks D G). HasRisenBy h.deed.failures (G.failures (device_of (store_of b))) (G.failures (device new))) blocks h.cause;
-    keeps = λ model. subst (λ (b : Blocks D G). KeepsAndWears G x.maps h.world.maps (device_of (store_of b)) (device new) h.deed.saves h.deed.wear) blocks (h.keeps (subst (λ (b : Blocks D G). IsTrue (G.keeps_model (device_of (store_of b)))) (sym blocks) model));
+    keeps = λ model. subst (λ (b : Blocks D G). KeepsAndWears G x.maps h.world.maps (device_of (store_of b)) (device new) h.deed.saves h.deed.wear) blocks (h.keeps (subst (λ (b : Blocks D G). IsTrue (suits G (device_of (store_of b)))) (sym blocks) model));
   }
 
 -- the machine ends the line
@@ -149,7 +150,7 @@ module _ {D T : Type 0} (G : Ghosts D) (H : TerminalGhosts T) (only_now : OnlyNo
     cause = ap (λ (b : Blocks D G). G.failures (device_of (store_of b))) blocks;
     keeps = λ model.
         subst (λ (b : Blocks D G). KeepsAndWears G x.maps x.maps (device_of (store_of b)) (device new) [] no_wear) blocks
-        (maps_same G only_now (store_of new.blocks) x.maps (rests.maps (subst (λ (b : Blocks D G). IsTrue (G.keeps_model (device_of (store_of b)))) (sym blocks) model)));
+        (maps_same G only_now (store_of new.blocks) x.maps (rests.maps (subst (λ (b : Blocks D G). IsTrue (suits G (device_of (store_of b)))) (sym blocks) model)));
   }
 
 -- it ends it so, in each run

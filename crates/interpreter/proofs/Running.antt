@@ -6,6 +6,7 @@ use Rattle.sector_disk.specs.declared.device.SectorDevice.{Ghosts}
 use Rattle.journal.specs.Maps.{Maps}
 use Rattle.stores.specs.declared.store.Store.{Store}
 use Rattle.stores.specs.Store.{StandsFor, device_of}
+use Rattle.stores.specs.Suits.{suits}
 use Rattle.block_words.proofs.Runs.{keeps_store}
 use Rattle.block_words.specs.Parts.{store_of}
 use Rattle.cell_machine.specs.Frames.{Core, Level}
@@ -118,8 +119,8 @@ module _ {D T : Type 0} {G : Ghosts D} (H : TerminalGhosts T) where
     world = h.world;
     stands = h.stands;
     steps = omega (arith, h.steps, less);
-    comes = λ model. comes_as start start' h.deed result (core new) h.world same (h.comes (subst (λ (b : Blocks D G). IsTrue (G.keeps_model (device_of (store_of b)))) (sym blocks) model));
+    comes = λ model. comes_as start start' h.deed result (core new) h.world same (h.comes (subst (λ (b : Blocks D G). IsTrue (suits G (device_of (store_of b)))) (sym blocks) model));
     heard = h.heard;
     cause = subst (λ (b : Blocks D G). HasRisenBy h.deed.failures (G.failures (device_of (store_of b))) (G.failures (device new))) blocks h.cause;
-    keeps = λ model. subst (λ (b : Blocks D G). KeepsAndWears G x.maps h.world.maps (device_of (store_of b)) (device new) h.deed.saves h.deed.wear) blocks (h.keeps (subst (λ (b : Blocks D G). IsTrue (G.keeps_model (device_of (store_of b)))) (sym blocks) model));
+    keeps = λ model. subst (λ (b : Blocks D G). KeepsAndWears G x.maps h.world.maps (device_of (store_of b)) (device new) h.deed.saves h.deed.wear) blocks (h.keeps (subst (λ (b : Blocks D G). IsTrue (suits G (device_of (store_of b)))) (sym blocks) model));
   }

@@ -2,6 +2,7 @@
 use Rattle.std.specs.Prelude.{◌≡◌, List, IsTrue, Result, Ok, Err}
 use Rattle.sector_disk.specs.declared.device.SectorDevice.{Ghosts}
 use Rattle.stores.specs.Store.{StandsFor, device_of}
+use Rattle.stores.specs.Suits.{suits}
 use Rattle.block_words.specs.Parts.{store_of, buffers_of}
 use Rattle.cell_machine.specs.Frames.{Core, Level}
 use Rattle.interpreter.specs.State.{World}
@@ -20,7 +21,7 @@ module _ {D : Type 0} {G : Ghosts D} where
 
   -- the device keeps the disk model
   abbrev pub HasModel : Forth D G → Type 0
-  HasModel forth = IsTrue (G.keeps_model (device forth))
+  HasModel forth = IsTrue (suits G (device forth))
 
   -- data stack, data space and the steps that are left
   abbrev pub core : Forth D G → Core
@@ -32,7 +33,7 @@ module _ {D : Type 0} {G : Ghosts D} where
     pub held_end : x.held_end ≡ picture.end
     pub held : x.held ≡ picture.held
     pub buffers : x.buffers ≡ buffers_of blocks
-    pub maps : IsTrue (G.keeps_model (device_of (store_of blocks))) → StandsFor (store_of blocks) x.maps
+    pub maps : IsTrue (suits G (device_of (store_of blocks))) → StandsFor (store_of blocks) x.maps
 
   -- and what is left to do
   pub record RepresentsIn (lexicon : Lexicon) (machine : Doing) (returns : List Entry) (picture : Picture) (blocks : Blocks D G) (levels : List Level) (x : World) : Type 0 where

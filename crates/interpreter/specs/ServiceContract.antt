@@ -22,6 +22,7 @@ use Rattle.interpreter.specs.Promise.{HasRisenBy, KeepsMaps}
 use Rattle.interpreter.specs.State.{World, Run, with_run}
 use Rattle.interpreter.specs.Representation.{core, device, HasModel, Represents, RepresentsAfter}
 use Rattle.interpreter.specs.Terminal.{Begins}
+use Rattle.stores.specs.Suits.{suits}
 
 -- ---- what comes of it
 
@@ -111,7 +112,7 @@ WhereBroke _ P Q = Q
 -- at any device and terminal
 pub record Lasts {D T : Type 0} (G : Ghosts D) (H : TerminalGhosts T) (result : Result (Unit {0}) Stop) (old new : D) (terminal terminal' : T) : Type 0 where
   pub time : Elapses G.time G.left_since old new
-  pub model : G.keeps_model new ≡ G.keeps_model old
+  pub model : suits G new ≡ suits G old
   pub device_failures : G.failures old ≤ G.failures new
   pub terminal_failures : WhereBroke result (H.failures terminal' ≡ count_up (H.failures terminal)) (H.failures terminal' ≡ H.failures terminal)
   pub no_more : H.may_give terminal' ≤ H.may_give terminal
@@ -120,7 +121,7 @@ pub record Lasts {D T : Type 0} (G : Ghosts D) (H : TerminalGhosts T) (result : 
 -- at any device, where no terminal is reached
 pub record LastsAlone {D : Type 0} (G : Ghosts D) (old new : D) : Type 0 where
   pub time : Elapses G.time G.left_since old new
-  pub model : G.keeps_model new ≡ G.keeps_model old
+  pub model : suits G new ≡ suits G old
   pub failures : G.failures old ≤ G.failures new
 
 -- ---- the promises

@@ -47,11 +47,11 @@ module _ {D : Type 0} {G : Ghosts D} where
   abbrev pub SamePending : Store D G → Store D G → Type 0
   SamePending old new = (b : ℕ) → is_pending new b ≡ is_pending old b
 
-  -- A store on a device that keeps the disk model stands for maps. While it is open its homes are the saved blocks, the
+  -- A store on a device that keeps the disk model by sectors stands for maps. While it is open its homes are the saved blocks, the
   -- slots of the pending ones are what was spilled, and a stop now leaves the saved blocks. A fault changes neither map,
   -- but no call reads the maps of a closed store again: it stands for any maps of its size.
   pub record StandsFor (store : Store D G) (m : Maps) : Type 0 where
-    pub model : IsTrue (G.keeps_model store.device)
+    pub model : IsTrue (G.keeps_sectors store.device)
     pub closed : m.closed ≡ store.closed
     pub size : length m.saved ≡ blocks_of store
     pub pending_size : length m.pending ≡ blocks_of store
@@ -65,6 +65,7 @@ module _ {D : Type 0} {G : Ghosts D} where
   pub record Continues (old new : Store D G) : Type 0 where
     pub blocks : blocks_of new ≡ blocks_of old
     pub model : G.keeps_model new.device ≡ G.keeps_model old.device
+    pub units : G.keeps_sectors new.device ≡ G.keeps_sectors old.device
     pub time : Elapses G.time G.left_since old.device new.device
     pub failures : G.failures old.device ≤ G.failures new.device
 

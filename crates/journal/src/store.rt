@@ -36,8 +36,8 @@ pub struct Store<D: SectorDevice> {
     text: [u8; 1024],
     ghost size: { D.sector_count device ≡ sectors_for blocks.number },
     ghost clear: { (b : ℕ) → blocks.number ≤ b → listed pending b ≡ false },
-    ghost sound: { IsTrue (D.keeps_model device) → closed ≡ false → IsSound blocks.number (D.disk device) },
-    ghost keeps: { IsTrue (D.keeps_model device) → closed ≡ false
+    ghost sound: { IsTrue (D.keeps_sectors device) → closed ≡ false → IsSound blocks.number (D.disk device) },
+    ghost keeps: { IsTrue (D.keeps_sectors device) → closed ≡ false
         → (b : ℕ) → kept ≡ Some b → text ≡ merged blocks.number pending (D.disk device).content b },
 }
 
@@ -50,12 +50,12 @@ impl<D: SectorDevice> Store<D> {
         requires many { fewest_blocks ≤ blocks }
         requires few { blocks ≤ most_blocks }
         requires size { D.sector_count device ≡ sectors_for blocks }
-        requires clean { IsTrue (D.keeps_model device) → IsClean blocks (D.disk device) }
+        requires clean { IsTrue (D.keeps_sectors device) → IsClean blocks (D.disk device) }
         ensures device { device_of result ≡ device }
         ensures blocks { blocks_of result ≡ blocks }
         ensures closed { closed_of result ≡ false }
         ensures pending { (b : ℕ) → is_pending result b ≡ false }
-        ensures state { IsTrue (D.keeps_model device)
+        ensures state { IsTrue (D.keeps_sectors device)
             → StandsFor result (fresh (meaning blocks (D.disk device).content)) }
     {
         Store {
@@ -257,10 +257,10 @@ impl<D: SectorDevice> Store<D> {
             → is_pending self.new a ≡ false) (λ _. SamePending self.old self.new) }
         // The record on the device lists the blocks that were pending, and no bit past the last block, and its digest is that of
         // these bits and their slots.
-        ensures recorded { IsTrue (D.keeps_model (device_of self.old)) → pending_count self.old ≢ 0
+        ensures recorded { IsTrue (D.keeps_sectors (device_of self.old)) → pending_count self.old ≢ 0
             → OnOk result (HasRecordOf (blocks_of self.old) (is_pending self.old) (disk_of self.new).content) }
         // The gate is closed by zeros.
-        ensures shut_gate { IsTrue (D.keeps_model (device_of self.old)) → pending_count self.old ≢ 0
+        ensures shut_gate { IsTrue (D.keeps_sectors (device_of self.old)) → pending_count self.old ≢ 0
             → OnOk result ((disk_of self.new).content 1 ≡ replicate 512 0) }
         ensures begins { DeviceBegins self.old self.new (2 * pending_count self.old + 3) 4 }
         ensures reads { DeviceReads self.old self.new (4 * pending_count self.old) }

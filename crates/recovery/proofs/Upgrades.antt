@@ -1,18 +1,24 @@
 -- What a stop of an upgrade leaves.
-use Rattle.std.proofs.Common.{◌≡◌, ◌⊎◌, inl, inr, ⊎_elim, ℕ, ◌≤◌, List, length, refl, sym, ◌∙◌, ap, subst, arith}
+use Rattle.std.proofs.Common.{◌≡◌, ◌⊎◌, inl, inr, ⊎_elim, ℕ, ◌≤◌, List, length, refl, sym, ◌∙◌, ap, subst, arith, IsTrue, Option, None, Result, Ok, Err}
+use Rattle.std.specs.Prelude.{IfErr, MatchResult}
 use Rattle.std.proofs.lemmas.Bool.{cases_lt}
 use Rattle.sector_disk.specs.Disk.{Disk, Image, MayLeave}
+use Rattle.sector_disk.specs.declared.device.SectorDevice.{Ghosts}
+use Rattle.sector_disk.proofs.Moments.{leaves_then}
 use Rattle.journal.specs.Chain.{MayRedo}
 use Rattle.journal.specs.Images.{slot_of, home_of, block_of, meaning, Means}
 use Rattle.journal.specs.Layout.{fewest_blocks, most_blocks, most_blocks_1, label_1_of, gate_open, listed}
 use Rattle.journal.specs.Layout1.{HasGoodLabel1, Means1}
 use Rattle.journal.specs.Steps.{HasRecovered}
 use Rattle.journal.proofs.Blocks.{same_below, at_below, length-below}
+use Rattle.journal.proofs.Calls.{Widens, proceeds_then}
 use Rattle.journal.proofs.Meaning.{redo_blocks, redo_label, pick_shut}
 use Rattle.recovery.specs.Formatted.{MakingLeaves}
 use Rattle.recovery.specs.Recovered.{LeavesBy}
-use Rattle.recovery.specs.Steps.{TakenAway, Sealed, IsPrepared, IsMade, CarriedLeaves}
-use Rattle.recovery.specs.Upgraded.{MeansAsBefore, OldLeaves}
+use Rattle.recovery.specs.Steps.{TakenAway, Sealed, IsPrepared, IsMade, CarriedLeaves, OnlyRead}
+use Rattle.recovery.specs.Label.{blocks_in, label_refusal_by}
+use Rattle.recovery.specs.Opened.{first_of}
+use Rattle.recovery.specs.Upgraded.{MeansAsBefore, OldLeaves, of_old, size_refusal, upgrade_refusal}
 use Rattle.recovery.proofs.Formats.{same_or_not, unlabelled, making, AreHomes, filled_means, filled_same, made_means}
 
 good_or_not_1 : (n : ℕ) (c : Image) → HasGoodLabel1 n c ⊎ ¬ HasGoodLabel1 n c
@@ -96,3 +102,31 @@ module _ (n : ℕ) (many : fewest_blocks ≤ n) (few : n ≤ most_blocks) (bytes
   pub after_means : (disk : Disk) → MayLeave disk disk.content → IsMade n bytes disk → (x : Image) → MayLeave disk x → Means blocks x
   after_means disk present made x may =
       made_means n many few bytes disk made blocks are x (λ k. may k (made.synced k) ∙ sym (present k (made.synced k)))
+
+-- A device was read, and then only read.
+pub only_read_then : {D : Type 0} (device : Ghosts D) (a b d : D) → Widens device → OnlyRead device a b → OnlyRead device b d → OnlyRead device a d
+only_read_then device a b d widens one two =
+    let honest : IsTrue (device.keeps_model a) → IsTrue (device.keeps_model b) = λ keeps. subst IsTrue (sym one.passes.model) keeps in
+    record {
+      disk = λ keeps. two.disk (honest keeps) ∙ one.disk keeps;
+      stops = λ keeps. leaves_then device.time device.left_since a b d
+          (MayLeave (device.disk a)) (MayLeave (device.disk b)) (MayLeave (device.disk a))
+          one.passes.time two.passes.time (one.stops keeps) (two.stops (honest keeps))
+          (λ x may. may) (λ x may. subst (λ (e : Disk). MayLeave e x) (one.disk keeps) may);
+      passes = proceeds_then device a b d widens one.passes two.passes;
+      begins = record {
+        few_writes = omega (arith, one.begins.few_writes, two.begins.few_writes);
+        few_syncs = omega (arith, one.begins.few_syncs, two.begins.few_syncs);
+      };
+    }
+
+-- Where the sizes pass, the label alone tells.
+pub upgrade_refused : (old new n : ℕ) (label : List ℕ) → size_refusal old new ≡ None → blocks_in old ≡ n
+    → upgrade_refusal old new label ≡ of_old (label_refusal_by 1 n label)
+upgrade_refused old new n label none count =
+    ap (λ r. first_of r (of_old (label_refusal_by 1 (blocks_in old) label))) none ∙ ap (λ k. of_old (label_refusal_by 1 k label)) count
+
+-- what is known of each error, beside what is known already
+pub matched : {T E : Type 0} (r : Result T E) (P : Type 0) (Q R : E → Type 0) → P → ((e : E) → Q e → R e) → IfErr r Q → MatchResult r (λ _. P) R
+matched (Ok t) P Q R p f q = p
+matched (Err e) P Q R p f q = f e q

@@ -26,11 +26,11 @@ use sector_disk::{DeviceFault, SectorDevice};
 // Fills the homes with blanks.
 fn fill_homes<D: SectorDevice>(device: &mut D, blocks: BlockCount) -> Result<(), DeviceFault>
     requires size { D.sector_count device.old ≡ sectors_for blocks.number }
-    ensures ok { IsTrue (D.keeps_model device.old)
+    ensures ok { IsTrue (D.keeps_sectors device.old)
         → OnOk result ((k : ℕ) → 3 + 2 * blocks.number ≤ k → k < 3 + 4 * blocks.number → (D.disk device.new).content k ≡ replicate 512 32) }
-    ensures only { IsTrue (D.keeps_model device.old)
+    ensures only { IsTrue (D.keeps_sectors device.old)
         → WritesOnly (λ k. 3 + 2 * blocks.number ≤ k) (D.disk device.old) (D.disk device.new) }
-    ensures stops { IsTrue (D.keeps_model device.old)
+    ensures stops { IsTrue (D.keeps_sectors device.old)
         → StopsLeave D.SectorDevice device.old device.new (IsAsSynced (λ k. 3 + 2 * blocks.number ≤ k) (D.disk device.old)) }
     ensures passes { Passes D.SectorDevice device.old device.new result }
     ensures begins { BeginsAtMost D.SectorDevice device.old device.new (2 * blocks.number) 0 }
@@ -48,10 +48,10 @@ fn fill_homes<D: SectorDevice>(device: &mut D, blocks: BlockCount) -> Result<(),
 /// blocks.
 pub fn unlabel<D: SectorDevice>(device: &mut D, blocks: BlockCount) -> Result<(), DeviceFault>
     requires size { D.sector_count device.old ≡ sectors_for blocks.number }
-    ensures ok { IsTrue (D.keeps_model device.old) → OnOk result (IsUnlabelled blocks.number (D.disk device.new)) }
-    ensures slots { IsTrue (D.keeps_model device.old)
+    ensures ok { IsTrue (D.keeps_sectors device.old) → OnOk result (IsUnlabelled blocks.number (D.disk device.new)) }
+    ensures slots { IsTrue (D.keeps_sectors device.old)
         → OnOk result (KeepsSlots blocks.number (D.disk device.old).content (D.disk device.new).content) }
-    ensures stops { IsTrue (D.keeps_model device.old)
+    ensures stops { IsTrue (D.keeps_sectors device.old)
         → StopsLeave D.SectorDevice device.old device.new (TakenAway blocks.number (D.disk device.old)) }
     ensures passes { Passes D.SectorDevice device.old device.new result }
     ensures begins { BeginsAtMost D.SectorDevice device.old device.new 1 2 }
@@ -69,11 +69,11 @@ pub fn unlabel<D: SectorDevice>(device: &mut D, blocks: BlockCount) -> Result<()
 /// Closes the gate and clears the record. Nothing is synced.
 pub fn fill_head<D: SectorDevice>(device: &mut D) -> Result<(), DeviceFault>
     requires { 3 ≤ D.sector_count device.old }
-    ensures ok { IsTrue (D.keeps_model device.old)
+    ensures ok { IsTrue (D.keeps_sectors device.old)
         → OnOk result (D.disk device.new ≡ written (written (D.disk device.old) 1 (replicate 512 0)) 2 (replicate 512 0)) }
-    ensures only { IsTrue (D.keeps_model device.old)
+    ensures only { IsTrue (D.keeps_sectors device.old)
         → WritesOnly (λ k. k ≢ 0) (D.disk device.old) (D.disk device.new) }
-    ensures stops { IsTrue (D.keeps_model device.old)
+    ensures stops { IsTrue (D.keeps_sectors device.old)
         → StopsLeave D.SectorDevice device.old device.new (IsAsSynced (λ k. k ≢ 0) (D.disk device.old)) }
     ensures passes { Passes D.SectorDevice device.old device.new result }
     ensures begins { BeginsAtMost D.SectorDevice device.old device.new 2 0 }
@@ -86,12 +86,12 @@ pub fn fill_head<D: SectorDevice>(device: &mut D) -> Result<(), DeviceFault>
 // Writes all of the blank image but its label.
 fn fill<D: SectorDevice>(device: &mut D, blocks: BlockCount) -> Result<(), DeviceFault>
     requires size { D.sector_count device.old ≡ sectors_for blocks.number }
-    ensures ok { IsTrue (D.keeps_model device.old) → OnOk result (IsBlank blocks.number (D.disk device.new).content) }
-    ensures slots { IsTrue (D.keeps_model device.old)
+    ensures ok { IsTrue (D.keeps_sectors device.old) → OnOk result (IsBlank blocks.number (D.disk device.new).content) }
+    ensures slots { IsTrue (D.keeps_sectors device.old)
         → OnOk result (KeepsSlots blocks.number (D.disk device.old).content (D.disk device.new).content) }
-    ensures only { IsTrue (D.keeps_model device.old)
+    ensures only { IsTrue (D.keeps_sectors device.old)
         → WritesOnly (λ k. k ≢ 0) (D.disk device.old) (D.disk device.new) }
-    ensures stops { IsTrue (D.keeps_model device.old)
+    ensures stops { IsTrue (D.keeps_sectors device.old)
         → StopsLeave D.SectorDevice device.old device.new (IsAsSynced (λ k. k ≢ 0) (D.disk device.old)) }
     ensures passes { Passes D.SectorDevice device.old device.new result }
     ensures begins { BeginsAtMost D.SectorDevice device.old device.new (2 * blocks.number + 2) 0 }
@@ -104,11 +104,11 @@ fn fill<D: SectorDevice>(device: &mut D, blocks: BlockCount) -> Result<(), Devic
 // Makes all blank under no good label.
 fn prepare<D: SectorDevice>(device: &mut D, blocks: BlockCount) -> Result<(), DeviceFault>
     requires size { D.sector_count device.old ≡ sectors_for blocks.number }
-    requires unlabelled { IsTrue (D.keeps_model device.old) → IsUnlabelled blocks.number (D.disk device.old) }
-    ensures ok { IsTrue (D.keeps_model device.old) → OnOk result (IsPrepared blocks.number (λ _. replicate 512 32) (D.disk device.new)) }
-    ensures slots { IsTrue (D.keeps_model device.old)
+    requires unlabelled { IsTrue (D.keeps_sectors device.old) → IsUnlabelled blocks.number (D.disk device.old) }
+    ensures ok { IsTrue (D.keeps_sectors device.old) → OnOk result (IsPrepared blocks.number (λ _. replicate 512 32) (D.disk device.new)) }
+    ensures slots { IsTrue (D.keeps_sectors device.old)
         → OnOk result (KeepsSlots blocks.number (D.disk device.old).content (D.disk device.new).content) }
-    ensures stops { IsTrue (D.keeps_model device.old)
+    ensures stops { IsTrue (D.keeps_sectors device.old)
         → StopsLeave D.SectorDevice device.old device.new (λ c. c 0 ≢ label_of blocks.number) }
     ensures passes { Passes D.SectorDevice device.old device.new result }
     ensures begins { BeginsAtMost D.SectorDevice device.old device.new (2 * blocks.number + 2) 1 }
@@ -121,10 +121,10 @@ fn prepare<D: SectorDevice>(device: &mut D, blocks: BlockCount) -> Result<(), De
 /// Writes the label over an image whose other sectors are synced: the last step of making it.
 pub fn seal<D: SectorDevice>(device: &mut D, blocks: BlockCount) -> Result<(), DeviceFault>
     requires size { D.sector_count device.old ≡ sectors_for blocks.number }
-    requires synced { IsTrue (D.keeps_model device.old) → (k : ℕ) → (D.disk device.old).unsynced k ≡ false }
-    ensures ok { IsTrue (D.keeps_model device.old)
+    requires synced { IsTrue (D.keeps_sectors device.old) → (k : ℕ) → (D.disk device.old).unsynced k ≡ false }
+    ensures ok { IsTrue (D.keeps_sectors device.old)
         → OnOk result (D.disk device.new ≡ settled (written (D.disk device.old) 0 (label_of blocks.number))) }
-    ensures stops { IsTrue (D.keeps_model device.old)
+    ensures stops { IsTrue (D.keeps_sectors device.old)
         → StopsLeave D.SectorDevice device.old device.new (Sealed blocks.number (D.disk device.old).content) }
     ensures passes { Passes D.SectorDevice device.old device.new result }
     ensures begins { BeginsAtMost D.SectorDevice device.old device.new 1 1 }
@@ -136,11 +136,11 @@ pub fn seal<D: SectorDevice>(device: &mut D, blocks: BlockCount) -> Result<(), D
 // Makes the image. A stop before the end leaves no good label, or what was there.
 fn make<D: SectorDevice>(device: &mut D, blocks: BlockCount) -> Result<(), DeviceFault>
     requires size { D.sector_count device.old ≡ sectors_for blocks.number }
-    ensures ok { IsTrue (D.keeps_model device.old)
+    ensures ok { IsTrue (D.keeps_sectors device.old)
         → OnOk result (IsMade blocks.number (λ _. replicate 512 32) (D.disk device.new)) }
-    ensures slots { IsTrue (D.keeps_model device.old)
+    ensures slots { IsTrue (D.keeps_sectors device.old)
         → OnOk result (KeepsSlots blocks.number (D.disk device.old).content (D.disk device.new).content) }
-    ensures stops { IsTrue (D.keeps_model device.old)
+    ensures stops { IsTrue (D.keeps_sectors device.old)
         → StopsLeave D.SectorDevice device.old device.new (FormatLeaves blocks.number (D.disk device.old)) }
     ensures passes { Passes D.SectorDevice device.old device.new result }
     ensures begins { BeginsAtMost D.SectorDevice device.old device.new (2 * blocks.number + 4) 4 }
@@ -157,11 +157,11 @@ fn make<D: SectorDevice>(device: &mut D, blocks: BlockCount) -> Result<(), Devic
 /// Gate and record become zeros, and the slots are left. The label is written last, and a good label that stood there is
 /// taken away first. So a stop leaves no good label, or the blank image, or the old image as it was.
 pub fn format<D: SectorDevice>(mut device: D, blocks: u16) -> Result<Store<D>, (OpenFault, D)>
-    ensures ok { IsTrue (D.keeps_model device)
+    ensures ok { IsTrue (D.keeps_sectors device)
         → IfOk result (λ store. StandsFor store (fresh (blank_blocks blocks))) }
-    ensures clean { IsTrue (D.keeps_model device) → IfOk result (λ store. IsClean blocks (disk_of store)) }
-    ensures blank { IsTrue (D.keeps_model device) → IfOk result (λ store. IsBlank blocks (disk_of store).content) }
-    ensures slots { IsTrue (D.keeps_model device)
+    ensures clean { IsTrue (D.keeps_sectors device) → IfOk result (λ store. IsClean blocks (disk_of store)) }
+    ensures blank { IsTrue (D.keeps_sectors device) → IfOk result (λ store. IsBlank blocks (disk_of store).content) }
+    ensures slots { IsTrue (D.keeps_sectors device)
         → IfOk result (λ store. KeepsSlots blocks (D.disk device).content (disk_of store).content) }
     ensures blocks { IfOk result (λ store. blocks_of store ≡ blocks) }
     ensures closed { IfOk result (λ store. closed_of store ≡ false) }
@@ -176,9 +176,9 @@ pub fn format<D: SectorDevice>(mut device: D, blocks: u16) -> Result<Store<D>, (
     ensures well { IfOk result (λ store. D.failures (device_of store) ≡ D.failures device) }
 
     // What a stop at any moment leaves, and a stop once it has returned.
-    ensures stops { IsTrue (D.keeps_model device) → (n : ℕ) → D.sector_count device ≡ sectors_for n
+    ensures stops { IsTrue (D.keeps_sectors device) → (n : ℕ) → D.sector_count device ≡ sectors_for n
         → StopsLeave D.SectorDevice device (end_of result) (FormatLeaves n (D.disk device)) }
-    ensures after { IsTrue (D.keeps_model device)
+    ensures after { IsTrue (D.keeps_sectors device)
         → IfOk result (λ store. (image : Image) → MayLeave (disk_of store) image → Means (blank_blocks blocks) image) }
     // At most zeros over a label, gate, record, homes and label are written.
     ensures begins { BeginsAtMost D.SectorDevice device (end_of result) (2 * blocks + 4) 4 }
@@ -188,6 +188,7 @@ pub fn format<D: SectorDevice>(mut device: D, blocks: u16) -> Result<Store<D>, (
     ensures failures { D.failures device ≤ D.failures (end_of result) }
     ensures sectors { D.sector_count (end_of result) ≡ D.sector_count device }
     ensures model { D.keeps_model (end_of result) ≡ D.keeps_model device }
+    ensures units { D.keeps_sectors (end_of result) ≡ D.keeps_sectors device }
 {
     if !fits(blocks, MOST_BLOCKS, device.sectors()) {
         return Err((OpenFault::BadSize, device));

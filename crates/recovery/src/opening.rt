@@ -32,11 +32,11 @@ use sector_disk::SectorDevice;
 /// the device failed.
 pub fn open<D: SectorDevice>(mut device: D) -> Result<Store<D>, (OpenFault, D)>
     // The store has the blocks that the image meant.
-    ensures ok { IsTrue (D.keeps_model device)
+    ensures ok { IsTrue (D.keeps_sectors device)
         → IfOk result (λ store. StandsFor store (fresh (meaning (blocks_of store) (D.disk device).content))) }
-    ensures clean { IsTrue (D.keeps_model device)
+    ensures clean { IsTrue (D.keeps_sectors device)
         → IfOk result (λ store. IsClean (blocks_of store) (disk_of store)) }
-    ensures gate { IsTrue (D.keeps_model device)
+    ensures gate { IsTrue (D.keeps_sectors device)
         → IfOk result (λ store. (disk_of store).content 1 ≡ gate_after ((D.disk device).content 1)) }
     ensures closed { IfOk result (λ store. closed_of store ≡ false) }
     ensures pending { IfOk result (λ store. (b : ℕ) → is_pending store b ≡ false) }
@@ -47,13 +47,13 @@ pub fn open<D: SectorDevice>(mut device: D) -> Result<Store<D>, (OpenFault, D)>
     ensures bad_size { IfErr result (λ e. MatchBool (is_size (D.sector_count device)) (e.0 ≢ BadSize) (e.0 ≡ BadSize)) }
     ensures unasked { IfErr result (λ e. e.0 ≡ BadSize → e.1 ≡ device) }
     // Each refusal tells the first test that the image fails.
-    ensures exact { IsTrue (D.keeps_model device) → MatchResult result
+    ensures exact { IsTrue (D.keeps_sectors device) → MatchResult result
         (λ _. image_refusal (D.sector_count device) (D.disk device).content ≡ None)
         (λ e. (e.0 ≡ Device) ⊎ (image_refusal (D.sector_count device) (D.disk device).content ≡ Some e.0)) }
     // What is opened has a meaning, and what has one is refused only by a fault of the device.
-    ensures meaning { IsTrue (D.keeps_model device)
+    ensures meaning { IsTrue (D.keeps_sectors device)
         → IfOk result (λ store. HasMeaning (blocks_of store) (D.disk device).content) }
-    ensures good { IsTrue (D.keeps_model device) → (n : ℕ) → D.sector_count device ≡ sectors_for n
+    ensures good { IsTrue (D.keeps_sectors device) → (n : ℕ) → D.sector_count device ≡ sectors_for n
         → HasMeaning n (D.disk device).content → IfErr result (λ e. e.0 ≡ Device) }
     ensures device { IfErr result (λ e. e.0 ≡ Device → D.failures e.1 ≡ count_up (D.failures device)) }
     ensures refused { IfErr result (λ e. e.0 ≢ Device → D.failures e.1 ≡ D.failures device) }
@@ -64,19 +64,20 @@ pub fn open<D: SectorDevice>(mut device: D) -> Result<Store<D>, (OpenFault, D)>
         → IfErr result (λ e. e.0 ≢ Device → (D.disk e.1).content ≡ (D.disk device).content) }
 
     // A stop at any moment leaves an image that follows one which a stop before could leave.
-    ensures stops { IsTrue (D.keeps_model device) → (n : ℕ) → D.sector_count device ≡ sectors_for n
+    ensures stops { IsTrue (D.keeps_sectors device) → (n : ℕ) → D.sector_count device ≡ sectors_for n
         → StopsLeave D.SectorDevice device (end_of result) (RecoveryLeaves n (D.disk device)) }
     // Once it has returned, a stop leaves the blocks that the image meant.
-    ensures after { IsTrue (D.keeps_model device) → IfOk result (λ store. (image : Image) → MayLeave (disk_of store) image
+    ensures after { IsTrue (D.keeps_sectors device) → IfOk result (λ store. (image : Image) → MayLeave (disk_of store) image
         → Means (meaning (blocks_of store) (D.disk device).content) image) }
     ensures time { Elapses D.time D.left_since device (end_of result) }
     ensures failures { D.failures device ≤ D.failures (end_of result) }
     ensures sectors { D.sector_count (end_of result) ≡ D.sector_count device }
     ensures model { D.keeps_model (end_of result) ≡ D.keeps_model device }
-    ensures begins { IsTrue (D.keeps_model device) → (n : ℕ) → D.sector_count device ≡ sectors_for n
+    ensures units { D.keeps_sectors (end_of result) ≡ D.keeps_sectors device }
+    ensures begins { IsTrue (D.keeps_sectors device) → (n : ℕ) → D.sector_count device ≡ sectors_for n
         → BeginsAtMost D.SectorDevice device (end_of result) (writes_for n (D.disk device).content)
         (syncs_for (D.disk device).content) }
-    ensures reads { IsTrue (D.keeps_model device) → (n : ℕ) → D.sector_count device ≡ sectors_for n
+    ensures reads { IsTrue (D.keeps_sectors device) → (n : ℕ) → D.sector_count device ≡ sectors_for n
         → ReadsAtMost D.SectorDevice device (end_of result) (reads_for n (D.disk device).content) }
 {
     let Some(number) = blocks_of_size(device.sectors(), MOST_BLOCKS) else {

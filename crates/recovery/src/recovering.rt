@@ -55,20 +55,20 @@ fn finish<D: SectorDevice>(
     blocks: BlockCount,
 ) -> Result<(), OpenFault>
     requires size { D.sector_count device.old ≡ sectors_for blocks.number }
-    requires synced { IsTrue (D.keeps_model device.old) → (k : ℕ) → (D.disk device.old).unsynced k ≡ false }
-    ensures ok { IsTrue (D.keeps_model device.old)
+    requires synced { IsTrue (D.keeps_sectors device.old) → (k : ℕ) → (D.disk device.old).unsynced k ≡ false }
+    ensures ok { IsTrue (D.keeps_sectors device.old)
         → OnOk result (IsRecovered blocks.number (D.disk device.old) (D.disk device.new)) }
-    ensures exact { IsTrue (D.keeps_model device.old) → MatchResult result
+    ensures exact { IsTrue (D.keeps_sectors device.old) → MatchResult result
         (λ _. damage_refusal_by version blocks.number (D.disk device.old).content ≡ None)
         (λ e. (e ≡ Device) ⊎ (damage_refusal_by version blocks.number (D.disk device.old).content ≡ Some e)) }
     ensures tells { Tells D.SectorDevice device.old device.new 0 result }
-    ensures stops { IsTrue (D.keeps_model device.old)
+    ensures stops { IsTrue (D.keeps_sectors device.old)
         → StopsLeave D.SectorDevice device.old device.new (FinishLeaves version blocks.number (D.disk device.old).content) }
     ensures passes { Proceeds D.SectorDevice device.old device.new }
-    ensures begins { IsTrue (D.keeps_model device.old)
+    ensures begins { IsTrue (D.keeps_sectors device.old)
         → BeginsAtMost D.SectorDevice device.old device.new (writes_for blocks.number (D.disk device.old).content)
         (syncs_for (D.disk device.old).content - 1) }
-    ensures reads { IsTrue (D.keeps_model device.old)
+    ensures reads { IsTrue (D.keeps_sectors device.old)
         → ReadsAtMost D.SectorDevice device.old device.new (reads_by version blocks.number (D.disk device.old).content - 1) }
 {
     let mut gate = [0; 512];
@@ -92,21 +92,21 @@ pub(crate) fn recover<D: SectorDevice>(
     blocks: BlockCount,
 ) -> Result<(), OpenFault>
     requires size { D.sector_count device.old ≡ sectors_for blocks.number }
-    ensures ok { IsTrue (D.keeps_model device.old)
+    ensures ok { IsTrue (D.keeps_sectors device.old)
         → OnOk result (IsRecovered blocks.number (D.disk device.old) (D.disk device.new)) }
-    ensures label { IsTrue (D.keeps_model device.old)
+    ensures label { IsTrue (D.keeps_sectors device.old)
         → OnOk result ((D.disk device.old).content 0 ≡ label_by version blocks.number) }
-    ensures exact { IsTrue (D.keeps_model device.old) → MatchResult result
+    ensures exact { IsTrue (D.keeps_sectors device.old) → MatchResult result
         (λ _. recovery_refusal version blocks.number (D.disk device.old).content ≡ None)
         (λ e. (e ≡ Device) ⊎ (recovery_refusal version blocks.number (D.disk device.old).content ≡ Some e)) }
     ensures tells { Tells D.SectorDevice device.old device.new 1 result }
-    ensures stops { IsTrue (D.keeps_model device.old)
+    ensures stops { IsTrue (D.keeps_sectors device.old)
         → StopsLeave D.SectorDevice device.old device.new (LeavesBy version blocks.number (D.disk device.old)) }
     ensures passes { Proceeds D.SectorDevice device.old device.new }
-    ensures begins { IsTrue (D.keeps_model device.old)
+    ensures begins { IsTrue (D.keeps_sectors device.old)
         → BeginsAtMost D.SectorDevice device.old device.new (writes_for blocks.number (D.disk device.old).content)
         (syncs_for (D.disk device.old).content) }
-    ensures reads { IsTrue (D.keeps_model device.old)
+    ensures reads { IsTrue (D.keeps_sectors device.old)
         → ReadsAtMost D.SectorDevice device.old device.new (reads_by version blocks.number (D.disk device.old).content) }
 {
     start(device, version, blocks.number)?;

@@ -47,11 +47,11 @@ fn carry_sector<A: SectorDevice, B: SectorDevice>(
 ) -> Result<(), UpgradeFault>
     requires from { k < A.sector_count source.old }
     requires to { k < B.sector_count target.old }
-    ensures ok { IsTrue (A.keeps_model source.old) → IsTrue (B.keeps_model target.old)
+    ensures ok { IsTrue (A.keeps_model source.old) → IsTrue (B.keeps_sectors target.old)
         → OnOk result (B.disk target.new ≡ written (B.disk target.old) k ((A.disk source.old).content k)) }
-    ensures only { IsTrue (B.keeps_model target.old)
+    ensures only { IsTrue (B.keeps_sectors target.old)
         → WritesOnly (λ j. j ≡ k) (B.disk target.old) (B.disk target.new) }
-    ensures stops { IsTrue (B.keeps_model target.old)
+    ensures stops { IsTrue (B.keeps_sectors target.old)
         → StopsLeave B.SectorDevice target.old target.new (IsAsSynced (λ j. j ≡ k) (B.disk target.old)) }
     ensures faults { IfErr result (TellsFault A.SectorDevice B.SectorDevice source.old source.new target.old target.new) }
     ensures well { OnOk result (WentWell A.SectorDevice B.SectorDevice source.old source.new target.old target.new) }
@@ -79,12 +79,12 @@ fn carry_homes<A: SectorDevice, B: SectorDevice>(
 ) -> Result<(), UpgradeFault>
     requires from { A.sector_count source.old ≡ sectors_for blocks.number }
     requires to { B.sector_count target.old ≡ sectors_for blocks.number }
-    ensures ok { IsTrue (A.keeps_model source.old) → IsTrue (B.keeps_model target.old)
+    ensures ok { IsTrue (A.keeps_model source.old) → IsTrue (B.keeps_sectors target.old)
         → OnOk result ((k : ℕ) → 3 + 2 * blocks.number ≤ k → k < 3 + 4 * blocks.number
         → (B.disk target.new).content k ≡ (A.disk source.old).content k) }
-    ensures only { IsTrue (B.keeps_model target.old)
+    ensures only { IsTrue (B.keeps_sectors target.old)
         → WritesOnly (λ k. 3 + 2 * blocks.number ≤ k) (B.disk target.old) (B.disk target.new) }
-    ensures stops { IsTrue (B.keeps_model target.old)
+    ensures stops { IsTrue (B.keeps_sectors target.old)
         → StopsLeave B.SectorDevice target.old target.new (IsAsSynced (λ k. 3 + 2 * blocks.number ≤ k) (B.disk target.old)) }
     ensures faults { IfErr result (TellsFault A.SectorDevice B.SectorDevice source.old source.new target.old target.new) }
     ensures well { OnOk result (WentWell A.SectorDevice B.SectorDevice source.old source.new target.old target.new) }
@@ -109,13 +109,13 @@ fn fill<A: SectorDevice, B: SectorDevice>(
 ) -> Result<(), UpgradeFault>
     requires from { A.sector_count source.old ≡ sectors_for blocks.number }
     requires to { B.sector_count target.old ≡ sectors_for blocks.number }
-    ensures ok { IsTrue (A.keeps_model source.old) → IsTrue (B.keeps_model target.old)
+    ensures ok { IsTrue (A.keeps_model source.old) → IsTrue (B.keeps_sectors target.old)
         → OnOk result (IsFilled blocks.number (A.disk source.old).content (B.disk target.new).content) }
-    ensures slots { IsTrue (B.keeps_model target.old)
+    ensures slots { IsTrue (B.keeps_sectors target.old)
         → OnOk result (KeepsSlots blocks.number (B.disk target.old).content (B.disk target.new).content) }
-    ensures only { IsTrue (B.keeps_model target.old)
+    ensures only { IsTrue (B.keeps_sectors target.old)
         → WritesOnly (λ k. k ≢ 0) (B.disk target.old) (B.disk target.new) }
-    ensures stops { IsTrue (B.keeps_model target.old)
+    ensures stops { IsTrue (B.keeps_sectors target.old)
         → StopsLeave B.SectorDevice target.old target.new (IsAsSynced (λ k. k ≢ 0) (B.disk target.old)) }
     ensures faults { IfErr result (TellsFault A.SectorDevice B.SectorDevice source.old source.new target.old target.new) }
     ensures well { OnOk result (WentWell A.SectorDevice B.SectorDevice source.old source.new target.old target.new) }
@@ -139,14 +139,14 @@ fn prepare<A: SectorDevice, B: SectorDevice>(
 ) -> Result<(), UpgradeFault>
     requires from { A.sector_count source.old ≡ sectors_for blocks.number }
     requires to { B.sector_count target.old ≡ sectors_for blocks.number }
-    requires unlabelled { IsTrue (B.keeps_model target.old) → IsUnlabelled blocks.number (B.disk target.old) }
-    ensures ok { IsTrue (A.keeps_model source.old) → IsTrue (B.keeps_model target.old)
+    requires unlabelled { IsTrue (B.keeps_sectors target.old) → IsUnlabelled blocks.number (B.disk target.old) }
+    ensures ok { IsTrue (A.keeps_model source.old) → IsTrue (B.keeps_sectors target.old)
         → OnOk result (IsPrepared blocks.number (A.disk source.old).content (B.disk target.new)) }
-    ensures slots { IsTrue (B.keeps_model target.old)
+    ensures slots { IsTrue (B.keeps_sectors target.old)
         → OnOk result (KeepsSlots blocks.number (B.disk target.old).content (B.disk target.new).content) }
-    ensures synced { IsTrue (B.keeps_model target.old)
+    ensures synced { IsTrue (B.keeps_sectors target.old)
         → OnOk result ((k : ℕ) → (B.disk target.new).unsynced k ≡ false) }
-    ensures stops { IsTrue (B.keeps_model target.old)
+    ensures stops { IsTrue (B.keeps_sectors target.old)
         → StopsLeave B.SectorDevice target.old target.new (λ c. c 0 ≢ label_of blocks.number) }
     ensures faults { IfErr result (TellsFault A.SectorDevice B.SectorDevice source.old source.new target.old target.new) }
     ensures well { OnOk result (WentWell A.SectorDevice B.SectorDevice source.old source.new target.old target.new) }
@@ -171,12 +171,12 @@ fn write_image<A: SectorDevice, B: SectorDevice>(
 ) -> Result<(), UpgradeFault>
     requires from { A.sector_count source.old ≡ sectors_for blocks.number }
     requires to { B.sector_count target.old ≡ sectors_for blocks.number }
-    requires unlabelled { IsTrue (B.keeps_model target.old) → IsUnlabelled blocks.number (B.disk target.old) }
-    ensures ok { IsTrue (A.keeps_model source.old) → IsTrue (B.keeps_model target.old)
+    requires unlabelled { IsTrue (B.keeps_sectors target.old) → IsUnlabelled blocks.number (B.disk target.old) }
+    ensures ok { IsTrue (A.keeps_model source.old) → IsTrue (B.keeps_sectors target.old)
         → OnOk result (IsMade blocks.number (A.disk source.old).content (B.disk target.new)) }
-    ensures slots { IsTrue (B.keeps_model target.old)
+    ensures slots { IsTrue (B.keeps_sectors target.old)
         → OnOk result (KeepsSlots blocks.number (B.disk target.old).content (B.disk target.new).content) }
-    ensures stops { IsTrue (A.keeps_model source.old) → IsTrue (B.keeps_model target.old)
+    ensures stops { IsTrue (A.keeps_model source.old) → IsTrue (B.keeps_sectors target.old)
         → StopsLeave B.SectorDevice target.old target.new (CarriedLeaves blocks.number (A.disk source.old).content) }
     ensures faults { IfErr result (TellsFault A.SectorDevice B.SectorDevice source.old source.new target.old target.new) }
     ensures well { OnOk result (WentWell A.SectorDevice B.SectorDevice source.old source.new target.old target.new) }
@@ -201,11 +201,11 @@ fn carry<A: SectorDevice, B: SectorDevice>(
 ) -> Result<(), UpgradeFault>
     requires from { A.sector_count source.old ≡ sectors_for blocks.number }
     requires to { B.sector_count target.old ≡ sectors_for blocks.number }
-    ensures ok { IsTrue (A.keeps_model source.old) → IsTrue (B.keeps_model target.old)
+    ensures ok { IsTrue (A.keeps_model source.old) → IsTrue (B.keeps_sectors target.old)
         → OnOk result (IsMade blocks.number (A.disk source.old).content (B.disk target.new)) }
-    ensures slots { IsTrue (B.keeps_model target.old)
+    ensures slots { IsTrue (B.keeps_sectors target.old)
         → OnOk result (KeepsSlots blocks.number (B.disk target.old).content (B.disk target.new).content) }
-    ensures stops { IsTrue (A.keeps_model source.old) → IsTrue (B.keeps_model target.old)
+    ensures stops { IsTrue (A.keeps_model source.old) → IsTrue (B.keeps_sectors target.old)
         → StopsLeave B.SectorDevice target.old target.new
         (λ c. TakenAway blocks.number (B.disk target.old) c ⊎ CarriedLeaves blocks.number (A.disk source.old).content c) }
     ensures faults { IfErr result (TellsFault A.SectorDevice B.SectorDevice source.old source.new target.old target.new) }
@@ -233,7 +233,7 @@ pub fn upgrade<A: SectorDevice, B: SectorDevice>(
     new: &mut B,
 ) -> Result<(), UpgradeFault>
     // Each refusal tells the first test that fails.
-    ensures exact { IsTrue (A.keeps_model old.old) → MatchResult result
+    ensures exact { IsTrue (A.keeps_sectors old.old) → MatchResult result
         (λ _. upgrade_refusal (A.sector_count old.old) (B.sector_count new.old) ((A.disk old.old).content 0) ≡ None)
         (λ e. (e ≡ Old Device) ⊎ (e ≡ New Device)
         ⊎ (upgrade_refusal (A.sector_count old.old) (B.sector_count new.old) ((A.disk old.old).content 0) ≡ Some e)) }
@@ -255,29 +255,29 @@ pub fn upgrade<A: SectorDevice, B: SectorDevice>(
     ensures new_same { IfErr result (λ e. e ≢ Old Device → e ≢ New Device → new.new ≡ new.old) }
 
     // What a stop at any moment leaves of the old image, and of the new one, and what one leaves of that once it has returned.
-    ensures old_stops { IsTrue (A.keeps_model old.old) → (n : ℕ) → A.sector_count old.old ≡ sectors_for n
+    ensures old_stops { IsTrue (A.keeps_sectors old.old) → (n : ℕ) → A.sector_count old.old ≡ sectors_for n
         → StopsLeave A.SectorDevice old.old old.new (OldLeaves n (A.disk old.old)) }
-    ensures new_stops { IsTrue (A.keeps_model old.old) → IsTrue (B.keeps_model new.old) → (n : ℕ)
+    ensures new_stops { IsTrue (A.keeps_sectors old.old) → IsTrue (B.keeps_sectors new.old) → (n : ℕ)
         → B.sector_count new.old ≡ sectors_for n
         → StopsLeave B.SectorDevice new.old new.new (MakingLeaves n (meaning n (A.disk old.old).content) (B.disk new.old)) }
-    ensures after { IsTrue (A.keeps_model old.old) → IsTrue (B.keeps_model new.old)
+    ensures after { IsTrue (A.keeps_sectors old.old) → IsTrue (B.keeps_sectors new.old)
         → OnOk result ((n : ℕ) → B.sector_count new.old ≡ sectors_for n
         → (image : Image) → MayLeave (B.disk new.new) image → Means (meaning n (A.disk old.old).content) image) }
     // The new image is made as by a format, with the homes of the old one, whose gate is closed then.
-    ensures filled { IsTrue (A.keeps_model old.old) → IsTrue (B.keeps_model new.old)
+    ensures filled { IsTrue (A.keeps_sectors old.old) → IsTrue (B.keeps_sectors new.old)
         → OnOk result ((n : ℕ) → B.sector_count new.old ≡ sectors_for n
         → IsFilled n (A.disk old.new).content (B.disk new.new).content) }
-    ensures slots { IsTrue (B.keeps_model new.old) → OnOk result ((n : ℕ) → B.sector_count new.old ≡ sectors_for n
+    ensures slots { IsTrue (B.keeps_sectors new.old) → OnOk result ((n : ℕ) → B.sector_count new.old ≡ sectors_for n
         → KeepsSlots n (B.disk new.old).content (B.disk new.new).content) }
-    ensures old_gate { IsTrue (A.keeps_model old.old)
+    ensures old_gate { IsTrue (A.keeps_sectors old.old)
         → OnOk result ((A.disk old.new).content 1 ≡ gate_after ((A.disk old.old).content 1)) }
     ensures old_passes { Proceeds A.SectorDevice old.old old.new }
     ensures new_passes { Proceeds B.SectorDevice new.old new.new }
-    ensures old_begins { IsTrue (A.keeps_model old.old) → (n : ℕ) → A.sector_count old.old ≡ sectors_for n
+    ensures old_begins { IsTrue (A.keeps_sectors old.old) → (n : ℕ) → A.sector_count old.old ≡ sectors_for n
         → BeginsAtMost A.SectorDevice old.old old.new (writes_for n (A.disk old.old).content)
         (syncs_for (A.disk old.old).content) }
     // What a recovery reads, and each home once.
-    ensures old_reads { IsTrue (A.keeps_model old.old) → (n : ℕ) → A.sector_count old.old ≡ sectors_for n
+    ensures old_reads { IsTrue (A.keeps_sectors old.old) → (n : ℕ) → A.sector_count old.old ≡ sectors_for n
         → ReadsAtMost A.SectorDevice old.old old.new (reads_for_1 n (A.disk old.old).content + 2 * n) }
     ensures new_begins { (n : ℕ) → B.sector_count new.old ≡ sectors_for n
         → BeginsAtMost B.SectorDevice new.old new.new (2 * n + 4) 4 }

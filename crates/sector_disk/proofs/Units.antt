@@ -5,7 +5,7 @@ use Rattle.std.specs.Prelude.{◌==◌, Result, Ok, Err, IsOk, OnOk}
 use Rattle.std.proofs.Math.Path.{fun_ext}
 use Rattle.std.proofs.lemmas.Bool.{cases_eq, cases_lt}
 use Rattle.std.proofs.lemmas.Bool.Decides.{nat_tests}
-use Rattle.sector_disk.specs.Coarse.{in_eights, unit_of}
+use Rattle.sector_disk.specs.Coarse.{in_eights, inside, past, unit_of}
 use Rattle.sector_disk.specs.Counting.{CountsFailure}
 use Rattle.sector_disk.specs.Disk.{Disk, with_sector, written}
 
@@ -24,22 +24,16 @@ on_well (Err e) well ok = absurd (err_ok well)
     err_ok : false ≡ true → ⊥
     err_ok is = cc
 
-inside : (count k : ℕ) → k < count → unit_of count k ≡ k / 8
-inside count k below = grind (arith, nat_tests)
-
-past : (count k : ℕ) → count ≤ k → unit_of count k ≡ k
-past count k out = grind (arith, nat_tests)
-
 apart : (count j k : ℕ) → k < count → (j < count → j / 8 ≢ k / 8) → unit_of count j ≢ unit_of count k
 apart count j k below other is = elim (cases_lt j count) [
   | inl low ↦ other low (sym (inside count j low) ∙ is ∙ inside count k below)
   | inr out ↦ absurd (omega (arith, below, out, sym (past count j out) ∙ is ∙ inside count k below))
 ]
 
-when : (a b : ℕ) (x : Bool) → a ≡ b → cond (a == b) true x ≡ true
+pub when : (a b : ℕ) (x : Bool) → a ≡ b → cond (a == b) true x ≡ true
 when a b x same = grind (arith, nat_tests)
 
-unless : (a b : ℕ) (x : Bool) → a ≢ b → cond (a == b) true x ≡ x
+pub unless : (a b : ℕ) (x : Bool) → a ≢ b → cond (a == b) true x ≡ x
 unless a b x other = grind (arith, nat_tests)
 
 already : (a b : ℕ) (x : Bool) → x ≡ true → cond (a == b) true x ≡ true

@@ -18,6 +18,7 @@ fails_at f j = will_fail f.fuse j
 pub record GoesOn {D : Type 0} {T E : Type 0} (G : Ghosts D) (old new : D) (result : Result T E) : Type 0 where
   pub sectors : G.sector_count new ≡ G.sector_count old
   pub model : G.keeps_model new ≡ G.keeps_model old
+  pub units : G.keeps_sectors new ≡ G.keeps_sectors old
   pub time : Elapses G.time G.left_since old new
   pub stops : LeavesOnly G.time G.left_since old new (MayLeaveEither (G.disk old) (G.disk new))
   pub failures : CountsFailure (G.failures old) (G.failures new) result

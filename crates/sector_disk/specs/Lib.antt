@@ -9,8 +9,11 @@ pub mod Laws
 pub mod Memory
 pub mod MemoryDisk
 pub mod MemoryFile
+pub mod MemoryFiles
 pub mod Moments
 pub mod Opening
+pub mod PagedFile
+pub mod Pages
 pub mod Recorded
 pub mod RecordedDisk
 pub mod SectorFile

@@ -8,6 +8,7 @@ bytes_in content synced unsynced = record {
   content = λ p. slice_index content p;
   synced = λ p. slice_index synced p;
   unsynced = λ k. slice_index_or unsynced k false;
+  unit = λ k. k;
 }
 
 -- Sectors that aren't unsynced hold what they held at the last sync.

@@ -17,5 +17,6 @@ pub record AreZeros (sectors : ℕ) (file : FileBytes) : Type 0 where
 -- The one is what the other became by calls of it.
 pub record KeepsGoing {H : Type 0} (G : Ghosts H) (old new : H) : Type 0 where
   pub model : G.keeps_model new ≡ G.keeps_model old
+  pub units : G.keeps_sectors new ≡ G.keeps_sectors old
   pub settle : G.syncs_settle new ≡ G.syncs_settle old
   pub time : Elapses G.time G.left_since old new

@@ -1,5 +1,5 @@
 // A disk in memory whose sectors lie in larger units.
-ghost use Rattle.std.specs.Prelude.{◌≡◌, ◌↔◌, ◌⊎◌, ℕ, ◌+◌, ◌%◌, ◌<◌, ◌≤◌, Bool, false, IsOk, IsTrue, OnOk, OnErr};
+ghost use Rattle.std.specs.Prelude.{◌≡◌, ◌↔◌, ◌⊎◌, ℕ, ◌+◌, ◌%◌, ◌<◌, ◌≤◌, Bool, true, false, IsOk, IsTrue, OnOk, OnErr};
 ghost use Rattle.sector_disk.specs.Coarse.{coarse_device_of, held_in_eights, in_eights};
 ghost use Rattle.sector_disk.specs.Disk.{Disk, Image, MayLeave, settled, written};
 ghost use Rattle.sector_disk.specs.MemoryDisk.{held, size, begun};
@@ -12,8 +12,7 @@ const UNIT: u32 = 8;
 /// A disk in memory whose sectors lie in units of eight, each from a multiple of eight on. A write touches each sector of its
 /// unit: until a sync, a stop may leave any bytes in them. No call fails.
 ///
-/// So it doesn't keep the disk model of `SectorDevice`, where a write spoils its own sector alone. What it does instead is
-/// said of its calls, with no premise.
+/// So it keeps the disk model, and not by sectors: a write spoils more than its own sector.
 #[derive(Drop)]
 pub struct Coarse {
     device: MemoryDisk,
@@ -25,6 +24,7 @@ impl Coarse {
         ensures device { coarse_device_of result ≡ device }
         ensures sectors { ⟦<Coarse as SectorDevice>⟧.sector_count result ≡ size device }
         ensures disk { ⟦<Coarse as SectorDevice>⟧.disk result ≡ in_eights (size device) (held device) }
+        ensures model { IsTrue (⟦<Coarse as SectorDevice>⟧.keeps_model result) }
         ensures counts { ⟦<Coarse as SectorDevice>⟧.counts result ≡ begun device }
     {
         Coarse { device }
@@ -42,11 +42,16 @@ impl Coarse {
 
 impl SectorDevice for Coarse {
     ghost use Rattle.sector_disk.specs.Counting.{with_read, with_write, with_sync};
+    ghost use Rattle.sector_disk.specs.Coarse.{paged_in_eights};
     ghost use Rattle.sector_disk.specs.Fused.{GoesOn};
+    ghost use Rattle.sector_disk.specs.Laws.{present_of};
+    ghost use Rattle.sector_disk.specs.Pages.{IsPaged};
 
     ghost sector_count = { λ d. size d.device };
 
-    ghost keeps_model = { λ d. false };
+    ghost keeps_model = { λ d. true };
+
+    ghost keeps_sectors = { λ d. false };
 
     ghost disk = { λ d. held_in_eights d };
 
@@ -59,7 +64,11 @@ impl SectorDevice for Coarse {
 
     ghost counts = { λ d. begun d.device };
 
-    ghost present = { λ d keeps k synced. Prim.cc };
+    ghost present = { λ d keeps. present_of d.device.sectors.items };
+
+    ghost keeps_both = { λ d keeps. Prim.cc };
+
+    ghost by_pages = { λ d keeps. paged_in_eights (size d.device) (held d.device) };
 
     ghost by_sectors = { λ d k keeps. Prim.cc };
 

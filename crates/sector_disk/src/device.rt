@@ -3,6 +3,7 @@ ghost use Rattle.std.specs.Prelude.{◌≡◌, ℕ, ◌<◌, ◌≤◌, Bool, Is
 ghost use Rattle.sector_disk.specs.declared.device.Counts.{Counts};
 ghost use Rattle.sector_disk.specs.Disk.{Disk, Image, MayLeave, MayLeaveEither, written, settled, MayWrite, SettlesNothing};
 ghost use Rattle.sector_disk.specs.Moments.{Elapses, LeavesOnly};
+ghost use Rattle.sector_disk.specs.Pages.{IsPaged};
 ghost use Rattle.sector_disk.specs.Counting.{CountsFailure, with_read, with_write, with_sync};
 
 /// A call of the device failed.
@@ -61,8 +62,8 @@ pub(crate) fn count_failure<E: Drop>(
 /// device may stop, as at a loss of power.
 ///
 /// The clauses with the premise `keeps_model` say what a call does to the disk, and bind only a device that keeps
-/// the disk model. All others bind every device: sectors and model never change, time goes on, a stop within a call
-/// leaves what one before it or after it may leave, each call is counted, and each that fails is counted as a failure.
+/// the disk model. All others bind every device: sectors, model and units never change, time goes on, a stop within a
+/// call leaves what one before it or after it may leave, each call is counted, and each that fails is counted as a failure.
 ///
 /// A device may know its whole history, as `Recorded` does, or the present alone, as `MemoryDisk` does: both meet
 /// all clauses, so what is proved over any device speaks of each moment within a call.
@@ -71,8 +72,11 @@ pub trait SectorDevice {
     ghost sector_count: { Self → ℕ };
 
     /// Whether it keeps the disk model, which is known of a disk in memory. Of a file no contract can know it, so a
-    /// file says false and nothing is said of its bytes. A disk whose sectors lie in larger units doesn't keep it.
+    /// file says false and nothing is said of its bytes. A write may spoil its unit, which lies in a page of eight sectors.
     ghost keeps_model: { Self → Bool };
+
+    /// Whether it keeps the disk model by sectors: a write spoils its own sector alone.
+    ghost keeps_sectors: { Self → Bool };
 
     /// What it holds.
     ghost disk: { Self → Disk };
@@ -101,19 +105,21 @@ pub trait SectorDevice {
         ensures disk { IsTrue (keeps_model self.old) → disk self.new ≡ disk self.old }
         ensures sectors { sector_count self.new ≡ sector_count self.old }
         ensures model { keeps_model self.new ≡ keeps_model self.old }
+        ensures units { keeps_sectors self.new ≡ keeps_sectors self.old }
         ensures time { Elapses time left_since self.old self.new }
         ensures stops { LeavesOnly time left_since self.old self.new (MayLeaveEither (disk self.old) (disk self.new)) }
         ensures failures { CountsFailure (failures self.old) (failures self.new) result }
         ensures counts { counts self.new ≡ with_read (counts self.old) };
 
-    /// Writes sector `k`, which is below `sectors()`. Until a sync succeeds, a stop may leave any bytes in it. A write
-    /// that fails may have been done, with any bytes, or not at all.
+    /// Writes sector `k`, which is below `sectors()`. Until a sync succeeds, a stop may leave any bytes in its unit. A
+    /// write that fails may have been done, with any bytes, or not at all.
     fn write(&mut self, k: u32, bytes: &[u8; 512]) -> Result<(), DeviceFault>
         requires { k < sector_count self.old }
         ensures ok { IsTrue (keeps_model self.old) → OnOk result (disk self.new ≡ written (disk self.old) k bytes.now) }
         ensures err { IsTrue (keeps_model self.old) → OnErr result (MayWrite k (disk self.old) (disk self.new)) }
         ensures sectors { sector_count self.new ≡ sector_count self.old }
         ensures model { keeps_model self.new ≡ keeps_model self.old }
+        ensures units { keeps_sectors self.new ≡ keeps_sectors self.old }
         ensures time { Elapses time left_since self.old self.new }
         ensures stops { LeavesOnly time left_since self.old self.new (MayLeaveEither (disk self.old) (disk self.new)) }
         ensures failures { CountsFailure (failures self.old) (failures self.new) result }
@@ -126,6 +132,7 @@ pub trait SectorDevice {
         ensures err { IsTrue (keeps_model self.old) → OnErr result (SettlesNothing (disk self.old) (disk self.new)) }
         ensures sectors { sector_count self.new ≡ sector_count self.old }
         ensures model { keeps_model self.new ≡ keeps_model self.old }
+        ensures units { keeps_sectors self.new ≡ keeps_sectors self.old }
         ensures time { Elapses time left_since self.old self.new }
         ensures stops { LeavesOnly time left_since self.old self.new (MayLeaveEither (disk self.old) (disk self.new)) }
         ensures failures { CountsFailure (failures self.old) (failures self.new) result }
@@ -134,8 +141,14 @@ pub trait SectorDevice {
     /// A stop now may leave the present content.
     ghost present: { (d : Self) → IsTrue (keeps_model d) → MayLeave (disk d) (disk d).content };
 
-    /// Each sector is a unit of its own: a write spoils no other one.
-    ghost by_sectors: { (d : Self) (k : ℕ) → IsTrue (keeps_model d) → (disk d).unit k ≡ k };
+    /// Which keeps the disk model by sectors keeps it.
+    ghost keeps_both: { (d : Self) → IsTrue (keeps_sectors d) → IsTrue (keeps_model d) };
+
+    /// Sectors of one unit lie in one page: a write spoils no sector of another page.
+    ghost by_pages: { (d : Self) → IsTrue (keeps_model d) → IsPaged (disk d) };
+
+    /// By sectors each one is a unit of its own: a write spoils no other one.
+    ghost by_sectors: { (d : Self) (k : ℕ) → IsTrue (keeps_sectors d) → (disk d).unit k ≡ k };
 
     /// A stop now counts since any time until now.
     ghost counts_now: { (d : Self) (t : ℕ) (c : Image) → t ≤ time d → MayLeave (disk d) c → left_since d t c };

@@ -14,7 +14,7 @@ pub(crate) const SECTOR: u64 = 512;
 /// A file of sectors. Each read and write moves the sector's bytes at its place, and a sync asks that all bytes written
 /// reach the disk.
 ///
-/// Over a file that keeps the model of a file it keeps the disk model.
+/// Over a file that keeps the model of a file it keeps the disk model, and by sectors over one that keeps it so.
 #[derive(Drop)]
 pub struct SectorFile<H: HostFile> {
     file: H,
@@ -35,6 +35,7 @@ impl<H: HostFile> SectorFile<H> {
         requires { IsTrue (H.syncs_settle file) }
         ensures file { file_of result ≡ file }
         ensures model { ⟦<SectorFile<H> as SectorDevice>⟧.keeps_model result ≡ H.keeps_model file }
+        ensures units { ⟦<SectorFile<H> as SectorDevice>⟧.keeps_sectors result ≡ H.keeps_sectors file }
         ensures disk { ⟦<SectorFile<H> as SectorDevice>⟧.disk result ≡ disk_of_file (H.bytes file) }
         ensures sectors { sectors_of result ≡ sectors }
         ensures failures { ⟦<SectorFile<H> as SectorDevice>⟧.failures result ≡ 0 }
@@ -58,10 +59,13 @@ impl<H: HostFile> SectorDevice for SectorFile<H> {
     ghost use Rattle.sector_disk.specs.FileBytes.{disk_of_file};
     ghost use Rattle.sector_disk.specs.SectorFile.{sectors_of, has_failed_sync, file_of};
     ghost use Rattle.sector_disk.specs.Fused.{GoesOn};
+    ghost use Rattle.sector_disk.specs.Pages.{IsPaged};
 
     ghost sector_count = { λ f. f.sectors };
 
     ghost keeps_model = { λ f. H.keeps_model f.file };
+
+    ghost keeps_sectors = { λ f. H.keeps_sectors f.file };
 
     ghost disk = { λ f. disk_of_file (H.bytes f.file) };
 
@@ -75,7 +79,11 @@ impl<H: HostFile> SectorDevice for SectorFile<H> {
 
     ghost present = { λ f keeps. H.present f.file keeps };
 
-    ghost by_sectors = { λ f k keeps. Prim.cc };
+    ghost keeps_both = { λ f keeps. H.keeps_both f.file keeps };
+
+    ghost by_pages = { λ f keeps. H.by_pages f.file keeps };
+
+    ghost by_sectors = { λ f k keeps. H.by_sectors f.file k keeps };
 
     ghost counts_now = { λ f t c le now. H.counts_now f.file t c le now };
 

@@ -62,9 +62,10 @@ impl<D: SectorDevice> Fused<D> {
         ensures device { device_of result ≡ device }
         ensures fails { (j : ℕ) → fails_at result j ≡ (j == k) }
 
-        // So it holds what the device holds, and keeps the disk model where that does.
+        // So it holds what the device holds, and keeps the disk model, and by sectors, where that does.
         ensures disk { ⟦<Fused<D> as SectorDevice>⟧.disk result ≡ D.disk device }
         ensures model { ⟦<Fused<D> as SectorDevice>⟧.keeps_model result ≡ D.keeps_model device }
+        ensures units { ⟦<Fused<D> as SectorDevice>⟧.keeps_sectors result ≡ D.keeps_sectors device }
         ensures sectors { ⟦<Fused<D> as SectorDevice>⟧.sector_count result ≡ D.sector_count device }
 
         // Its own calls are counted from 0, and its failures on from those of the device.
@@ -80,9 +81,10 @@ impl<D: SectorDevice> Fused<D> {
         ensures device { device_of result ≡ device }
         ensures fails { (j : ℕ) → fails_at result j ≡ nat_le k j }
 
-        // So it holds what the device holds, and keeps the disk model where that does.
+        // So it holds what the device holds, and keeps the disk model, and by sectors, where that does.
         ensures disk { ⟦<Fused<D> as SectorDevice>⟧.disk result ≡ D.disk device }
         ensures model { ⟦<Fused<D> as SectorDevice>⟧.keeps_model result ≡ D.keeps_model device }
+        ensures units { ⟦<Fused<D> as SectorDevice>⟧.keeps_sectors result ≡ D.keeps_sectors device }
         ensures sectors { ⟦<Fused<D> as SectorDevice>⟧.sector_count result ≡ D.sector_count device }
 
         // Its own calls are counted from 0, and its failures on from those of the device.
@@ -97,6 +99,7 @@ impl<D: SectorDevice> Fused<D> {
         ensures device { result ≡ device_of self }
         ensures disk { D.disk result ≡ ⟦<Fused<D> as SectorDevice>⟧.disk self }
         ensures model { D.keeps_model result ≡ ⟦<Fused<D> as SectorDevice>⟧.keeps_model self }
+        ensures units { D.keeps_sectors result ≡ ⟦<Fused<D> as SectorDevice>⟧.keeps_sectors self }
         ensures sectors { D.sector_count result ≡ ⟦<Fused<D> as SectorDevice>⟧.sector_count self }
     {
         let Fused { device, .. } = self;
@@ -141,6 +144,8 @@ impl<D: SectorDevice> SectorDevice for Fused<D> {
 
     ghost keeps_model = { λ f. D.keeps_model f.device };
 
+    ghost keeps_sectors = { λ f. D.keeps_sectors f.device };
+
     ghost disk = { λ f. D.disk f.device };
 
     ghost time = { λ f. D.time f.device };
@@ -153,6 +158,10 @@ impl<D: SectorDevice> SectorDevice for Fused<D> {
     ghost counts = { λ f. f.counts };
 
     ghost present = { λ f keeps. D.present f.device keeps };
+
+    ghost keeps_both = { λ f keeps. D.keeps_both f.device keeps };
+
+    ghost by_pages = { λ f keeps. D.by_pages f.device keeps };
 
     ghost by_sectors = { λ f k keeps. D.by_sectors f.device k keeps };
 

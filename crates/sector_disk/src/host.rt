@@ -3,6 +3,7 @@ ghost use Rattle.std.specs.Prelude.{◌≡◌, ℕ, ◌<◌, ◌≤◌, Bool, tr
 ghost use Rattle.sector_disk.specs.Disk.{Image, MayLeave, MayLeaveEither};
 ghost use Rattle.sector_disk.specs.FileBytes.{FileBytes, disk_of_file, settled_file, Spoils, Puts, Gives};
 ghost use Rattle.sector_disk.specs.Moments.{Elapses, LeavesOnly};
+ghost use Rattle.sector_disk.specs.Pages.{IsPaged};
 
 use std::fs::File;
 use std::io;
@@ -24,8 +25,12 @@ pub enum HostFault {
 /// The clauses with the premise `keeps_model` are what has to be assumed of a system's file. No device is asked for
 /// anything else.
 pub trait HostFile {
-    /// Whether it keeps the model of a file.
+    /// Whether it keeps the model of a file. A write touches the units in which it writes, and each lies in a page of eight
+    /// sectors, of 4,096 bytes.
     ghost keeps_model: { Self → Bool };
+
+    /// Whether it keeps the model of a file by sectors: a write touches those alone in which it writes.
+    ghost keeps_sectors: { Self → Bool };
 
     /// What it holds.
     ghost bytes: { Self → FileBytes };
@@ -52,18 +57,20 @@ pub trait HostFile {
         ensures gives { IsTrue (keeps_model self.old) → IfOk result (λ n. Gives (bytes self.old) position buffer.new n) }
         ensures bytes { bytes self.new ≡ bytes self.old }
         ensures model { keeps_model self.new ≡ keeps_model self.old }
+        ensures units { keeps_sectors self.new ≡ keeps_sectors self.old }
         ensures settle { syncs_settle self.new ≡ syncs_settle self.old }
         ensures time { Elapses time left_since self.old self.new }
         ensures stops { LeavesOnly time left_since self.old self.new (MayLeaveEither (disk_of_file (bytes self.old)) (disk_of_file (bytes self.new))) };
 
     /// Writes the first bytes of the buffer, and says how many. Where it was interrupted it has written none. After
-    /// any other failure the sectors of these bytes may hold any bytes.
+    /// any other failure the sectors of these bytes may hold any bytes, and their units may be unsynced.
     fn write_at(&mut self, position: u64, buffer: &[u8]) -> Result<usize, HostFault>
         ensures count { IfOk result (λ n. n ≤ length buffer.now) }
         ensures puts { IsTrue (keeps_model self.old) → IfOk result (λ n. Puts position buffer.now n (bytes self.old) (bytes self.new)) }
         ensures interrupted { IsTrue (keeps_model self.old) → result ≡ Err HostFault.Interrupted → bytes self.new ≡ bytes self.old }
         ensures spoils { Spoils position (length buffer.now) (bytes self.old) (bytes self.new) }
         ensures model { keeps_model self.new ≡ keeps_model self.old }
+        ensures units { keeps_sectors self.new ≡ keeps_sectors self.old }
         ensures settle { syncs_settle self.new ≡ syncs_settle self.old }
         ensures time { Elapses time left_since self.old self.new }
         ensures stops { LeavesOnly time left_since self.old self.new (MayLeaveEither (disk_of_file (bytes self.old)) (disk_of_file (bytes self.new))) };
@@ -73,13 +80,24 @@ pub trait HostFile {
         ensures ok { IsTrue (keeps_model self.old) → IsTrue (syncs_settle self.old) → OnOk result (bytes self.new ≡ settled_file (bytes self.old)) }
         ensures synced { IsTrue (keeps_model self.old) → OnErr result ((bytes self.new).synced ≡ (bytes self.old).synced) }
         ensures unsynced { IsTrue (keeps_model self.old) → OnErr result ((bytes self.new).unsynced ≡ (bytes self.old).unsynced) }
+        ensures unit { IsTrue (keeps_model self.old) → OnErr result ((bytes self.new).unit ≡ (bytes self.old).unit) }
         ensures model { keeps_model self.new ≡ keeps_model self.old }
+        ensures units { keeps_sectors self.new ≡ keeps_sectors self.old }
         ensures settle { OnOk result (syncs_settle self.new ≡ syncs_settle self.old) }
         ensures time { Elapses time left_since self.old self.new }
         ensures stops { LeavesOnly time left_since self.old self.new (MayLeaveEither (disk_of_file (bytes self.old)) (disk_of_file (bytes self.new))) };
 
     /// A stop now may leave the present content.
     ghost present: { (f : Self) → IsTrue (keeps_model f) → MayLeave (disk_of_file (bytes f)) (disk_of_file (bytes f)).content };
+
+    /// Which keeps the model by sectors keeps it.
+    ghost keeps_both: { (f : Self) → IsTrue (keeps_sectors f) → IsTrue (keeps_model f) };
+
+    /// Sectors of one unit lie in one page: a write touches no sector of a page in which it doesn't write.
+    ghost by_pages: { (f : Self) → IsTrue (keeps_model f) → IsPaged (disk_of_file (bytes f)) };
+
+    /// By sectors each one is a unit of its own.
+    ghost by_sectors: { (f : Self) (k : ℕ) → IsTrue (keeps_sectors f) → (bytes f).unit k ≡ k };
 
     /// A stop now counts since any time until now.
     ghost counts_now: { (f : Self) (t : ℕ) (c : Image) → t ≤ time f → MayLeave (disk_of_file (bytes f)) c → left_since f t c };
@@ -121,7 +139,9 @@ impl HostFile for StdFile {
 
     ghost keeps_model = { λ f. false };
 
-    ghost bytes = { λ f. record { content = λ _. 0; synced = λ _. 0; unsynced = λ _. true } };
+    ghost keeps_sectors = { λ f. false };
+
+    ghost bytes = { λ f. record { content = λ _. 0; synced = λ _. 0; unsynced = λ _. true; unit = λ k. k } };
 
     ghost extent = { λ f. 0 };
 
@@ -132,6 +152,12 @@ impl HostFile for StdFile {
     ghost left_since = { λ f t c. Unit {0} };
 
     ghost present = { λ f keeps k synced. Prim.cc };
+
+    ghost keeps_both = { λ f keeps. keeps };
+
+    ghost by_pages = { λ f keeps. Prim.cc };
+
+    ghost by_sectors = { λ f k keeps. Prim.cc };
 
     ghost counts_now = { λ f t c le now. tt };
 

@@ -30,7 +30,7 @@ struct Sector {
     unsynced: Option<[u8; 512]>,
 }
 
-/// A disk in memory. It keeps the disk model, and no call of it fails.
+/// A disk in memory. It keeps the disk model by sectors, and no call of it fails.
 #[derive(Drop)]
 pub struct MemoryDisk {
     sectors: Vec<Sector>,
@@ -47,6 +47,7 @@ impl MemoryDisk {
         ensures zeros { IfOk result (λ d. (k : ℕ) → k < sectors → (held d).content k ≡ replicate 512 0) }
         ensures synced { IfOk result (λ d. (k : ℕ) → (held d).unsynced k ≡ false) }
         ensures model { IfOk result (λ d. IsTrue (⟦<MemoryDisk as SectorDevice>⟧.keeps_model d)) }
+        ensures units { IfOk result (λ d. IsTrue (⟦<MemoryDisk as SectorDevice>⟧.keeps_sectors d)) }
         ensures counts { IfOk result (λ d. begun d ≡ record { reads = 0; writes = 0; syncs = 0 }) }
         ensures failures { IfOk result (λ d. ⟦<MemoryDisk as SectorDevice>⟧.failures d ≡ 0) }
     {
@@ -180,10 +181,13 @@ fn settle(sectors: &mut [Sector])
 impl SectorDevice for MemoryDisk {
     ghost use Rattle.sector_disk.specs.MemoryDisk.{held, size, begun};
     ghost use Rattle.sector_disk.specs.Laws.{present_of};
+    ghost use Rattle.sector_disk.specs.Pages.{IsPaged, paged_by_sectors};
 
     ghost sector_count = { λ d. size d };
 
     ghost keeps_model = { λ d. true };
+
+    ghost keeps_sectors = { λ d. true };
 
     ghost disk = { λ d. held d };
 
@@ -197,6 +201,10 @@ impl SectorDevice for MemoryDisk {
     ghost counts = { λ d. begun d };
 
     ghost present = { λ d _. present_of d.sectors.items };
+
+    ghost keeps_both = { λ d keeps. keeps };
+
+    ghost by_pages = { λ d keeps. paged_by_sectors (held d) (λ k. Prim.cc) };
 
     ghost by_sectors = { λ d k keeps. Prim.cc };
 

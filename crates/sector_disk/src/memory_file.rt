@@ -7,7 +7,7 @@ ghost use Rattle.sector_disk.specs.MemoryFile.{bytes_in, IsAsSyncedElsewhere};
 use crate::{HostFault, HostFile, NoMemory};
 use std::alloc::Global;
 
-/// A file in memory. It keeps the model of a file, and does no more than that promises: a call moves few bytes, some
+/// A file in memory. It keeps the model of a file by sectors, and does no more than that promises: a call moves few bytes, some
 /// are interrupted, one fails, a write that fails has written, and after a sync that failed the bytes since the
 /// last good one are lost and later syncs succeed and do nothing.
 #[derive(Drop)]
@@ -37,7 +37,7 @@ pub struct Script {
 
 impl Script {
     // What the next call does before anything else.
-    fn next(&mut self) -> Result<(), HostFault> {
+    pub(crate) fn next(&mut self) -> Result<(), HostFault> {
         let calls = self.calls;
         self.calls = calls.saturating_add(1);
         if calls == self.fails_after {
@@ -55,6 +55,7 @@ impl MemoryFile {
     pub fn new(alloc: Global, sectors: u32, script: Script) -> Result<MemoryFile, NoMemory>
         ensures settle { IfOk result (λ f. IsTrue (⟦<MemoryFile as HostFile>⟧.syncs_settle f)) }
         ensures model { IfOk result (λ f. IsTrue (⟦<MemoryFile as HostFile>⟧.keeps_model f)) }
+        ensures units { IfOk result (λ f. IsTrue (⟦<MemoryFile as HostFile>⟧.keeps_sectors f)) }
         ensures synced { IfOk result (λ f. (k : ℕ) → (⟦<MemoryFile as HostFile>⟧.bytes f).unsynced k ≡ false) }
         ensures zeros { IfOk result (λ f. (p : ℕ) → (⟦<MemoryFile as HostFile>⟧.bytes f).content p ≡ 0) }
     {
@@ -70,12 +71,33 @@ impl MemoryFile {
             settles: true,
         })
     }
+
+    /// The same bytes, synced and unsynced, as an opening gives them: no sync of it has failed, and its calls answer by this script.
+    pub fn reopened(&self, alloc: Global, script: Script) -> Result<MemoryFile, NoMemory>
+        ensures bytes { IfOk result (λ f. ⟦<MemoryFile as HostFile>⟧.bytes f ≡ ⟦<MemoryFile as HostFile>⟧.bytes self.now) }
+        ensures extent { IfOk result (λ f. ⟦<MemoryFile as HostFile>⟧.extent f ≡ ⟦<MemoryFile as HostFile>⟧.extent self.now) }
+        ensures settle { IfOk result (λ f. IsTrue (⟦<MemoryFile as HostFile>⟧.syncs_settle f)) }
+    {
+        let content = Vec::from_slice(alloc, &self.content).map_err(|_| NoMemory)?;
+        let synced = Vec::from_slice(alloc, &self.synced).map_err(|_| NoMemory)?;
+        let unsynced = Vec::from_slice(alloc, &self.unsynced).map_err(|_| NoMemory)?;
+        Ok(MemoryFile {
+            content,
+            synced,
+            unsynced,
+            script,
+            settles: true,
+        })
+    }
 }
 
 impl HostFile for MemoryFile {
     ghost use Rattle.sector_disk.specs.FileLaws.{as_synced};
+    ghost use Rattle.sector_disk.specs.Pages.{IsPaged, paged_by_sectors};
 
     ghost keeps_model = { λ f. true };
+
+    ghost keeps_sectors = { λ f. true };
 
     ghost bytes = { λ f. bytes_in f.content.items f.synced.items f.unsynced.items };
 
@@ -88,6 +110,12 @@ impl HostFile for MemoryFile {
     ghost left_since = { λ f t c. MayLeave (disk_of_file (bytes_in f.content.items f.synced.items f.unsynced.items)) c };
 
     ghost present = { λ f keeps. as_synced (bytes_in f.content.items f.synced.items f.unsynced.items) f.same };
+
+    ghost keeps_both = { λ f keeps. keeps };
+
+    ghost by_pages = { λ f keeps. paged_by_sectors (disk_of_file (bytes_in f.content.items f.synced.items f.unsynced.items)) (λ k. Prim.cc) };
+
+    ghost by_sectors = { λ f k keeps. Prim.cc };
 
     ghost counts_now = { λ f t c le now. now };
 
@@ -134,7 +162,7 @@ impl HostFile for MemoryFile {
 }
 
 // How many bytes a call at this place moves.
-fn count(len: usize, position: u64, most: usize, room: usize) -> usize
+pub(crate) fn count(len: usize, position: u64, most: usize, room: usize) -> usize
     ensures room { result ≤ room }
     ensures within { 0 < result → position + result ≤ len }
     ensures sector { 0 < result → position + result ≤ 512 * (position / 512) + 512 }
@@ -146,7 +174,7 @@ fn count(len: usize, position: u64, most: usize, room: usize) -> usize
     room.min(most).min(len - at).min(512 - at % 512)
 }
 
-fn copied(content: &[u8], position: u64, most: usize, buffer: &mut [u8]) -> usize
+pub(crate) fn copied(content: &[u8], position: u64, most: usize, buffer: &mut [u8]) -> usize
     ensures count { result ≤ length buffer.old }
     ensures long { length buffer.new ≡ length buffer.old }
     ensures gives { (i : ℕ) → i < result → slice_index buffer.new i ≡ slice_index content.now (position + i) }

@@ -7,6 +7,7 @@ ghost use Rattle.sector_disk.specs.MemoryDisk.{held, size};
 ghost use Rattle.sector_disk.specs.Recorded.{LeftSince, AddsMoment};
 ghost use Rattle.sector_disk.specs.RecordedDisk.{recorded_device_of};
 ghost use Rattle.sector_disk.specs.Laws.{present_of, now_alone, since_earlier};
+ghost use Rattle.sector_disk.specs.Pages.{IsPaged, paged_by_sectors};
 
 use crate::device::count_failure;
 use crate::{Counts, DeviceFault, MemoryDisk, NoMemory, SectorDevice};
@@ -98,6 +99,8 @@ impl SectorDevice for Recorded {
 
     ghost keeps_model = { λ d. true };
 
+    ghost keeps_sectors = { λ d. true };
+
     ghost disk = { λ d. held d.device };
 
     ghost time = { λ d. length d.past.items };
@@ -109,6 +112,10 @@ impl SectorDevice for Recorded {
     ghost counts = { λ d. d.counts };
 
     ghost present = { λ d keeps. present_of d.device.sectors.items };
+
+    ghost keeps_both = { λ d keeps. keeps };
+
+    ghost by_pages = { λ d keeps. paged_by_sectors (held d.device) (λ k. Prim.cc) };
 
     ghost by_sectors = { λ d k keeps. Prim.cc };
 

@@ -28,9 +28,10 @@ impl<D: SectorDevice> Tearing<D> {
         ensures fails { (j : ℕ) → tears_at result j ≡ (j == k) }
         ensures torn { torn_bytes result ≡ torn }
 
-        // So it holds what the device holds, and keeps the disk model where that does.
+        // So it holds what the device holds, and keeps the disk model, and by sectors, where that does.
         ensures disk { ⟦<Tearing<D> as SectorDevice>⟧.disk result ≡ D.disk device }
         ensures model { ⟦<Tearing<D> as SectorDevice>⟧.keeps_model result ≡ D.keeps_model device }
+        ensures units { ⟦<Tearing<D> as SectorDevice>⟧.keeps_sectors result ≡ D.keeps_sectors device }
         ensures sectors { ⟦<Tearing<D> as SectorDevice>⟧.sector_count result ≡ D.sector_count device }
 
         // Its own calls are counted from 0, and its failures on from those of the device.
@@ -51,6 +52,7 @@ impl<D: SectorDevice> Tearing<D> {
         ensures device { result ≡ torn_device_of self }
         ensures disk { D.disk result ≡ ⟦<Tearing<D> as SectorDevice>⟧.disk self }
         ensures model { D.keeps_model result ≡ ⟦<Tearing<D> as SectorDevice>⟧.keeps_model self }
+        ensures units { D.keeps_sectors result ≡ ⟦<Tearing<D> as SectorDevice>⟧.keeps_sectors self }
         ensures sectors { D.sector_count result ≡ ⟦<Tearing<D> as SectorDevice>⟧.sector_count self }
     {
         let Tearing { device, .. } = self;
@@ -69,6 +71,8 @@ impl<D: SectorDevice> SectorDevice for Tearing<D> {
 
     ghost keeps_model = { λ f. D.keeps_model f.device };
 
+    ghost keeps_sectors = { λ f. D.keeps_sectors f.device };
+
     ghost disk = { λ f. D.disk f.device };
 
     ghost time = { λ f. D.time f.device };
@@ -81,6 +85,10 @@ impl<D: SectorDevice> SectorDevice for Tearing<D> {
     ghost counts = { λ f. f.counts };
 
     ghost present = { λ f keeps. D.present f.device keeps };
+
+    ghost keeps_both = { λ f keeps. D.keeps_both f.device keeps };
+
+    ghost by_pages = { λ f keeps. D.by_pages f.device keeps };
 
     ghost by_sectors = { λ f k keeps. D.by_sectors f.device k keeps };
 

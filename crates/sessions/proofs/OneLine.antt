@@ -197,7 +197,7 @@ module _ {D : Type 0} (G : Ghosts D) (total : HasTurn) (opening : Forth) (f : D)
             (record {
               time = elapses_refl G.time G.left_since f;
               cause = subst (λ n. HasRisenBy n (G.failures f) (G.failures f)) (sym calm) refl;
-              wears = record { begins = record { few_writes = omega arith; few_syncs = omega arith }; reads = omega arith };
+              wears = record { sectors = refl; begins = record { few_writes = omega arith; few_syncs = omega arith }; reads = omega arith };
             });
       }
 

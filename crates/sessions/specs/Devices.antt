@@ -2,9 +2,10 @@
 use Rattle.std.specs.Prelude.{◌≡◌, ◌≤◌}
 use Rattle.sector_disk.specs.Moments.{Elapses}
 use Rattle.sector_disk.specs.declared.device.SectorDevice.{Ghosts}
+use Rattle.stores.specs.Suits.{suits}
 
 -- The new device is the old one later: the same model, time gone on, and no fewer failures.
 pub record Becomes {D : Type 0} (G : Ghosts D) (old new : D) : Type 0 where
-  pub model : G.keeps_model new ≡ G.keeps_model old
+  pub model : suits G new ≡ suits G old
   pub time : Elapses G.time G.left_since old new
   pub failures : G.failures old ≤ G.failures new

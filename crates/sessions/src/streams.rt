@@ -115,6 +115,17 @@ impl<R: Read, W: Write> Terminal for Streams<'_, R, W> {
         }
     }
 
+    fn ask(&mut self) -> Result<Option<u8>, IoFault> {
+        match flush(self.writer) {
+            Ok(()) => self.key(),
+            Err(IoFault) => {
+                self.calls = self.calls.saturating_add(1);
+                self.failures = self.failures.saturating_add(1);
+                Err(IoFault)
+            }
+        }
+    }
+
     fn emit(&mut self, bytes: &[u8]) -> Result<(), IoFault> {
         self.calls = self.calls.saturating_add(1);
         let result = write_bytes(self.writer, bytes);

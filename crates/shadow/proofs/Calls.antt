@@ -1,46 +1,44 @@
 -- Runs of device calls, one after another.
-use Rattle.std.proofs.Common.{◌≡◌, ℕ, List, Result, Ok, Err, ⊎_elim, sym, ◌∙◌, ap, subst, IsTrue}
+use Rattle.std.proofs.Common.{◌≡◌, ℕ, List, Result, ⊎_elim, sym, ◌∙◌, ap, subst, IsTrue}
 use Rattle.std.specs.Prelude.{IsOk, IsErr, OnOk, OnErr}
 use Rattle.sector_disk.specs.Counting.{CountsFailure}
 use Rattle.sector_disk.specs.Disk.{Disk, MayWrite, SettlesNothing, written, settled}
 use Rattle.sector_disk.specs.Moments.{Elapses}
 use Rattle.sector_disk.specs.declared.device.SectorDevice.{Ghosts}
-use Rattle.journal.proofs.Calls.{Widens}
+use Rattle.journal.proofs.Calls.{not_both, Widens}
 use Rattle.journal.proofs.Calls as journal
 use Rattle.journal.specs.Calls as journal_calls
 use Rattle.journal.proofs.Units.{wrote, synced_or_not}
 use Rattle.shadow.specs.Calls.{Passes, Proceeds}
-use Rattle.shadow.specs.Pages.{KeepsPages}
-
-not_both : {T E : Type 0} (result : Result T E) → IsOk result → IsErr result → ⊥
-not_both (Ok x) ok err = cc
-not_both (Err e) ok err = cc
 
 module _ {D : Type 0} (device : Ghosts D) where
   pub passes_then : {T U E F : Type 0} {first : Result T E} {second : Result U F} (a b d : D) → Widens device
       → Passes device a b first → Passes device b d second → IsOk first → Passes device a d second
   passes_then a b d widens one two well =
       let both = journal.passes_then device a b d widens
-      (journal.passes_by device a b one.sectors one.model one.time one.failures)
-      (journal.passes_by device b d two.sectors two.model two.time two.failures) well in
+      (journal.passes_by device a b one.sectors one.model one.units one.time one.failures)
+      (journal.passes_by device b d two.sectors two.model two.units two.time two.failures) well in
       record {
         sectors = both.sectors;
         model = both.model;
+        units = both.units;
         unit = λ keeps. two.unit (subst IsTrue (sym one.model) keeps) ∙ one.unit keeps;
         time = both.time;
         failures = both.failures;
       }
 
   pub passes_by : {T E : Type 0} {result : Result T E} (a b : D) → device.sector_count b ≡ device.sector_count a → device.keeps_model b ≡ device.keeps_model a
+      → device.keeps_sectors b ≡ device.keeps_sectors a
       → (IsTrue (device.keeps_model a) → (device.disk b).unit ≡ (device.disk a).unit)
       → Elapses device.time device.left_since a b → CountsFailure (device.failures a) (device.failures b) result → Passes device a b result
-  passes_by a b sectors model unit time failures = record { sectors = sectors; model = model; unit = unit; time = time; failures = failures }
+  passes_by a b sectors model units unit time failures = record { sectors = sectors; model = model; units = units; unit = unit; time = time; failures = failures }
 
   -- the same told by another result
   pub passes_ok : {T U E F : Type 0} {first : Result T E} {second : Result U F} (a b : D) → Passes device a b first → IsOk first → IsOk second → Passes device a b second
   passes_ok {second = second} a b passes well is = record {
     sectors = passes.sectors;
     model = passes.model;
+    units = passes.units;
     unit = passes.unit;
     time = passes.time;
     failures = record {
@@ -54,6 +52,7 @@ module _ {D : Type 0} (device : Ghosts D) where
   passes_err {second = second} a b passes failed is = record {
     sectors = passes.sectors;
     model = passes.model;
+    units = passes.units;
     unit = passes.unit;
     time = passes.time;
     failures = record {
@@ -68,6 +67,7 @@ module _ {D : Type 0} (device : Ghosts D) where
   proceeds a b passes = record {
     sectors = passes.sectors;
     model = passes.model;
+    units = passes.units;
     unit = passes.unit;
     time = passes.time;
     failures = passes.failures.never_falls;
@@ -79,34 +79,27 @@ module _ {D : Type 0} (device : Ghosts D) where
       record {
         sectors = both.sectors;
         model = both.model;
+        units = both.units;
         unit = λ keeps. two.unit (subst IsTrue (sym one.model) keeps) ∙ one.unit keeps;
         time = both.time;
         failures = both.failures;
       }
     where
       without_units : (a b : D) → Proceeds device a b → journal_calls.Proceeds device a b
-      without_units a b run = record { sectors = run.sectors; model = run.model; time = run.time; failures = run.failures }
+      without_units a b run = record { sectors = run.sectors; model = run.model; units = run.units; time = run.time; failures = run.failures }
 
-  -- Units stay what they are.
-  pub keeps_by : (a b : D) → KeepsPages device a → Proceeds device a b → KeepsPages device b
-  keeps_by a b keeps run = record {
-    model = subst IsTrue (sym run.model) keeps.model;
-    paged = λ j k same. keeps.paged j k (sym (ap (λ f. f j) (run.unit keeps.model)) ∙ same ∙ ap (λ f. f k) (run.unit keeps.model));
-  }
+  -- What keeps the model goes on keeping it, and did so before.
+  pub keeps_by : (a b : D) → IsTrue (device.keeps_model a) → Proceeds device a b → IsTrue (device.keeps_model b)
+  keeps_by a b keeps run = subst IsTrue (sym run.model) keeps
 
-  pub keeps_on : {T E : Type 0} {result : Result T E} (a b : D) → KeepsPages device a → Passes device a b result → KeepsPages device b
-  keeps_on a b keeps passes = keeps_by a b keeps (proceeds a b passes)
+  pub keeps_on : {T E : Type 0} {result : Result T E} (a b : D) → IsTrue (device.keeps_model a) → Passes device a b result → IsTrue (device.keeps_model b)
+  keeps_on a b keeps passes = subst IsTrue (sym passes.model) keeps
 
-  pub kept_by : (a b : D) → KeepsPages device b → Proceeds device a b → KeepsPages device a
-  kept_by a b keeps run =
-      let honest : IsTrue (device.keeps_model a) = subst IsTrue run.model keeps.model in
-      record {
-        model = honest;
-        paged = λ j k same. keeps.paged j k (ap (λ f. f j) (run.unit honest) ∙ same ∙ sym (ap (λ f. f k) (run.unit honest)));
-      }
+  pub kept_by : (a b : D) → IsTrue (device.keeps_model b) → Proceeds device a b → IsTrue (device.keeps_model a)
+  kept_by a b keeps run = subst IsTrue run.model keeps
 
-  pub kept_before : {T E : Type 0} {result : Result T E} (a b : D) → KeepsPages device b → Passes device a b result → KeepsPages device a
-  kept_before a b keeps passes = kept_by a b keeps (proceeds a b passes)
+  pub kept_before : {T E : Type 0} {result : Result T E} (a b : D) → IsTrue (device.keeps_model b) → Passes device a b result → IsTrue (device.keeps_model a)
+  kept_before a b keeps passes = subst IsTrue passes.model keeps
 
 -- the units after a write and after a sync
 pub unit_written : {T E : Type 0} (result : Result T E) (old new : Disk) (k : ℕ) (bytes : List ℕ)

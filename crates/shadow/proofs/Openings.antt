@@ -1,15 +1,13 @@
 -- Which images are opened.
-use Rattle.std.proofs.Common.{◌≡◌, inl, inr, ⊎_elim, ℕ, ◌/◌, true, cond, Option, Some, None, sym, ◌∙◌, ap, subst, IsTrue}
+use Rattle.std.proofs.Common.{◌≡◌, inl, inr, ⊎_elim, ℕ, true, cond, Option, Some, None, sym, ◌∙◌, ap, subst}
 use Rattle.std.specs.Prelude.{not}
 use Rattle.sector_disk.specs.Disk.{Image}
-use Rattle.sector_disk.specs.declared.device.SectorDevice.{Ghosts}
 use Rattle.recovery.specs.declared.fault.OpenFault.{OpenFault}
 use Rattle.recovery.specs.declared.fault.OpenFault.TheVariants.{BadSize, Damaged}
 use Rattle.shadow.specs.Images.{IsWhole}
 use Rattle.shadow.specs.Label.{is_known_size, label_refusal, refusal}
 use Rattle.shadow.specs.Layout.{sectors_for}
 use Rattle.shadow.specs.Opened.{HasMeaning, Refuses}
-use Rattle.shadow.specs.Pages.{KeepsPages}
 use Rattle.shadow.proofs.Labels.{count_is, good_passes}
 
 -- What has a meaning is never refused.
@@ -34,7 +32,3 @@ module _ (sectors : ℕ) (image : Image) (known : is_known_size sectors ≡ true
       → (e ≡ Damaged) × ¬ IsWhole n image → Refuses sectors image e
   refused_as_damaged n e size none damaged =
       inr (past_size ∙ none, damaged.0, λ whole. damaged.1 (subst (λ m. IsWhole m image) (count_is n sectors size) whole))
-
--- Where a sector is a unit of its own, units lie within pages.
-pub keeps_pages : {D : Type 0} (G : Ghosts D) (d : D) → ((k : ℕ) → IsTrue (G.keeps_model d) → (G.disk d).unit k ≡ k) → IsTrue (G.keeps_model d) → KeepsPages G d
-keeps_pages G d own model = record { model = model; paged = λ j k same. ap (λ i. i / 8) (sym (own j model) ∙ same ∙ own k model) }

@@ -15,7 +15,7 @@ use Rattle.shadow.specs.Calls.{Passes}
 use Rattle.shadow.specs.Clean.{IsClean}
 use Rattle.shadow.specs.Images.{current_of, free_of, block_of, meaning, Means}
 use Rattle.shadow.specs.Layout.{current_at, free_at}
-use Rattle.shadow.specs.Pages.{InPage, KeepsPages}
+use Rattle.sector_disk.specs.Pages.{InPage}
 use Rattle.shadow.specs.Steps.{WritesOnly, IsAsSynced, InFree, HasBlocks, IsSound, merged}
 use Rattle.shadow.specs.Store.{StandsFor}
 use Rattle.shadow.proofs.Calls.{kept_before}
@@ -76,11 +76,11 @@ module _ {D : Type 0} {G : Ghosts D} (present : (d : D) → IsTrue (G.keeps_mode
   saved_means store s stands is_open P within c is =
       let now : store.closed ≡ false = sym stands.closed ∙ is_open in
       means_sized store.blocks (current_of store.listing (G.disk store.device).content) s.saved c store.many store.few stands.size (stands.saved now)
-      (before_gate store.blocks store.listing store.is_open (G.disk store.device) (present store.device stands.keeps.model) (store.sound stands.keeps.model stands.keeps.paged now)
+      (before_gate store.blocks store.listing store.is_open (G.disk store.device) (present store.device stands.keeps) (store.sound stands.keeps now)
       P (λ k p. inr (within k p)) c is)
 
   -- a store over a clean image
-  pub adopted : (store : Store D G) → KeepsPages G store.device → IsClean store.blocks store.is_open store.listing (G.disk store.device)
+  pub adopted : (store : Store D G) → IsTrue (G.keeps_model store.device) → IsClean store.blocks store.is_open store.listing (G.disk store.device)
       → store.closed ≡ false → ((b : ℕ) → listed store.pending b ≡ false)
       → StandsFor store (fresh (meaning store.blocks (G.disk store.device).content))
   adopted store keeps clean is_open none =
@@ -97,7 +97,7 @@ module _ {D : Type 0} {G : Ghosts D} (present : (d : D) → IsTrue (G.keeps_mode
         saved = λ now b below. same b below;
         pending = λ now b below. at_none blocks b ∙ sym (ap (λ t. cond t (Some (free_of store.listing image b)) None) (none b));
         left = λ now c may. means_sized n (current_of store.listing image) blocks c store.many store.few (length-below (block_of image) n) same
-            (sound_left n store.is_open store.listing (G.disk store.device) (present store.device keeps.model)
+            (sound_left n store.is_open store.listing (G.disk store.device) (present store.device keeps)
             (clean_sound n store.is_open store.listing (G.disk store.device) clean) c may);
       }
 
@@ -155,13 +155,13 @@ module _ {D : Type 0} {G : Ghosts D} where
 
 -- What a store is sure of stays so.
 module _ {D : Type 0} {G : Ghosts D} {T E : Type 0} {result : Result T E} (store : Store D G) (new : D) (passes : Passes G store.device new result)
-    (now : store.closed ≡ false) (keeps : KeepsPages G new)
+    (now : store.closed ≡ false) (keeps : IsTrue (G.keeps_model new))
   where
     pub sound_read : (IsTrue (G.keeps_model store.device) → G.disk new ≡ G.disk store.device)
         → IsSound store.blocks store.is_open store.listing (G.disk new)
     sound_read same =
         let before = kept_before G store.device new keeps passes in
-        subst (IsSound store.blocks store.is_open store.listing) (sym (same before.model)) (store.sound before.model before.paged now)
+        subst (IsSound store.blocks store.is_open store.listing) (sym (same before)) (store.sound before now)
 
     pub text_read : (IsTrue (G.keeps_model store.device) → G.disk new ≡ G.disk store.device) → (b k : ℕ) (bytes : List ℕ)
         → k ≡ cond (listed store.pending b) (free_at store.listing b) (current_at store.listing b)
@@ -169,9 +169,9 @@ module _ {D : Type 0} {G : Ghosts D} {T E : Type 0} {result : Result T E} (store
         → bytes ≡ merged store.listing store.pending (G.disk new).content b
     text_read same b k bytes at is =
         let before = kept_before G store.device new keeps passes in
-        is before.model ∙ ap (pair_at (G.disk store.device).content) at
+        is before ∙ ap (pair_at (G.disk store.device).content) at
         ∙ both (listed store.pending b) (G.disk store.device).content
-        ∙ ap (λ (d : Disk). merged store.listing store.pending d.content b) (sym (same before.model))
+        ∙ ap (λ (d : Disk). merged store.listing store.pending d.content b) (sym (same before))
       where
         both : (t : Bool) (image : Image) → pair_at image (cond t (free_at store.listing b) (current_at store.listing b))
             ≡ cond t (free_of store.listing image b) (current_of store.listing image b)
@@ -182,13 +182,13 @@ module _ {D : Type 0} {G : Ghosts D} {T E : Type 0} {result : Result T E} (store
         → store.text ≡ merged store.listing store.pending (G.disk new).content b
     text_same same b is =
         let before = kept_before G store.device new keeps passes in
-        store.keeps before.model before.paged now b is ∙ ap (λ (d : Disk). merged store.listing store.pending d.content b) (sym (same before.model))
+        store.keeps before now b is ∙ ap (λ (d : Disk). merged store.listing store.pending d.content b) (sym (same before))
 
     pub sound_spilled : (b : ℕ) → b < store.blocks
-        → (KeepsPages G store.device → WritesOnly (InPage (free_at store.listing b)) (G.disk store.device) (G.disk new))
+        → (IsTrue (G.keeps_model store.device) → WritesOnly (InPage (free_at store.listing b)) (G.disk store.device) (G.disk new))
         → IsSound store.blocks store.is_open store.listing (G.disk new)
     sound_spilled b below only =
         let before = kept_before G store.device new keeps passes in
         sound_kept store.blocks store.listing store.is_open (G.disk store.device) (G.disk new)
         (wider (InPage (free_at store.listing b)) (InFree store.blocks store.listing) (λ k same. (b, below, same)) (G.disk store.device) (G.disk new) (only before))
-        (store.sound before.model before.paged now)
+        (store.sound before now)

@@ -1,5 +1,5 @@
 -- A store, the maps that it stands for, and what its calls keep.
-use Rattle.std.specs.Prelude.{◌≡◌, ◌⊎◌, ℕ, ◌<◌, ◌≤◌, if◌then◌else◌, not, Bool, true, false, List, length, Option, Some, None}
+use Rattle.std.specs.Prelude.{IsTrue, ◌≡◌, ◌⊎◌, ℕ, ◌<◌, ◌≤◌, if◌then◌else◌, not, Bool, true, false, List, length, Option, Some, None}
 use Rattle.sector_disk.specs.Counting.{count_up}
 use Rattle.sector_disk.specs.Disk.{Disk, Image, MayLeave}
 use Rattle.sector_disk.specs.Moments.{Elapses}
@@ -10,7 +10,6 @@ use Rattle.journal.specs.Maps.{Maps, block_in, pending_in, latest}
 use Rattle.shadow.specs.declared.store.Store.{Store}
 use Rattle.shadow.specs.Images.{current_of, free_of, record_of, Means}
 use Rattle.shadow.specs.Layout.{gate_at, gate_bytes, HasFlipped}
-use Rattle.shadow.specs.Pages.{KeepsPages}
 
 module _ {D : Type 0} {G : Ghosts D} where
   abbrev pub device_of : Store D G → D
@@ -51,11 +50,11 @@ module _ {D : Type 0} {G : Ghosts D} where
     pub gate : image gate_at ≡ gate_bytes (not old.is_open)
     pub listing : HasFlipped old.blocks old.listing old.pending (record_of image)
 
-  -- A store on a device that keeps the disk model within pages stands for maps. While it is open its current places are the saved
+  -- A store on a device that keeps the disk model stands for maps. While it is open its current places are the saved
   -- blocks, the free places of the pending ones are what was spilled, and a stop now leaves the saved blocks. A fault changes
   -- neither map, but no call reads the maps of a closed store again: it stands for any maps of its size.
   pub record StandsFor (store : Store D G) (m : Maps) : Type 0 where
-    pub keeps : KeepsPages G store.device
+    pub keeps : IsTrue (G.keeps_model store.device)
     pub closed : m.closed ≡ store.closed
     pub size : length m.saved ≡ store.blocks
     pub pending_size : length m.pending ≡ store.blocks

@@ -7,7 +7,7 @@ ghost use Rattle.journal.specs.Images.{pair_at};
 ghost use Rattle.journal.specs.Layout.{most_blocks, listed, count_listed};
 ghost use Rattle.shadow.specs.Images.{current_tag, free_tag, free_of};
 ghost use Rattle.shadow.specs.Layout.{sectors_for, free_at, tag_in};
-ghost use Rattle.shadow.specs.Pages.{InPage, KeepsPages};
+ghost use Rattle.sector_disk.specs.Pages.{InPage};
 ghost use Rattle.shadow.specs.Steps.{WritesOnly, IsAsSynced, InFree, HasTags, OnlyTags, merged_tag};
 ghost use Rattle.shadow.specs.Tags.{tag_of, xor_bytes, sum_below};
 
@@ -63,13 +63,13 @@ fn write_tag<D: SectorDevice>(device: &mut D, b: u16, k: u32) -> Result<[u8; 32]
     requires page { InPage k (k + 2) }
     ensures made { IsTrue (D.keeps_model device.old)
         → IfOk result (λ made. made ≡ tag_of b (pair_at (D.disk device.old).content k)) }
-    ensures tag { KeepsPages D.SectorDevice device.old → OnOk result
+    ensures tag { IsTrue (D.keeps_model device.old) → OnOk result
         (tag_in ((D.disk device.new).content (k + 2)) ≡ tag_of b (pair_at (D.disk device.old).content k)) }
-    ensures others { KeepsPages D.SectorDevice device.old → OnOk result ((j : ℕ) → j ≢ k + 2
+    ensures others { IsTrue (D.keeps_model device.old) → OnOk result ((j : ℕ) → j ≢ k + 2
         → (D.disk device.new).content j ≡ (D.disk device.old).content j) }
-    ensures only { KeepsPages D.SectorDevice device.old
+    ensures only { IsTrue (D.keeps_model device.old)
         → WritesOnly (InPage k) (D.disk device.old) (D.disk device.new) }
-    ensures stops { KeepsPages D.SectorDevice device.old
+    ensures stops { IsTrue (D.keeps_model device.old)
         → StopsLeave D.SectorDevice device.old device.new (IsAsSynced (InPage k) (D.disk device.old)) }
     ensures passes { Passes D.SectorDevice device.old device.new result }
     ensures begins { BeginsAtMost D.SectorDevice device.old device.new 1 0 }
@@ -89,16 +89,16 @@ fn exchange_tag<D: SectorDevice>(
 ) -> Result<(), DeviceFault>
     requires below { b < most_blocks }
     requires within { 48 + 16 * b ≤ D.sector_count device.old }
-    ensures tag { KeepsPages D.SectorDevice device.old → OnOk result
+    ensures tag { IsTrue (D.keeps_model device.old) → OnOk result
         (free_tag listing.now (D.disk device.new).content b ≡ tag_of b (free_of listing.now (D.disk device.old).content b)) }
-    ensures others { KeepsPages D.SectorDevice device.old → OnOk result ((k : ℕ) → k ≢ free_at listing.now b + 2
+    ensures others { IsTrue (D.keeps_model device.old) → OnOk result ((k : ℕ) → k ≢ free_at listing.now b + 2
         → (D.disk device.new).content k ≡ (D.disk device.old).content k) }
-    ensures sum { KeepsPages D.SectorDevice device.old → OnOk result (sum.new
+    ensures sum { IsTrue (D.keeps_model device.old) → OnOk result (sum.new
         ≡ xor_bytes (xor_bytes sum.old (current_tag listing.now (D.disk device.old).content b))
         (tag_of b (free_of listing.now (D.disk device.old).content b))) }
-    ensures only { KeepsPages D.SectorDevice device.old
+    ensures only { IsTrue (D.keeps_model device.old)
         → WritesOnly (InPage (free_at listing.now b)) (D.disk device.old) (D.disk device.new) }
-    ensures stops { KeepsPages D.SectorDevice device.old → StopsLeave D.SectorDevice device.old device.new
+    ensures stops { IsTrue (D.keeps_model device.old) → StopsLeave D.SectorDevice device.old device.new
         (IsAsSynced (InPage (free_at listing.now b)) (D.disk device.old)) }
     ensures passes { Passes D.SectorDevice device.old device.new result }
     ensures begins { BeginsAtMost D.SectorDevice device.old device.new 1 0 }
@@ -119,17 +119,17 @@ fn exchange_if_pending<D: SectorDevice>(
 ) -> Result<(), DeviceFault>
     requires below { b < most_blocks }
     requires within { 48 + 16 * b ≤ D.sector_count device.old }
-    ensures tag { KeepsPages D.SectorDevice device.old → listed pending.now b ≡ true → OnOk result
+    ensures tag { IsTrue (D.keeps_model device.old) → listed pending.now b ≡ true → OnOk result
         (free_tag listing.now (D.disk device.new).content b ≡ tag_of b (free_of listing.now (D.disk device.old).content b)) }
-    ensures others { KeepsPages D.SectorDevice device.old → OnOk result ((k : ℕ) → k ≢ free_at listing.now b + 2
+    ensures others { IsTrue (D.keeps_model device.old) → OnOk result ((k : ℕ) → k ≢ free_at listing.now b + 2
         → (D.disk device.new).content k ≡ (D.disk device.old).content k) }
-    ensures sum { KeepsPages D.SectorDevice device.old → OnOk result (sum.new ≡ (if listed pending.now b
+    ensures sum { IsTrue (D.keeps_model device.old) → OnOk result (sum.new ≡ (if listed pending.now b
         then xor_bytes (xor_bytes sum.old (current_tag listing.now (D.disk device.old).content b))
         (tag_of b (free_of listing.now (D.disk device.old).content b))
         else sum.old)) }
-    ensures only { KeepsPages D.SectorDevice device.old
+    ensures only { IsTrue (D.keeps_model device.old)
         → WritesOnly (InPage (free_at listing.now b)) (D.disk device.old) (D.disk device.new) }
-    ensures stops { KeepsPages D.SectorDevice device.old → StopsLeave D.SectorDevice device.old device.new
+    ensures stops { IsTrue (D.keeps_model device.old) → StopsLeave D.SectorDevice device.old device.new
         (IsAsSynced (InPage (free_at listing.now b)) (D.disk device.old)) }
     ensures passes { Passes D.SectorDevice device.old device.new result }
     ensures begins { BeginsAtMost D.SectorDevice device.old device.new (if listed pending.now b then 1 else 0) 0 }
@@ -152,16 +152,16 @@ pub(crate) fn exchange_tags<D: SectorDevice>(
 ) -> Result<(), DeviceFault>
     requires few { blocks ≤ most_blocks }
     requires size { D.sector_count device.old ≡ sectors_for blocks }
-    ensures tags { KeepsPages D.SectorDevice device.old → OnOk result
+    ensures tags { IsTrue (D.keeps_model device.old) → OnOk result
         (HasTags blocks listing.now pending.now (D.disk device.old).content (D.disk device.new).content) }
-    ensures others { KeepsPages D.SectorDevice device.old
+    ensures others { IsTrue (D.keeps_model device.old)
         → OnOk result (OnlyTags listing.now (D.disk device.old).content (D.disk device.new).content) }
-    ensures sum { KeepsPages D.SectorDevice device.old → OnOk result
+    ensures sum { IsTrue (D.keeps_model device.old) → OnOk result
         (sum.old ≡ sum_below (current_tag listing.now (D.disk device.old).content) blocks
         → sum.new ≡ sum_below (merged_tag listing.now pending.now (D.disk device.old).content) blocks) }
-    ensures only { KeepsPages D.SectorDevice device.old
+    ensures only { IsTrue (D.keeps_model device.old)
         → WritesOnly (InFree blocks listing.now) (D.disk device.old) (D.disk device.new) }
-    ensures stops { KeepsPages D.SectorDevice device.old → StopsLeave D.SectorDevice device.old device.new
+    ensures stops { IsTrue (D.keeps_model device.old) → StopsLeave D.SectorDevice device.old device.new
         (IsAsSynced (InFree blocks listing.now) (D.disk device.old)) }
     ensures passes { Passes D.SectorDevice device.old device.new result }
     ensures begins { BeginsAtMost D.SectorDevice device.old device.new (count_listed pending.now blocks) 0 }

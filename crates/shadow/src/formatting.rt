@@ -14,7 +14,6 @@ ghost use Rattle.shadow.specs.Images.{Means};
 ghost use Rattle.shadow.specs.Label.{is_size_for};
 ghost use Rattle.shadow.specs.Layout.{sectors_for, label_of, gate_at, record_at};
 ghost use Rattle.shadow.specs.Opened.{end_of};
-ghost use Rattle.shadow.specs.Pages.{KeepsPages};
 ghost use Rattle.shadow.specs.Steps.{IsAsSynced};
 ghost use Rattle.shadow.specs.Store.{device_of, disk_of, blocks_of, closed_of, is_pending, StandsFor};
 ghost use Rattle.shadow.specs.Tags.{tag_of, xor_bytes, sum_below};
@@ -40,7 +39,7 @@ fn write_place<D: SectorDevice>(
     requires small { k < 2 ^ 16 }
     requires page { k % 8 ≡ 0 }
     requires within { k + 2 < D.sector_count device.old }
-    ensures ok { KeepsPages D.SectorDevice device.old → OnOk result (D.disk device.new
+    ensures ok { IsTrue (D.keeps_model device.old) → OnOk result (D.disk device.new
         ≡ written (written (written (D.disk device.old) k (take 512 bytes.now)) (k + 1) (drop 512 bytes.now)) (k + 2) (tag.now ++ replicate 480 0)) }
     ensures spoils { Spoils D.SectorDevice PastLabel device.old device.new }
     ensures passes { Passes D.SectorDevice device.old device.new result }
@@ -60,7 +59,7 @@ fn write_places<D: SectorDevice>(
 ) -> Result<(), DeviceFault>
     requires below { b < most_blocks }
     requires within { 48 + 16 * b ≤ D.sector_count device.old }
-    ensures ok { KeepsPages D.SectorDevice device.old
+    ensures ok { IsTrue (D.keeps_model device.old)
         → OnOk result (D.disk device.new ≡ placed b bytes.now (tag.now ++ replicate 480 0) (D.disk device.old)) }
     ensures spoils { Spoils D.SectorDevice PastLabel device.old device.new }
     ensures passes { Passes D.SectorDevice device.old device.new result }
@@ -81,10 +80,10 @@ pub fn write_block<D: SectorDevice>(
 ) -> Result<(), DeviceFault>
     requires below { b < most_blocks }
     requires within { 48 + 16 * b ≤ D.sector_count device.old }
-    ensures places { KeepsPages D.SectorDevice device.old → OnOk result (HasFirst b bytes.now (D.disk device.new).content) }
-    ensures others { KeepsPages D.SectorDevice device.old → OnOk result
+    ensures places { IsTrue (D.keeps_model device.old) → OnOk result (HasFirst b bytes.now (D.disk device.new).content) }
+    ensures others { IsTrue (D.keeps_model device.old) → OnOk result
         ((k : ℕ) → k < 32 + 16 * b → (D.disk device.new).content k ≡ (D.disk device.old).content k) }
-    ensures rest { KeepsPages D.SectorDevice device.old
+    ensures rest { IsTrue (D.keeps_model device.old)
         → OnOk result (KeepsRest (D.disk device.old).content (D.disk device.new).content) }
     ensures sum { OnOk result (sum.new ≡ xor_bytes sum.old (tag_of b bytes.now)) }
     ensures spoils { Spoils D.SectorDevice PastLabel device.old device.new }
@@ -106,9 +105,9 @@ fn fill_places<D: SectorDevice>(
 ) -> Result<(), DeviceFault>
     requires size { D.sector_count device.old ≡ sectors_for blocks.number }
     requires empty { sum.old ≡ replicate 32 0 }
-    ensures places { KeepsPages D.SectorDevice device.old → OnOk result
+    ensures places { IsTrue (D.keeps_model device.old) → OnOk result
         ((b : ℕ) → b < blocks.number → HasFirst b (replicate 1024 32) (D.disk device.new).content) }
-    ensures rest { KeepsPages D.SectorDevice device.old
+    ensures rest { IsTrue (D.keeps_model device.old)
         → OnOk result (KeepsRest (D.disk device.old).content (D.disk device.new).content) }
     ensures sum { OnOk result (sum.new ≡ sum_below (λ b. tag_of b (replicate 1024 32)) blocks.number) }
     ensures spoils { Spoils D.SectorDevice PastLabel device.old device.new }
@@ -131,7 +130,7 @@ fn blanks() -> [u8; 1024]
 /// Closes the gate, clears the record that it doesn't name, and writes the other one.
 pub fn fill_head<D: SectorDevice>(device: &mut D, listing: &[u8; 512]) -> Result<(), DeviceFault>
     requires { 32 ≤ D.sector_count device.old }
-    ensures ok { KeepsPages D.SectorDevice device.old → OnOk result (D.disk device.new
+    ensures ok { IsTrue (D.keeps_model device.old) → OnOk result (D.disk device.new
         ≡ written (written (written (D.disk device.old) gate_at (replicate 512 0)) (record_at true) (replicate 512 0)) (record_at false) listing.now) }
     ensures spoils { Spoils D.SectorDevice PastLabel device.old device.new }
     ensures passes { Passes D.SectorDevice device.old device.new result }
@@ -144,7 +143,7 @@ pub fn fill_head<D: SectorDevice>(device: &mut D, listing: &[u8; 512]) -> Result
 
 fn fill_records<D: SectorDevice>(device: &mut D, listing: &[u8; 512]) -> Result<(), DeviceFault>
     requires { 32 ≤ D.sector_count device.old }
-    ensures ok { KeepsPages D.SectorDevice device.old → OnOk result (D.disk device.new
+    ensures ok { IsTrue (D.keeps_model device.old) → OnOk result (D.disk device.new
         ≡ written (written (D.disk device.old) (record_at true) (replicate 512 0)) (record_at false) listing.now) }
     ensures spoils { Spoils D.SectorDevice PastLabel device.old device.new }
     ensures passes { Passes D.SectorDevice device.old device.new result }
@@ -173,10 +172,10 @@ fn clear_label<D: SectorDevice>(device: &mut D) -> Result<(), DeviceFault>
 /// Makes what is there stay, and takes a good label of an image of so many blocks away, if one stands there.
 pub fn unlabel<D: SectorDevice>(device: &mut D, blocks: BlockCount) -> Result<(), DeviceFault>
     requires size { D.sector_count device.old ≡ sectors_for blocks.number }
-    ensures ok { KeepsPages D.SectorDevice device.old → OnOk result (IsUnlabelled blocks.number (D.disk device.new)) }
-    ensures rest { KeepsPages D.SectorDevice device.old
+    ensures ok { IsTrue (D.keeps_model device.old) → OnOk result (IsUnlabelled blocks.number (D.disk device.new)) }
+    ensures rest { IsTrue (D.keeps_model device.old)
         → OnOk result (KeepsRest (D.disk device.old).content (D.disk device.new).content) }
-    ensures stops { KeepsPages D.SectorDevice device.old
+    ensures stops { IsTrue (D.keeps_model device.old)
         → StopsLeave D.SectorDevice device.old device.new (TakenAway blocks.number (D.disk device.old)) }
     ensures passes { Passes D.SectorDevice device.old device.new result }
     ensures begins { BeginsAtMost D.SectorDevice device.old device.new 1 2 }
@@ -198,9 +197,9 @@ fn fill<D: SectorDevice>(
     listing: &mut [u8; 512],
 ) -> Result<(), DeviceFault>
     requires size { D.sector_count device.old ≡ sectors_for blocks.number }
-    ensures ok { KeepsPages D.SectorDevice device.old → OnOk result (IsBlank blocks.number (D.disk device.new).content) }
-    ensures named { KeepsPages D.SectorDevice device.old → OnOk result ((D.disk device.new).content (record_at false) ≡ listing.new) }
-    ensures rest { KeepsPages D.SectorDevice device.old
+    ensures ok { IsTrue (D.keeps_model device.old) → OnOk result (IsBlank blocks.number (D.disk device.new).content) }
+    ensures named { IsTrue (D.keeps_model device.old) → OnOk result ((D.disk device.new).content (record_at false) ≡ listing.new) }
+    ensures rest { IsTrue (D.keeps_model device.old)
         → OnOk result (KeepsRest (D.disk device.old).content (D.disk device.new).content) }
     ensures spoils { Spoils D.SectorDevice PastLabel device.old device.new }
     ensures passes { Passes D.SectorDevice device.old device.new result }
@@ -220,12 +219,12 @@ fn prepare<D: SectorDevice>(
     listing: &mut [u8; 512],
 ) -> Result<(), DeviceFault>
     requires size { D.sector_count device.old ≡ sectors_for blocks.number }
-    requires unlabelled { KeepsPages D.SectorDevice device.old → IsUnlabelled blocks.number (D.disk device.old) }
-    ensures ok { KeepsPages D.SectorDevice device.old → OnOk result (IsPrepared blocks.number (λ _. replicate 1024 32) (D.disk device.new)) }
-    ensures named { KeepsPages D.SectorDevice device.old → OnOk result ((D.disk device.new).content (record_at false) ≡ listing.new) }
-    ensures rest { KeepsPages D.SectorDevice device.old
+    requires unlabelled { IsTrue (D.keeps_model device.old) → IsUnlabelled blocks.number (D.disk device.old) }
+    ensures ok { IsTrue (D.keeps_model device.old) → OnOk result (IsPrepared blocks.number (λ _. replicate 1024 32) (D.disk device.new)) }
+    ensures named { IsTrue (D.keeps_model device.old) → OnOk result ((D.disk device.new).content (record_at false) ≡ listing.new) }
+    ensures rest { IsTrue (D.keeps_model device.old)
         → OnOk result (KeepsRest (D.disk device.old).content (D.disk device.new).content) }
-    ensures stops { KeepsPages D.SectorDevice device.old
+    ensures stops { IsTrue (D.keeps_model device.old)
         → StopsLeave D.SectorDevice device.old device.new (λ c. c 0 ≢ label_of blocks.number) }
     ensures passes { Passes D.SectorDevice device.old device.new result }
     ensures begins { BeginsAtMost D.SectorDevice device.old device.new (4 * blocks.number + 3) 1 }
@@ -238,10 +237,10 @@ fn prepare<D: SectorDevice>(
 /// Writes the label of an image of so many blocks over one whose other sectors are synced, and syncs.
 pub fn seal<D: SectorDevice>(device: &mut D, blocks: BlockCount) -> Result<(), DeviceFault>
     requires size { D.sector_count device.old ≡ sectors_for blocks.number }
-    requires synced { KeepsPages D.SectorDevice device.old → (k : ℕ) → (D.disk device.old).unsynced k ≡ false }
-    ensures ok { KeepsPages D.SectorDevice device.old
+    requires synced { IsTrue (D.keeps_model device.old) → (k : ℕ) → (D.disk device.old).unsynced k ≡ false }
+    ensures ok { IsTrue (D.keeps_model device.old)
         → OnOk result (D.disk device.new ≡ settled (written (D.disk device.old) 0 (label_of blocks.number))) }
-    ensures stops { KeepsPages D.SectorDevice device.old
+    ensures stops { IsTrue (D.keeps_model device.old)
         → StopsLeave D.SectorDevice device.old device.new (Sealed blocks.number (D.disk device.old).content) }
     ensures passes { Passes D.SectorDevice device.old device.new result }
     ensures begins { BeginsAtMost D.SectorDevice device.old device.new 1 1 }
@@ -257,12 +256,12 @@ fn make<D: SectorDevice>(
     listing: &mut [u8; 512],
 ) -> Result<(), DeviceFault>
     requires size { D.sector_count device.old ≡ sectors_for blocks.number }
-    ensures ok { KeepsPages D.SectorDevice device.old
+    ensures ok { IsTrue (D.keeps_model device.old)
         → OnOk result (IsMade blocks.number (λ _. replicate 1024 32) (D.disk device.new)) }
-    ensures named { KeepsPages D.SectorDevice device.old → OnOk result ((D.disk device.new).content (record_at false) ≡ listing.new) }
-    ensures rest { KeepsPages D.SectorDevice device.old
+    ensures named { IsTrue (D.keeps_model device.old) → OnOk result ((D.disk device.new).content (record_at false) ≡ listing.new) }
+    ensures rest { IsTrue (D.keeps_model device.old)
         → OnOk result (KeepsRest (D.disk device.old).content (D.disk device.new).content) }
-    ensures stops { KeepsPages D.SectorDevice device.old
+    ensures stops { IsTrue (D.keeps_model device.old)
         → StopsLeave D.SectorDevice device.old device.new (FormatLeaves blocks.number (D.disk device.old)) }
     ensures passes { Passes D.SectorDevice device.old device.new result }
     ensures begins { BeginsAtMost D.SectorDevice device.old device.new (4 * blocks.number + 5) 4 }
@@ -280,15 +279,13 @@ fn make<D: SectorDevice>(
 /// blank image, or the old image as it was, but for the other sectors in the label's unit, of which an image says nothing.
 /// The second places keep their bytes, and lose their tags.
 pub fn format<D: SectorDevice>(mut device: D, blocks: u16) -> Result<Store<D>, (OpenFault, D)>
-    // By their law devices keep more than pages: of each one that keeps the disk model a sector is a unit of its own.
-    ensures pages { IsTrue (D.keeps_model device) → KeepsPages D.SectorDevice device }
-    ensures ok { KeepsPages D.SectorDevice device
+    ensures ok { IsTrue (D.keeps_model device)
         → IfOk result (λ store. StandsFor store (fresh (blank_blocks blocks))) }
-    ensures blank { KeepsPages D.SectorDevice device → IfOk result (λ store. IsBlank blocks (disk_of store).content) }
-    ensures rest { KeepsPages D.SectorDevice device
+    ensures blank { IsTrue (D.keeps_model device) → IfOk result (λ store. IsBlank blocks (disk_of store).content) }
+    ensures rest { IsTrue (D.keeps_model device)
         → IfOk result (λ store. KeepsRest (D.disk device).content (disk_of store).content) }
-    ensures label { KeepsPages D.SectorDevice device → IfOk result (λ store. (disk_of store).content 0 ≡ label_of blocks) }
-    ensures synced { KeepsPages D.SectorDevice device → IfOk result (λ store. (k : ℕ) → (disk_of store).unsynced k ≡ false) }
+    ensures label { IsTrue (D.keeps_model device) → IfOk result (λ store. (disk_of store).content 0 ≡ label_of blocks) }
+    ensures synced { IsTrue (D.keeps_model device) → IfOk result (λ store. (k : ℕ) → (disk_of store).unsynced k ≡ false) }
     ensures blocks { IfOk result (λ store. blocks_of store ≡ blocks) }
     ensures closed { IfOk result (λ store. closed_of store ≡ false) }
     ensures pending { IfOk result (λ store. (b : ℕ) → is_pending store b ≡ false) }
@@ -302,9 +299,9 @@ pub fn format<D: SectorDevice>(mut device: D, blocks: u16) -> Result<Store<D>, (
     ensures well { IfOk result (λ store. D.failures (device_of store) ≡ D.failures device) }
 
     // What a stop at any moment leaves, and a stop once it has returned.
-    ensures stops { KeepsPages D.SectorDevice device → (n : ℕ) → D.sector_count device ≡ sectors_for n
+    ensures stops { IsTrue (D.keeps_model device) → (n : ℕ) → D.sector_count device ≡ sectors_for n
         → StopsLeave D.SectorDevice device (end_of result) (FormatLeaves n (D.disk device)) }
-    ensures after { KeepsPages D.SectorDevice device
+    ensures after { IsTrue (D.keeps_model device)
         → IfOk result (λ store. (image : Image) → MayLeave (disk_of store) image → Means (blank_blocks blocks) image) }
     // At most zeros over a label, of each block two halves and two tags, gate, two records and label are written.
     ensures begins { BeginsAtMost D.SectorDevice device (end_of result) (4 * blocks + 5) 4 }
@@ -314,6 +311,7 @@ pub fn format<D: SectorDevice>(mut device: D, blocks: u16) -> Result<Store<D>, (
     ensures failures { D.failures device ≤ D.failures (end_of result) }
     ensures sectors { D.sector_count (end_of result) ≡ D.sector_count device }
     ensures model { D.keeps_model (end_of result) ≡ D.keeps_model device }
+    ensures units { D.keeps_sectors (end_of result) ≡ D.keeps_sectors device }
 {
     if !fits(blocks as u32, device.sectors()) {
         return Err((OpenFault::BadSize, device));

@@ -9,11 +9,11 @@ ghost use Rattle.journal.specs.Maps.{fresh};
 ghost use Rattle.recovery.specs.Recovered.{Tells};
 ghost use Rattle.recovery.specs.declared.fault.OpenFault.{OpenFault};
 ghost use Rattle.recovery.specs.declared.fault.OpenFault.TheVariants.{BadSize, Device, Damaged};
+ghost use Rattle.shadow.specs.Clean.{IsClean};
 ghost use Rattle.shadow.specs.Images.{record_of, meaning, IsWhole, Means};
 ghost use Rattle.shadow.specs.Label.{is_known_size, blocks_in, label_refusal};
 ghost use Rattle.shadow.specs.Layout.{sectors_for, label_of, gate_at};
 ghost use Rattle.shadow.specs.Opened.{HasMeaning, Refuses, end_of};
-ghost use Rattle.shadow.specs.Pages.{KeepsPages};
 ghost use Rattle.shadow.specs.Store.{device_of, disk_of, blocks_of, closed_of, is_pending, StandsFor};
 
 use crate::checking::{is_whole, read_record};
@@ -129,12 +129,13 @@ fn survey<D: SectorDevice>(device: &mut D) -> Result<Found, OpenFault>
 /// that of the size (WrongCount), and an image of which a block isn't the one that was saved, or the record's sum isn't that
 /// of the blocks (Damaged). Device comes where a call of the device failed.
 pub fn open<D: SectorDevice>(mut device: D) -> Result<Store<D>, (OpenFault, D)>
-    // By their law devices keep more than pages: of each one that keeps the disk model a sector is a unit of its own.
-    ensures pages { IsTrue (D.keeps_model device) → KeepsPages D.SectorDevice device }
     // The store has the blocks that the image meant, and the disk is as it was, and synced.
-    ensures ok { KeepsPages D.SectorDevice device
+    ensures ok { IsTrue (D.keeps_model device)
         → IfOk result (λ store. StandsFor store (fresh (meaning (blocks_of store) (D.disk device).content))) }
     ensures disk { IsTrue (D.keeps_model device) → IfOk result (λ store. disk_of store ≡ settled (D.disk device)) }
+    // Its device is one that a store may be made over.
+    ensures clean { IsTrue (D.keeps_model device) → IfOk result (λ store. IsClean (blocks_of store)
+        (gate_open ((disk_of store).content gate_at)) (record_of (disk_of store).content) (disk_of store)) }
     ensures closed { IfOk result (λ store. closed_of store ≡ false) }
     ensures pending { IfOk result (λ store. (b : ℕ) → is_pending store b ≡ false) }
     ensures size { IfOk result (λ store. D.sector_count device ≡ sectors_for (blocks_of store)) }
@@ -161,12 +162,13 @@ pub fn open<D: SectorDevice>(mut device: D) -> Result<Store<D>, (OpenFault, D)>
     // A stop at any moment leaves an image that a stop before could leave, and one after it the blocks that the image meant.
     ensures stops { IsTrue (D.keeps_model device)
         → StopsLeave D.SectorDevice device (end_of result) (MayLeave (D.disk device)) }
-    ensures after { KeepsPages D.SectorDevice device → IfOk result (λ store. (image : Image) → MayLeave (disk_of store) image
+    ensures after { IsTrue (D.keeps_model device) → IfOk result (λ store. (image : Image) → MayLeave (disk_of store) image
         → Means (meaning (blocks_of store) (D.disk device).content) image) }
     ensures time { Elapses D.time D.left_since device (end_of result) }
     ensures failures { D.failures device ≤ D.failures (end_of result) }
     ensures sectors { D.sector_count (end_of result) ≡ D.sector_count device }
     ensures model { D.keeps_model (end_of result) ≡ D.keeps_model device }
+    ensures units { D.keeps_sectors (end_of result) ≡ D.keeps_sectors device }
     // One sync, and of each block three sectors are read beside label, gate and record.
     ensures begins { BeginsAtMost D.SectorDevice device (end_of result) 0 1 }
     ensures reads { ReadsAtMost D.SectorDevice device (end_of result) (3 * blocks_in (D.sector_count device) + 3) }

@@ -4,7 +4,7 @@ ghost use Rattle.sector_disk.specs.Disk.{MayLeave, written, settled};
 ghost use Rattle.journal.specs.Calls.{StopsLeave, BeginsAtMost, ReadsAtMost};
 ghost use Rattle.shadow.specs.Calls.{Passes};
 ghost use Rattle.journal.specs.Images.{pair_at};
-ghost use Rattle.shadow.specs.Pages.{InPage, KeepsPages};
+ghost use Rattle.sector_disk.specs.Pages.{InPage};
 ghost use Rattle.shadow.specs.Steps.{WritesOnly, IsAsSynced};
 
 use sector_disk::{DeviceFault, SectorDevice};
@@ -38,11 +38,11 @@ pub(crate) fn write_sector<D: SectorDevice>(
     bytes: &[u8; 512],
 ) -> Result<(), DeviceFault>
     requires { k < D.sector_count device.old }
-    ensures ok { KeepsPages D.SectorDevice device.old
+    ensures ok { IsTrue (D.keeps_model device.old)
         → OnOk result (D.disk device.new ≡ written (D.disk device.old) k bytes.now) }
-    ensures only { KeepsPages D.SectorDevice device.old
+    ensures only { IsTrue (D.keeps_model device.old)
         → WritesOnly (InPage k) (D.disk device.old) (D.disk device.new) }
-    ensures stops { KeepsPages D.SectorDevice device.old
+    ensures stops { IsTrue (D.keeps_model device.old)
         → StopsLeave D.SectorDevice device.old device.new (IsAsSynced (InPage k) (D.disk device.old)) }
     ensures passes { Passes D.SectorDevice device.old device.new result }
     ensures begins { BeginsAtMost D.SectorDevice device.old device.new 1 0 }
@@ -58,9 +58,9 @@ pub(crate) fn write_through<D: SectorDevice>(
     bytes: &[u8; 512],
 ) -> Result<(), DeviceFault>
     requires { k < D.sector_count device.old }
-    ensures ok { KeepsPages D.SectorDevice device.old
+    ensures ok { IsTrue (D.keeps_model device.old)
         → OnOk result (D.disk device.new ≡ settled (written (D.disk device.old) k bytes.now)) }
-    ensures stops { KeepsPages D.SectorDevice device.old
+    ensures stops { IsTrue (D.keeps_model device.old)
         → StopsLeave D.SectorDevice device.old device.new (IsAsSynced (InPage k) (D.disk device.old)) }
     ensures passes { Passes D.SectorDevice device.old device.new result }
     ensures begins { BeginsAtMost D.SectorDevice device.old device.new 1 1 }
@@ -80,12 +80,12 @@ pub(crate) fn write_pair<D: SectorDevice>(
     requires within { k + 1 < D.sector_count device.old }
     requires page { InPage k (k + 1) }
     requires whole { length bytes.now ≡ 1024 }
-    ensures ok { KeepsPages D.SectorDevice device.old
+    ensures ok { IsTrue (D.keeps_model device.old)
         → OnOk result
         (D.disk device.new ≡ written (written (D.disk device.old) k (take 512 bytes.now)) (k + 1) (drop 512 bytes.now)) }
-    ensures only { KeepsPages D.SectorDevice device.old
+    ensures only { IsTrue (D.keeps_model device.old)
         → WritesOnly (InPage k) (D.disk device.old) (D.disk device.new) }
-    ensures stops { KeepsPages D.SectorDevice device.old
+    ensures stops { IsTrue (D.keeps_model device.old)
         → StopsLeave D.SectorDevice device.old device.new (IsAsSynced (InPage k) (D.disk device.old)) }
     ensures passes { Passes D.SectorDevice device.old device.new result }
     ensures begins { BeginsAtMost D.SectorDevice device.old device.new 2 0 }

@@ -6,7 +6,7 @@ ghost use Rattle.shadow.specs.Calls.{Passes};
 ghost use Rattle.journal.specs.Layout.{fewest_blocks, most_blocks, listed, count_listed};
 ghost use Rattle.shadow.specs.Images.{current_of, current_tag};
 ghost use Rattle.shadow.specs.Layout.{HasFlipped, sectors_for, gate_at, gate_bytes, record_at, sum_in};
-ghost use Rattle.shadow.specs.Pages.{InPage, KeepsPages};
+ghost use Rattle.sector_disk.specs.Pages.{InPage};
 ghost use Rattle.shadow.specs.Steps.{WritesOnly, IsAsSynced, InFree, HasTags, OnlyTags, HasBlocks, IsSound, HasSaved, merged, merged_tag};
 ghost use Rattle.shadow.specs.Tags.{sum_below};
 
@@ -61,16 +61,16 @@ fn prepare<D: SectorDevice>(
     requires few { blocks ≤ most_blocks }
     requires size { D.sector_count device.old ≡ sectors_for blocks }
     ensures bits { IfOk result (λ next. HasFlipped blocks listing.now pending.now next) }
-    ensures tags { KeepsPages D.SectorDevice device.old → OnOk result
+    ensures tags { IsTrue (D.keeps_model device.old) → OnOk result
         (HasTags blocks listing.now pending.now (D.disk device.old).content (D.disk device.new).content) }
-    ensures others { KeepsPages D.SectorDevice device.old
+    ensures others { IsTrue (D.keeps_model device.old)
         → OnOk result (OnlyTags listing.now (D.disk device.old).content (D.disk device.new).content) }
-    ensures sum { KeepsPages D.SectorDevice device.old → IfOk result (λ next.
+    ensures sum { IsTrue (D.keeps_model device.old) → IfOk result (λ next.
         sum_in listing.now ≡ sum_below (current_tag listing.now (D.disk device.old).content) blocks
         → sum_in next ≡ sum_below (merged_tag listing.now pending.now (D.disk device.old).content) blocks) }
-    ensures only { KeepsPages D.SectorDevice device.old
+    ensures only { IsTrue (D.keeps_model device.old)
         → WritesOnly (InFree blocks listing.now) (D.disk device.old) (D.disk device.new) }
-    ensures stops { KeepsPages D.SectorDevice device.old → StopsLeave D.SectorDevice device.old device.new
+    ensures stops { IsTrue (D.keeps_model device.old) → StopsLeave D.SectorDevice device.old device.new
         (IsAsSynced (InFree blocks listing.now) (D.disk device.old)) }
     ensures passes { Passes D.SectorDevice device.old device.new result }
     ensures begins { BeginsAtMost D.SectorDevice device.old device.new (count_listed pending.now blocks) 0 }
@@ -84,9 +84,9 @@ fn prepare<D: SectorDevice>(
 // Writes the record that doesn't count, and then the gate, which names it.
 fn turn<D: SectorDevice>(device: &mut D, is_open: bool, next: &[u8; 512]) -> Result<(), DeviceFault>
     requires { 32 ≤ D.sector_count device.old }
-    ensures ok { KeepsPages D.SectorDevice device.old → OnOk result (D.disk device.new
+    ensures ok { IsTrue (D.keeps_model device.old) → OnOk result (D.disk device.new
         ≡ settled (written (settled (written (D.disk device.old) (record_at (not is_open)) next.now)) gate_at (gate_bytes (not is_open)))) }
-    ensures stops { KeepsPages D.SectorDevice device.old → StopsLeave D.SectorDevice device.old device.new
+    ensures stops { IsTrue (D.keeps_model device.old) → StopsLeave D.SectorDevice device.old device.new
         (λ c. IsAsSynced (InPage (record_at (not is_open))) (D.disk device.old) c
         ⊎ IsAsSynced (InPage gate_at) (settled (written (D.disk device.old) (record_at (not is_open)) next.now)) c) }
     ensures passes { Passes D.SectorDevice device.old device.new result }
@@ -107,10 +107,10 @@ pub(crate) fn save<D: SectorDevice>(
 ) -> Result<(), DeviceFault>
     requires few { blocks ≤ most_blocks }
     requires size { D.sector_count device.old ≡ sectors_for blocks }
-    requires sound { KeepsPages D.SectorDevice device.old → IsSound blocks is_open listing.old (D.disk device.old) }
-    ensures ok { KeepsPages D.SectorDevice device.old → OnOk result
+    requires sound { IsTrue (D.keeps_model device.old) → IsSound blocks is_open listing.old (D.disk device.old) }
+    ensures ok { IsTrue (D.keeps_model device.old) → OnOk result
         (HasSaved blocks is_open listing.old pending.now listing.new (D.disk device.old) (D.disk device.new)) }
-    ensures stops { KeepsPages D.SectorDevice device.old → StopsLeave D.SectorDevice device.old device.new
+    ensures stops { IsTrue (D.keeps_model device.old) → StopsLeave D.SectorDevice device.old device.new
         (λ c. HasBlocks blocks (current_of listing.old (D.disk device.old).content) c
         ⊎ HasBlocks blocks (merged listing.old pending.now (D.disk device.old).content) c) }
     ensures passes { Passes D.SectorDevice device.old device.new result }

@@ -6,7 +6,6 @@ ghost use Rattle.journal.specs.Maps.{Maps, contents, latest, fresh, spilled, com
 ghost use Rattle.shadow.specs.Clean.{IsClean};
 ghost use Rattle.shadow.specs.Images.{meaning, Means};
 ghost use Rattle.shadow.specs.Layout.{sectors_for, current_at, free_at};
-ghost use Rattle.shadow.specs.Pages.{IsPaged, KeepsPages};
 ghost use Rattle.shadow.specs.Steps.{IsSound, merged};
 
 use crate::layout::{current_sector, free_sector, list};
@@ -44,9 +43,9 @@ pub struct Store<D: SectorDevice> {
     ghost few: { blocks ≤ most_blocks },
     ghost size: { D.sector_count device ≡ sectors_for blocks },
     ghost clear: { (b : ℕ) → blocks ≤ b → listed pending b ≡ false },
-    ghost sound: { IsTrue (D.keeps_model device) → IsPaged (D.disk device) → closed ≡ false
+    ghost sound: { IsTrue (D.keeps_model device) → closed ≡ false
         → IsSound blocks is_open listing (D.disk device) },
-    ghost keeps: { IsTrue (D.keeps_model device) → IsPaged (D.disk device) → closed ≡ false
+    ghost keeps: { IsTrue (D.keeps_model device) → closed ≡ false
         → (b : ℕ) → kept ≡ Some b → text ≡ merged listing pending (D.disk device).content b },
 }
 
@@ -59,14 +58,12 @@ impl<D: SectorDevice> Store<D> {
         requires many { fewest_blocks ≤ blocks }
         requires few { blocks ≤ most_blocks }
         requires size { D.sector_count device ≡ sectors_for blocks }
-        requires clean { KeepsPages D.SectorDevice device → IsClean blocks is_open listing.now (D.disk device) }
+        requires clean { IsTrue (D.keeps_model device) → IsClean blocks is_open listing.now (D.disk device) }
         ensures device { device_of result ≡ device }
         ensures blocks { blocks_of result ≡ blocks }
         ensures closed { closed_of result ≡ false }
         ensures pending { (b : ℕ) → is_pending result b ≡ false }
-        // By their law devices keep more than pages: of each one that keeps the disk model a sector is a unit of its own.
-        ensures pages { IsTrue (D.keeps_model device) → KeepsPages D.SectorDevice device }
-        ensures state { KeepsPages D.SectorDevice device
+        ensures state { IsTrue (D.keeps_model device)
             → StandsFor result (fresh (meaning blocks (D.disk device).content)) }
     {
         Store {
@@ -261,7 +258,7 @@ impl<D: SectorDevice> Store<D> {
         ensures continues { Continues self.old self.new }
         ensures pending { MatchResult result (λ _. (a : ℕ)
             → is_pending self.new a ≡ false) (λ _. SamePending self.old self.new) }
-        ensures recorded { KeepsPages D.SectorDevice (device_of self.old) → pending_count self.old ≢ 0
+        ensures recorded { IsTrue (D.keeps_model (device_of self.old)) → pending_count self.old ≢ 0
             → OnOk result (NamesLatest self.old (disk_of self.new).content) }
         ensures begins { DeviceBegins self.old self.new (pending_count self.old + 2) 2 }
         ensures reads { DeviceReads self.old self.new (3 * pending_count self.old) }

@@ -18,7 +18,6 @@ ghost use Rattle.shadow.specs.Calls.{Proceeds};
 ghost use Rattle.shadow.specs.Formatted.{MakingLeaves, KeepsRest, IsFilled};
 ghost use Rattle.shadow.specs.Images.{Means};
 ghost use Rattle.shadow.specs.Layout.{sectors_for, label_of};
-ghost use Rattle.shadow.specs.Pages.{KeepsPages};
 ghost use Rattle.shadow.specs.Upgraded.{known_blocks, older_version, most_by, older_label_refusal, older_refusal, upgrade_size_refusal, upgrade_refusal, listing_of, reads_to_list};
 
 use crate::carrying::carry;
@@ -181,8 +180,6 @@ pub fn upgrade<A: SectorDevice, B: SectorDevice>(
     old: &mut A,
     new: &mut B,
 ) -> Result<(), UpgradeFault>
-    // By their law devices keep more than pages: of each one that keeps the disk model a sector is a unit of its own.
-    ensures pages { IsTrue (B.keeps_model new.old) → KeepsPages B.SectorDevice new.old }
     // Each refusal tells the first test that fails. The sizes are tested over any device.
     ensures exact { IsTrue (A.keeps_model old.old) → MatchResult result
         (λ _. upgrade_refusal (A.sector_count old.old) (B.sector_count new.old) (A.disk old.old).content ≡ None)
@@ -210,24 +207,24 @@ pub fn upgrade<A: SectorDevice, B: SectorDevice>(
     ensures old_begins { BeginsAtMost A.SectorDevice old.old old.new 0 1 }
     ensures old_passes { journal.Proceeds A.SectorDevice old.old old.new }
     // What a stop at any moment leaves of the new one, and what one leaves of it once the call has returned.
-    ensures new_stops { IsTrue (A.keeps_model old.old) → KeepsPages B.SectorDevice new.old → (n : ℕ)
+    ensures new_stops { IsTrue (A.keeps_model old.old) → IsTrue (B.keeps_model new.old) → (n : ℕ)
         → B.sector_count new.old ≡ sectors_for n
         → StopsLeave B.SectorDevice new.old new.new (MakingLeaves n (older.meaning n (A.disk old.old).content) (B.disk new.old)) }
-    ensures after { IsTrue (A.keeps_model old.old) → KeepsPages B.SectorDevice new.old → OnOk result ((n : ℕ)
+    ensures after { IsTrue (A.keeps_model old.old) → IsTrue (B.keeps_model new.old) → OnOk result ((n : ℕ)
         → B.sector_count new.old ≡ sectors_for n
         → (image : Image) → MayLeave (B.disk new.new) image → Means (older.meaning n (A.disk old.old).content) image) }
     // So an opening then gives a store of these blocks, with nothing pending.
-    ensures opens { IsTrue (A.keeps_model old.old) → KeepsPages B.SectorDevice new.old → OnOk result ((n : ℕ)
+    ensures opens { IsTrue (A.keeps_model old.old) → IsTrue (B.keeps_model new.old) → OnOk result ((n : ℕ)
         → B.sector_count new.old ≡ sectors_for n → Means (older.meaning n (A.disk old.old).content) (B.disk new.new).content) }
     // The new image is made as by a format, with these blocks in its first places.
-    ensures filled { IsTrue (A.keeps_model old.old) → KeepsPages B.SectorDevice new.old → OnOk result ((n : ℕ)
+    ensures filled { IsTrue (A.keeps_model old.old) → IsTrue (B.keeps_model new.old) → OnOk result ((n : ℕ)
         → B.sector_count new.old ≡ sectors_for n
         → IsFilled n (older.block_of n (A.disk old.old).content) (B.disk new.new).content) }
-    ensures rest { KeepsPages B.SectorDevice new.old
+    ensures rest { IsTrue (B.keeps_model new.old)
         → OnOk result (KeepsRest (B.disk new.old).content (B.disk new.new).content) }
-    ensures label { IsTrue (A.keeps_model old.old) → KeepsPages B.SectorDevice new.old → OnOk result ((n : ℕ)
+    ensures label { IsTrue (A.keeps_model old.old) → IsTrue (B.keeps_model new.old) → OnOk result ((n : ℕ)
         → B.sector_count new.old ≡ sectors_for n → (B.disk new.new).content 0 ≡ label_of n) }
-    ensures synced { IsTrue (A.keeps_model old.old) → KeepsPages B.SectorDevice new.old
+    ensures synced { IsTrue (A.keeps_model old.old) → IsTrue (B.keeps_model new.old)
         → OnOk result ((k : ℕ) → (B.disk new.new).unsynced k ≡ false) }
     ensures new_passes { Proceeds B.SectorDevice new.old new.new }
     // What an opening by the older layout looks at is read, and each block once.

@@ -43,7 +43,7 @@ pub read_then : {D T E : Type 0} {result : Result T E} (device : Ghosts D) (a b 
 read_then device a b d widens one disk stops passes begins = only_read_then device a b d widens one (record {
   disk = disk;
   stops = stops;
-  passes = record { sectors = passes.sectors; model = passes.model; time = passes.time; failures = passes.failures.never_falls };
+  passes = record { sectors = passes.sectors; model = passes.model; units = passes.units; time = passes.time; failures = passes.failures.never_falls };
   begins = begins;
 })
 
@@ -55,6 +55,6 @@ pub just_read : {D T E : Type 0} {result : Result T E} (device : Ghosts D) (a b 
 just_read device a b disk stops passes begins = record {
   disk = disk;
   stops = stops;
-  passes = record { sectors = passes.sectors; model = passes.model; time = passes.time; failures = passes.failures.never_falls };
+  passes = record { sectors = passes.sectors; model = passes.model; units = passes.units; time = passes.time; failures = passes.failures.never_falls };
   begins = begins;
 }

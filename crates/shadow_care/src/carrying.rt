@@ -12,7 +12,6 @@ ghost use Rattle.shadow.specs.Calls.{Proceeds};
 ghost use Rattle.shadow.specs.Formatted.{MakingLeaves, HasFirst, KeepsRest, IsFilled, IsUnlabelled, IsPrepared, IsMade, PastLabel, Spoils};
 ghost use Rattle.shadow.specs.Images.{current_of, IsWholeUnder};
 ghost use Rattle.shadow.specs.Layout.{sectors_for, label_of};
-ghost use Rattle.shadow.specs.Pages.{KeepsPages};
 ghost use Rattle.shadow.specs.Tags.{tag_of, xor_bytes, sum_below};
 ghost use Rattle.shadow.specs.Upgraded.{WrittenLeaves};
 ghost use Rattle.shadow_care.specs.Carried.{carried_of, carried_standing, carried_blocks, reads_to_carry, reads_below, Notes};
@@ -95,11 +94,11 @@ fn carry_block<A: SectorDevice, B: SectorDevice>(
     requires to { 48 + 16 * b ≤ B.sector_count target.old }
     ensures standing { IsTrue (A.keeps_model source.old)
         → IfOk result (λ found. found ≡ carried_standing blocks.number listing.now (A.disk source.old).content b) }
-    ensures places { IsTrue (A.keeps_model source.old) → KeepsPages B.SectorDevice target.old
+    ensures places { IsTrue (A.keeps_model source.old) → IsTrue (B.keeps_model target.old)
         → OnOk result (HasFirst b (carried_of blocks.number listing.now (A.disk source.old).content b) (B.disk target.new).content) }
-    ensures others { KeepsPages B.SectorDevice target.old → OnOk result
+    ensures others { IsTrue (B.keeps_model target.old) → OnOk result
         ((k : ℕ) → k < 32 + 16 * b → (B.disk target.new).content k ≡ (B.disk target.old).content k) }
-    ensures rest { KeepsPages B.SectorDevice target.old
+    ensures rest { IsTrue (B.keeps_model target.old)
         → OnOk result (KeepsRest (B.disk target.old).content (B.disk target.new).content) }
     ensures sum { IsTrue (A.keeps_model source.old) → OnOk result
         (sum.new ≡ xor_bytes sum.old (tag_of b (carried_of blocks.number listing.now (A.disk source.old).content b))) }
@@ -137,9 +136,9 @@ fn carry_blocks<A: SectorDevice, B: SectorDevice>(
     requires empty { sum.old ≡ replicate 32 0 }
     ensures notes { IsTrue (A.keeps_model source.old) → IfOk result (λ taken. Notes new_blocks.number
         (carried_standing blocks.number listing.now (A.disk source.old).content) taken.others taken.lost) }
-    ensures places { IsTrue (A.keeps_model source.old) → KeepsPages B.SectorDevice target.old → OnOk result ((b : ℕ) → b < new_blocks.number
+    ensures places { IsTrue (A.keeps_model source.old) → IsTrue (B.keeps_model target.old) → OnOk result ((b : ℕ) → b < new_blocks.number
         → HasFirst b (carried_of blocks.number listing.now (A.disk source.old).content b) (B.disk target.new).content) }
-    ensures rest { KeepsPages B.SectorDevice target.old
+    ensures rest { IsTrue (B.keeps_model target.old)
         → OnOk result (KeepsRest (B.disk target.old).content (B.disk target.new).content) }
     ensures sum { IsTrue (A.keeps_model source.old) → OnOk result
         (sum.new ≡ sum_below (λ b. tag_of b (carried_of blocks.number listing.now (A.disk source.old).content b)) new_blocks.number) }
@@ -173,9 +172,9 @@ fn fill<A: SectorDevice, B: SectorDevice>(
     requires to { B.sector_count target.old ≡ sectors_for new_blocks.number }
     ensures notes { IsTrue (A.keeps_model source.old) → IfOk result (λ taken. Notes new_blocks.number
         (carried_standing blocks.number listing.now (A.disk source.old).content) taken.others taken.lost) }
-    ensures ok { IsTrue (A.keeps_model source.old) → KeepsPages B.SectorDevice target.old → OnOk result
+    ensures ok { IsTrue (A.keeps_model source.old) → IsTrue (B.keeps_model target.old) → OnOk result
         (IsFilled new_blocks.number (carried_of blocks.number listing.now (A.disk source.old).content) (B.disk target.new).content) }
-    ensures rest { KeepsPages B.SectorDevice target.old
+    ensures rest { IsTrue (B.keeps_model target.old)
         → OnOk result (KeepsRest (B.disk target.old).content (B.disk target.new).content) }
     ensures spoils { Spoils B.SectorDevice PastLabel target.old target.new }
     ensures faults { IfErr result (TellsFault A.SectorDevice B.SectorDevice source.old source.new target.old target.new) }
@@ -205,15 +204,15 @@ fn prepare<A: SectorDevice, B: SectorDevice>(
 ) -> Result<Taken, UpgradeFault>
     requires from { A.sector_count source.old ≡ sectors_for blocks.number }
     requires to { B.sector_count target.old ≡ sectors_for new_blocks.number }
-    requires unlabelled { KeepsPages B.SectorDevice target.old → IsUnlabelled new_blocks.number (B.disk target.old) }
+    requires unlabelled { IsTrue (B.keeps_model target.old) → IsUnlabelled new_blocks.number (B.disk target.old) }
     ensures notes { IsTrue (A.keeps_model source.old) → IfOk result (λ taken. Notes new_blocks.number
         (carried_standing blocks.number listing.now (A.disk source.old).content) taken.others taken.lost) }
-    ensures ok { IsTrue (A.keeps_model source.old) → KeepsPages B.SectorDevice target.old → OnOk result
+    ensures ok { IsTrue (A.keeps_model source.old) → IsTrue (B.keeps_model target.old) → OnOk result
         (IsPrepared new_blocks.number (carried_of blocks.number listing.now (A.disk source.old).content) (B.disk target.new)) }
-    ensures rest { KeepsPages B.SectorDevice target.old
+    ensures rest { IsTrue (B.keeps_model target.old)
         → OnOk result (KeepsRest (B.disk target.old).content (B.disk target.new).content) }
-    ensures synced { KeepsPages B.SectorDevice target.old → OnOk result ((k : ℕ) → (B.disk target.new).unsynced k ≡ false) }
-    ensures stops { KeepsPages B.SectorDevice target.old
+    ensures synced { IsTrue (B.keeps_model target.old) → OnOk result ((k : ℕ) → (B.disk target.new).unsynced k ≡ false) }
+    ensures stops { IsTrue (B.keeps_model target.old)
         → StopsLeave B.SectorDevice target.old target.new (λ c. c 0 ≢ label_of new_blocks.number) }
     ensures faults { IfErr result (TellsFault A.SectorDevice B.SectorDevice source.old source.new target.old target.new) }
     ensures well { OnOk result (WentWell A.SectorDevice B.SectorDevice source.old source.new target.old target.new) }
@@ -241,14 +240,14 @@ fn write_image<A: SectorDevice, B: SectorDevice>(
 ) -> Result<Taken, UpgradeFault>
     requires from { A.sector_count source.old ≡ sectors_for blocks.number }
     requires to { B.sector_count target.old ≡ sectors_for new_blocks.number }
-    requires unlabelled { KeepsPages B.SectorDevice target.old → IsUnlabelled new_blocks.number (B.disk target.old) }
+    requires unlabelled { IsTrue (B.keeps_model target.old) → IsUnlabelled new_blocks.number (B.disk target.old) }
     ensures notes { IsTrue (A.keeps_model source.old) → IfOk result (λ taken. Notes new_blocks.number
         (carried_standing blocks.number listing.now (A.disk source.old).content) taken.others taken.lost) }
-    ensures ok { IsTrue (A.keeps_model source.old) → KeepsPages B.SectorDevice target.old → OnOk result
+    ensures ok { IsTrue (A.keeps_model source.old) → IsTrue (B.keeps_model target.old) → OnOk result
         (IsMade new_blocks.number (carried_of blocks.number listing.now (A.disk source.old).content) (B.disk target.new)) }
-    ensures rest { KeepsPages B.SectorDevice target.old
+    ensures rest { IsTrue (B.keeps_model target.old)
         → OnOk result (KeepsRest (B.disk target.old).content (B.disk target.new).content) }
-    ensures stops { IsTrue (A.keeps_model source.old) → KeepsPages B.SectorDevice target.old
+    ensures stops { IsTrue (A.keeps_model source.old) → IsTrue (B.keeps_model target.old)
         → StopsLeave B.SectorDevice target.old target.new
         (WrittenLeaves new_blocks.number (carried_blocks blocks.number new_blocks.number listing.now (A.disk source.old).content)) }
     ensures faults { IfErr result (TellsFault A.SectorDevice B.SectorDevice source.old source.new target.old target.new) }
@@ -280,11 +279,11 @@ pub(crate) fn carry<A: SectorDevice, B: SectorDevice>(
     requires to { B.sector_count target.old ≡ sectors_for new_blocks.number }
     ensures notes { IsTrue (A.keeps_model source.old) → IfOk result (λ taken. Notes new_blocks.number
         (carried_standing blocks.number listing.now (A.disk source.old).content) taken.others taken.lost) }
-    ensures ok { IsTrue (A.keeps_model source.old) → KeepsPages B.SectorDevice target.old → OnOk result
+    ensures ok { IsTrue (A.keeps_model source.old) → IsTrue (B.keeps_model target.old) → OnOk result
         (IsMade new_blocks.number (carried_of blocks.number listing.now (A.disk source.old).content) (B.disk target.new)) }
-    ensures rest { KeepsPages B.SectorDevice target.old
+    ensures rest { IsTrue (B.keeps_model target.old)
         → OnOk result (KeepsRest (B.disk target.old).content (B.disk target.new).content) }
-    ensures stops { IsTrue (A.keeps_model source.old) → KeepsPages B.SectorDevice target.old
+    ensures stops { IsTrue (A.keeps_model source.old) → IsTrue (B.keeps_model target.old)
         → StopsLeave B.SectorDevice target.old target.new
         (MakingLeaves new_blocks.number (carried_blocks blocks.number new_blocks.number listing.now (A.disk source.old).content) (B.disk target.old)) }
     ensures faults { IfErr result (TellsFault A.SectorDevice B.SectorDevice source.old source.new target.old target.new) }
@@ -314,11 +313,11 @@ pub(crate) fn carry_whole<A: SectorDevice, B: SectorDevice>(
     requires from { A.sector_count source.old ≡ sectors_for blocks.number }
     requires to { B.sector_count target.old ≡ sectors_for new_blocks.number }
     requires whole { IsTrue (A.keeps_model source.old) → IsWholeUnder blocks.number listing.now (A.disk source.old).content }
-    ensures ok { IsTrue (A.keeps_model source.old) → KeepsPages B.SectorDevice target.old → OnOk result (IsMade new_blocks.number
+    ensures ok { IsTrue (A.keeps_model source.old) → IsTrue (B.keeps_model target.old) → OnOk result (IsMade new_blocks.number
         (block_in (grown new_blocks.number (blocks_below (current_of listing.now (A.disk source.old).content) blocks.number))) (B.disk target.new)) }
-    ensures rest { KeepsPages B.SectorDevice target.old
+    ensures rest { IsTrue (B.keeps_model target.old)
         → OnOk result (KeepsRest (B.disk target.old).content (B.disk target.new).content) }
-    ensures stops { IsTrue (A.keeps_model source.old) → KeepsPages B.SectorDevice target.old
+    ensures stops { IsTrue (A.keeps_model source.old) → IsTrue (B.keeps_model target.old)
         → StopsLeave B.SectorDevice target.old target.new (MakingLeaves new_blocks.number
         (grown new_blocks.number (blocks_below (current_of listing.now (A.disk source.old).content) blocks.number)) (B.disk target.old)) }
     ensures faults { IfErr result (TellsFault A.SectorDevice B.SectorDevice source.old source.new target.old target.new) }

@@ -14,7 +14,6 @@ ghost use Rattle.shadow.specs.Formatted.{MakingLeaves, KeepsRest, IsFilled};
 ghost use Rattle.shadow.specs.Images.{Means, meaning};
 ghost use Rattle.shadow.specs.Label.{is_known_size};
 ghost use Rattle.shadow.specs.Layout.{sectors_for, label_of};
-ghost use Rattle.shadow.specs.Pages.{KeepsPages};
 ghost use Rattle.shadow_care.specs.Copied.{copy_size_refusal, copy_refusal};
 
 use crate::carrying::carry_whole;
@@ -62,8 +61,6 @@ fn sizes_of(old: u32, new: u32) -> Result<Sizes, UpgradeFault>
 /// one (BadSize), both with no call of either device; and an old image as `open` does (NoLabel, OtherVersion, WrongCount, Damaged),
 /// with no call of the new device. Device comes where a call of that device failed.
 pub fn copy<A: SectorDevice, B: SectorDevice>(old: &mut A, new: &mut B) -> Result<(), UpgradeFault>
-    // By their law devices keep more than pages: of each one that keeps the disk model a sector is a unit of its own.
-    ensures pages { IsTrue (B.keeps_model new.old) → KeepsPages B.SectorDevice new.old }
     // Each refusal tells the first test that fails. The sizes are tested over any device.
     ensures exact { IsTrue (A.keeps_model old.old) → MatchResult result
         (λ _. copy_refusal (A.sector_count old.old) (B.sector_count new.old) (A.disk old.old).content ≡ None)
@@ -84,26 +81,26 @@ pub fn copy<A: SectorDevice, B: SectorDevice>(old: &mut A, new: &mut B) -> Resul
     // The old image is only read. A stop at any moment leaves of it what one before could leave.
     ensures old_stops { OnlyRead A.SectorDevice old.old old.new }
     // What a stop at any moment leaves of the new one, and what one leaves of it once it has returned.
-    ensures new_stops { IsTrue (A.keeps_model old.old) → KeepsPages B.SectorDevice new.old → (n m : ℕ)
+    ensures new_stops { IsTrue (A.keeps_model old.old) → IsTrue (B.keeps_model new.old) → (n m : ℕ)
         → A.sector_count old.old ≡ sectors_for n → B.sector_count new.old ≡ sectors_for m
         → StopsLeave B.SectorDevice new.old new.new
         (MakingLeaves m (grown m (meaning n (A.disk old.old).content)) (B.disk new.old)) }
-    ensures after { IsTrue (A.keeps_model old.old) → KeepsPages B.SectorDevice new.old → OnOk result ((n m : ℕ)
+    ensures after { IsTrue (A.keeps_model old.old) → IsTrue (B.keeps_model new.old) → OnOk result ((n m : ℕ)
         → A.sector_count old.old ≡ sectors_for n → B.sector_count new.old ≡ sectors_for m
         → (image : Image) → MayLeave (B.disk new.new) image → Means (grown m (meaning n (A.disk old.old).content)) image) }
     // So an opening then gives a store of these blocks, with nothing pending.
-    ensures opens { IsTrue (A.keeps_model old.old) → KeepsPages B.SectorDevice new.old → OnOk result ((n m : ℕ)
+    ensures opens { IsTrue (A.keeps_model old.old) → IsTrue (B.keeps_model new.old) → OnOk result ((n m : ℕ)
         → A.sector_count old.old ≡ sectors_for n → B.sector_count new.old ≡ sectors_for m
         → Means (grown m (meaning n (A.disk old.old).content)) (B.disk new.new).content) }
     // The new image is made as by a format, with these blocks in its first places.
-    ensures filled { IsTrue (A.keeps_model old.old) → KeepsPages B.SectorDevice new.old → OnOk result ((n m : ℕ)
+    ensures filled { IsTrue (A.keeps_model old.old) → IsTrue (B.keeps_model new.old) → OnOk result ((n m : ℕ)
         → A.sector_count old.old ≡ sectors_for n → B.sector_count new.old ≡ sectors_for m
         → IsFilled m (block_in (grown m (meaning n (A.disk old.old).content))) (B.disk new.new).content) }
-    ensures rest { KeepsPages B.SectorDevice new.old
+    ensures rest { IsTrue (B.keeps_model new.old)
         → OnOk result (KeepsRest (B.disk new.old).content (B.disk new.new).content) }
-    ensures label { IsTrue (A.keeps_model old.old) → KeepsPages B.SectorDevice new.old → OnOk result ((m : ℕ)
+    ensures label { IsTrue (A.keeps_model old.old) → IsTrue (B.keeps_model new.old) → OnOk result ((m : ℕ)
         → B.sector_count new.old ≡ sectors_for m → (B.disk new.new).content 0 ≡ label_of m) }
-    ensures synced { IsTrue (A.keeps_model old.old) → KeepsPages B.SectorDevice new.old
+    ensures synced { IsTrue (A.keeps_model old.old) → IsTrue (B.keeps_model new.old)
         → OnOk result ((k : ℕ) → (B.disk new.new).unsynced k ≡ false) }
     ensures new_passes { Proceeds B.SectorDevice new.old new.new }
     // What an opening looks at is read, and then each block with its tag.

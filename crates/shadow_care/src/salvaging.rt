@@ -13,7 +13,6 @@ ghost use Rattle.shadow.specs.Formatted.{MakingLeaves, KeepsRest, IsFilled};
 ghost use Rattle.shadow.specs.Images.{IsWhole, Means, meaning, record_of};
 ghost use Rattle.shadow.specs.Label.{is_size};
 ghost use Rattle.shadow.specs.Layout.{sectors_for, label_of};
-ghost use Rattle.shadow.specs.Pages.{KeepsPages};
 ghost use Rattle.shadow_care.specs.Copied.{salvage_refusal};
 ghost use Rattle.shadow_care.specs.Standing.{standing_of, salvaged_block, salvaged_blocks, is_other, is_nowhere, reads_to_take};
 
@@ -64,8 +63,6 @@ pub fn salvage<A: SectorDevice, B: SectorDevice>(
     old: &mut A,
     new: &mut B,
 ) -> Result<Taken, UpgradeFault>
-    // By their law devices keep more than pages: of each one that keeps the disk model a sector is a unit of its own.
-    ensures pages { IsTrue (B.keeps_model new.old) → KeepsPages B.SectorDevice new.old }
     // It tells just the blocks that it took from their other places, and just those that it found in neither.
     ensures others { IsTrue (A.keeps_model old.old) → IfOk result (λ taken. (n : ℕ) → A.sector_count old.old ≡ sectors_for n
         → (b : ℕ) → b < n → listed taken.others b ≡ is_other (standing_of (A.disk old.old).content b)) }
@@ -89,25 +86,25 @@ pub fn salvage<A: SectorDevice, B: SectorDevice>(
     // The old image is only read. A stop at any moment leaves of it what one before could leave.
     ensures old_stops { OnlyRead A.SectorDevice old.old old.new }
     // What a stop at any moment leaves of the new one, and what one leaves of it once it has returned.
-    ensures new_stops { IsTrue (A.keeps_model old.old) → KeepsPages B.SectorDevice new.old → (n : ℕ)
+    ensures new_stops { IsTrue (A.keeps_model old.old) → IsTrue (B.keeps_model new.old) → (n : ℕ)
         → B.sector_count new.old ≡ sectors_for n
         → StopsLeave B.SectorDevice new.old new.new (MakingLeaves n (salvaged_blocks n (A.disk old.old).content) (B.disk new.old)) }
-    ensures after { IsTrue (A.keeps_model old.old) → KeepsPages B.SectorDevice new.old
+    ensures after { IsTrue (A.keeps_model old.old) → IsTrue (B.keeps_model new.old)
         → OnOk result ((n : ℕ) → B.sector_count new.old ≡ sectors_for n
         → (image : Image) → MayLeave (B.disk new.new) image → Means (salvaged_blocks n (A.disk old.old).content) image) }
     // Of an image that isn't damaged it salvages the blocks that the image means.
-    ensures undamaged { IsTrue (A.keeps_model old.old) → KeepsPages B.SectorDevice new.old
+    ensures undamaged { IsTrue (A.keeps_model old.old) → IsTrue (B.keeps_model new.old)
         → OnOk result ((n : ℕ) → B.sector_count new.old ≡ sectors_for n → IsWhole n (A.disk old.old).content
         → (image : Image) → MayLeave (B.disk new.new) image → Means (meaning n (A.disk old.old).content) image) }
     // The new image is made as by a format, with these blocks in its first places.
-    ensures filled { IsTrue (A.keeps_model old.old) → KeepsPages B.SectorDevice new.old
+    ensures filled { IsTrue (A.keeps_model old.old) → IsTrue (B.keeps_model new.old)
         → OnOk result ((n : ℕ) → B.sector_count new.old ≡ sectors_for n
         → IsFilled n (salvaged_block (A.disk old.old).content) (B.disk new.new).content) }
-    ensures rest { KeepsPages B.SectorDevice new.old
+    ensures rest { IsTrue (B.keeps_model new.old)
         → OnOk result (KeepsRest (B.disk new.old).content (B.disk new.new).content) }
-    ensures label { IsTrue (A.keeps_model old.old) → KeepsPages B.SectorDevice new.old → OnOk result ((n : ℕ)
+    ensures label { IsTrue (A.keeps_model old.old) → IsTrue (B.keeps_model new.old) → OnOk result ((n : ℕ)
         → B.sector_count new.old ≡ sectors_for n → (B.disk new.new).content 0 ≡ label_of n) }
-    ensures synced { IsTrue (A.keeps_model old.old) → KeepsPages B.SectorDevice new.old
+    ensures synced { IsTrue (A.keeps_model old.old) → IsTrue (B.keeps_model new.old)
         → OnOk result ((k : ℕ) → (B.disk new.new).unsynced k ≡ false) }
     ensures new_passes { Proceeds B.SectorDevice new.old new.new }
     // Gate and record are read, and of each block the place that counts, and where it is damaged the other one.

@@ -4,4 +4,5 @@ pub mod Opened
 pub mod OwnMaps
 pub mod KnownSizes
 pub mod Stores
+pub mod Suited
 pub mod Told

@@ -9,11 +9,13 @@ use Rattle.journal.specs.Layout.{count_below}
 use Rattle.journal.specs.Layout as older_layout
 use Rattle.journal.specs.Maps.{Maps, contents, pending_in, latest}
 use Rattle.journal.specs.Store as older
+use Rattle.recovery.specs.Label.{is_size}
 use Rattle.shadow.specs.Layout as newer_layout
 use Rattle.shadow.specs.Store as newer
 use Rattle.stores.specs.declared.store.Store.{Store}
 use Rattle.stores.specs.declared.store.Store.TheVariants.{Journaled, Shadowed}
 use Rattle.stores.specs.Images.{Means}
+use Rattle.stores.specs.Suits.{suits}
 
 module _ {D : Type 0} {G : Ghosts D} where
   abbrev pub device_of : Store D G → D
@@ -51,6 +53,10 @@ module _ {D : Type 0} {G : Ghosts D} where
   is_pending (Journaled store) b = older.is_pending store b
   is_pending (Shadowed store) b = newer.is_pending store b
 
+  -- whether its device has the size of an image of layout 2
+  abbrev pub by_older : Store D G → Bool
+  by_older store = is_size (G.sector_count (device_of store))
+
   -- how many blocks were spilled since the last save
   abbrev pub pending_count : Store D G → ℕ
   pending_count store = count_below (is_pending store) (blocks_of store)
@@ -68,11 +74,11 @@ module _ {D : Type 0} {G : Ghosts D} where
   Holds (Journaled store) m = older.StandsFor store m
   Holds (Shadowed store) m = newer.StandsFor store m
 
-  -- A store on a device that keeps the disk model stands for maps. While it is open, what is pending are the contents of the blocks
+  -- A store on a device that suits it stands for maps. While it is open, what is pending are the contents of the blocks
   -- that were spilled, and a stop now leaves the saved blocks. A fault changes neither map, but no call reads the maps of a closed
   -- store again: it stands for any maps of its size.
   pub record StandsFor (store : Store D G) (m : Maps) : Type 0 where
-    pub model : IsTrue (G.keeps_model (device_of store))
+    pub model : IsTrue (suits G (device_of store))
     pub closed : m.closed ≡ closed_of store
     pub size : length m.saved ≡ blocks_of store
     pub pending_size : length m.pending ≡ blocks_of store
@@ -85,7 +91,7 @@ module _ {D : Type 0} {G : Ghosts D} where
   pub record Continues (old new : Store D G) : Type 0 where
     pub blocks : blocks_of new ≡ blocks_of old
     pub sectors : G.sector_count (device_of new) ≡ G.sector_count (device_of old)
-    pub model : G.keeps_model (device_of new) ≡ G.keeps_model (device_of old)
+    pub model : suits G (device_of new) ≡ suits G (device_of old)
     pub time : Elapses G.time G.left_since (device_of old) (device_of new)
     pub failures : G.failures (device_of old) ≤ G.failures (device_of new)
 

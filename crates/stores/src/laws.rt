@@ -1,12 +1,31 @@
 //! Laws of the definitions.
-ghost use Rattle.std.specs.Prelude.{IsTrue};
+ghost use Rattle.std.specs.Prelude.{◌≡◌, false, IsTrue};
 ghost use Rattle.journal.specs.Maps.{Maps};
+ghost use Rattle.recovery.specs.Label.{is_size};
 ghost use Rattle.stores.specs.Store.{device_of, StandsFor};
+ghost use Rattle.stores.specs.Suits.{suits};
 
 use crate::Store;
-use sector_disk::SectorDevice;
+use sector_disk::{Coarse, SectorDevice};
 
-/// Does nothing. Its contract is a law: over each device that keeps the disk model a store stands for some maps.
+/// Does nothing. Its contract is a law: over each device that suits it a store stands for some maps.
 pub fn stands<D: SectorDevice>(store: &Store<D>)
-    ensures { IsTrue (D.keeps_model (device_of store.now)) → (m : Maps) × StandsFor store.now m }
+    ensures { IsTrue (suits D.SectorDevice (device_of store.now)) → (m : Maps) × StandsFor store.now m }
+{}
+
+/// Does nothing. Its contract is a law: a disk whose sectors lie in units of eight suits a store of layout 3.
+pub fn eights(device: &Coarse)
+    ensures { is_size (⟦<Coarse as SectorDevice>⟧.sector_count device.now) ≡ false
+        → IsTrue (suits ⟦<Coarse as SectorDevice>⟧ device.now) }
+{}
+
+/// Does nothing. Its contract is a law: a device that keeps the disk model by sectors suits a store of either layout.
+pub fn sectors<D: SectorDevice>(device: &D)
+    ensures { IsTrue (D.keeps_sectors device.now) → IsTrue (suits D.SectorDevice device.now) }
+{}
+
+/// Does nothing. Its contract is a law: a device that keeps the disk model suits a store of layout 3.
+pub fn pages<D: SectorDevice>(device: &D)
+    ensures { is_size (D.sector_count device.now) ≡ false
+        → IsTrue (D.keeps_model device.now) → IsTrue (suits D.SectorDevice device.now) }
 {}

@@ -4,6 +4,7 @@ ghost use Rattle.sector_disk.specs.Disk.{Image, MayLeave};
 ghost use Rattle.journal.specs.Layout.{fewest_blocks, most_blocks};
 ghost use Rattle.journal.specs.Maps.{Maps, contents, latest, spilled, committed, shut};
 ghost use Rattle.shadow.specs.declared.store.StoreFault.TheVariants.{Device as NewerDevice, Closed as NewerClosed};
+ghost use Rattle.stores.specs.Costs.{each_writes, more_writes, save_syncs, each_reads};
 ghost use Rattle.stores.specs.declared.store.Store.TheVariants.{Journaled, Shadowed};
 
 use journal::StoreFault;
@@ -21,7 +22,7 @@ pub enum Store<D: SectorDevice> {
 }
 
 impl<D: SectorDevice> Store<D> {
-    ghost use Rattle.stores.specs.Store.{device_of, disk_of, blocks_of, sectors_of, closed_of, text_of, kept_of, is_pending, pending_count, SamePending, MeansBy, StandsFor, Continues, DeviceFailed, DeviceWentWell, DeviceBegins, DeviceReads, KeepsSaved, SavesAllOrNone, AddsNothing};
+    ghost use Rattle.stores.specs.Store.{device_of, disk_of, blocks_of, sectors_of, closed_of, text_of, kept_of, is_pending, by_older, pending_count, SamePending, MeansBy, StandsFor, Continues, DeviceFailed, DeviceWentWell, DeviceBegins, DeviceReads, KeepsSaved, SavesAllOrNone, AddsNothing};
 
     /// How many blocks there are, from 32 to 3,840.
     #[inline]
@@ -184,9 +185,10 @@ impl<D: SectorDevice> Store<D> {
         ensures continues { Continues self.old self.new }
         ensures pending { MatchResult result (λ _. (a : ℕ)
             → is_pending self.new a ≡ false) (λ _. SamePending self.old self.new) }
-        // So many are what layout 2 takes.
-        ensures begins { DeviceBegins self.old self.new (2 * pending_count self.old + 3) 4 }
-        ensures reads { DeviceReads self.old self.new (4 * pending_count self.old) }
+        // So many are what its layout takes.
+        ensures begins { DeviceBegins self.old self.new
+            (each_writes (by_older self.old) * pending_count self.old + more_writes (by_older self.old)) (save_syncs (by_older self.old)) }
+        ensures reads { DeviceReads self.old self.new (each_reads (by_older self.old) * pending_count self.old) }
     {
         match self {
             Store::Journaled(store) => store.commit(),

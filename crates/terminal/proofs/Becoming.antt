@@ -12,6 +12,7 @@ use Rattle.stores.specs.Store.{Continues, DeviceBegins, DeviceReads, KeepsSaved,
 use Rattle.recovery.specs.Formatted.{MakingLeaves}
 use Rattle.recovery.specs.Label.{blocks_in}
 use Rattle.stores.specs.Images.{Means}
+use Rattle.stores.proofs.Suited.{stays}
 use Rattle.recovery.specs.Upgraded.{OldLeaves}
 use Rattle.interpreter.specs.Lines.{new_forth}
 use Rattle.terminal.specs.Done.{Comes, Exports, ImportsBlocks, ListsBlock, PutsBlock, RunsFrom, RunsSession, Upgrades, blocks_on, maps_on, meant_by}
@@ -123,16 +124,16 @@ module _ {D : Type 0} (G : Ghosts D) where
   }
 
   proceeded : (old new : D) → Proceeds G old new → Becomes G old new
-  proceeded old new on = record { model = on.model; time = on.time; failures = on.failures }
+  proceeded old new on = record { model = stays G old new on.sectors on.model on.units; time = on.time; failures = on.failures }
 
   -- The image on the first device was upgraded onto the second one.
   pub upgrades : (source source' device after : D) (n : ℕ) → n ≡ older.blocks_on G source → G.sector_count source ≡ sectors_for n
       → G.sector_count device ≡ G.sector_count source → Proceeds G source source' → Proceeds G device after
-      → (IsTrue (G.keeps_model source) → (n : ℕ) → G.sector_count source ≡ sectors_for n
+      → (IsTrue (G.keeps_sectors source) → (n : ℕ) → G.sector_count source ≡ sectors_for n
       → StopsLeave G source source' (OldLeaves n (G.disk source)))
-      → (IsTrue (G.keeps_model source) → IsTrue (G.keeps_model device) → (n : ℕ) → G.sector_count device ≡ sectors_for n
+      → (IsTrue (G.keeps_sectors source) → IsTrue (G.keeps_sectors device) → (n : ℕ) → G.sector_count device ≡ sectors_for n
       → StopsLeave G device after (MakingLeaves n (meaning n (G.disk source).content) (G.disk device)))
-      → (IsTrue (G.keeps_model source) → IsTrue (G.keeps_model device) → (n : ℕ) → G.sector_count device ≡ sectors_for n
+      → (IsTrue (G.keeps_sectors source) → IsTrue (G.keeps_sectors device) → (n : ℕ) → G.sector_count device ≡ sectors_for n
       → older.LeavesBlocks G after (meaning n (G.disk source).content))
       → Upgrades G source source' device after
   upgrades source source' device after n are size same reads goes old stops new =

@@ -18,6 +18,7 @@ use Rattle.terminal.specs.Failures.{of_file}
 use Rattle.terminal.specs.Screen.{listing}
 use Rattle.terminal.specs.Shown.{ShowsBlock}
 use Rattle.terminal.specs.declared.failure.Failure.{Failure}
+use Rattle.stores.proofs.Suited.{stays}
 
 -- Of maps of the blocks that an image means, of which nothing is pending, a block is that of the image.
 pub contents_meant : (n : ℕ) (image : Image) (b : ℕ) → b < n → contents (fresh (meaning n image)) b ≡ block_of n image b
@@ -37,7 +38,7 @@ module _ {D : Type 0} (G : Ghosts D) where
       → ReadsAtMost G device after (reads_to_list (blocks_on G device) (G.disk device).content + 3))
       → Appends written written' (listing bytes) → ShowsBlock G b written written' device after
   shown device after b bytes written written' passes below read meant same stops begins reads printed = record {
-    goes = record { model = passes.model; time = passes.time; failures = passes.failures };
+    goes = record { model = stays G device after passes.sectors passes.model passes.units; time = passes.time; failures = passes.failures };
     meant = meant;
     there = below;
     listed = λ keeps.

@@ -24,6 +24,7 @@ use Rattle.terminal.specs.Older.{LeavesBlocks}
 use Rattle.terminal.specs.Failures.{of_upgrade}
 use Rattle.terminal.specs.declared.failure.Failure.{Failure}
 use Rattle.terminal.specs.declared.failure.Failure.TheVariants.{CannotWrite, Device}
+use Rattle.stores.proofs.Suited.{stays}
 
 pub both_true : (a b : Bool) → (a && b) ≡ true → (a ≡ true) × (b ≡ true)
 both_true true b is = (refl, is)
@@ -109,10 +110,10 @@ module _ {A B : Type 0} (G : Ghosts A) (H : Ghosts B) where
   pub copied : (source source' : A) (device after : B) → copy_size_refusal (G.sector_count source) (H.sector_count device) ≡ None
       → (IsTrue (G.keeps_model source) → copy_refusal (G.sector_count source) (H.sector_count device) (G.disk source).content ≡ None)
       → OnlyRead G source source' → Proceeds H device after
-      → (IsTrue (G.keeps_model source) → IsTrue (H.keeps_model device) → (n m : ℕ)
+      → (IsTrue (G.keeps_model source) → IsTrue (H.keeps_sectors device) → (n m : ℕ)
       → G.sector_count source ≡ sectors_for n → H.sector_count device ≡ sectors_for m
       → StopsLeave H device after (MakingLeaves m (grown m (meaning n (G.disk source).content)) (H.disk device)))
-      → (IsTrue (G.keeps_model source) → IsTrue (H.keeps_model device) → (n m : ℕ)
+      → (IsTrue (G.keeps_model source) → IsTrue (H.keeps_sectors device) → (n m : ℕ)
       → G.sector_count source ≡ sectors_for n → H.sector_count device ≡ sectors_for m
       → LeavesBlocks H after (grown m (meaning n (G.disk source).content)))
       → ((m : ℕ) → H.sector_count device ≡ sectors_for m → BeginsAtMost H device after (2 * m + 4) 4)
@@ -125,7 +126,7 @@ module _ {A B : Type 0} (G : Ghosts A) (H : Ghosts B) where
       record {
         old = old;
         sound = λ keeps. not_refused (G.sector_count source) (H.sector_count device) (G.disk source).content (sound keeps);
-        goes = record { model = goes.model; time = goes.time; failures = goes.failures };
+        goes = record { model = stays H device after goes.sectors goes.model goes.units; time = goes.time; failures = goes.failures };
         stops = λ keeps keeps'. stops keeps keeps' (blocks_in (G.sector_count source)) (blocks_in (H.sector_count device)) from to;
         new = λ keeps keeps'. new keeps keeps' (blocks_in (G.sector_count source)) (blocks_in (H.sector_count device)) from to;
         begins = begins (blocks_in (H.sector_count device)) to;
@@ -135,11 +136,11 @@ module _ {A B : Type 0} (G : Ghosts A) (H : Ghosts B) where
   pub salvaged : (source source' : A) (device after : B) (written written' : Option (List ℕ))
       → salvage_refusal (G.sector_count source) (H.sector_count device) ≡ None
       → OnlyRead G source source' → Proceeds H device after
-      → (IsTrue (G.keeps_model source) → IsTrue (H.keeps_model device) → (n : ℕ) → H.sector_count device ≡ sectors_for n
+      → (IsTrue (G.keeps_model source) → IsTrue (H.keeps_sectors device) → (n : ℕ) → H.sector_count device ≡ sectors_for n
       → StopsLeave H device after (MakingLeaves n (salvaged_blocks n (G.disk source).content) (H.disk device)))
-      → (IsTrue (G.keeps_model source) → IsTrue (H.keeps_model device) → (n : ℕ) → H.sector_count device ≡ sectors_for n
+      → (IsTrue (G.keeps_model source) → IsTrue (H.keeps_sectors device) → (n : ℕ) → H.sector_count device ≡ sectors_for n
       → LeavesBlocks H after (salvaged_blocks n (G.disk source).content))
-      → (IsTrue (G.keeps_model source) → IsTrue (H.keeps_model device) → (n : ℕ) → H.sector_count device ≡ sectors_for n
+      → (IsTrue (G.keeps_model source) → IsTrue (H.keeps_sectors device) → (n : ℕ) → H.sector_count device ≡ sectors_for n
       → is_damaged n (G.disk source).content ≡ false → LeavesBlocks H after (meaning n (G.disk source).content))
       → ((n : ℕ) → H.sector_count device ≡ sectors_for n → BeginsAtMost H device after (2 * n + 4) 4)
       → (IsTrue (G.keeps_model source) → (n : ℕ) → G.sector_count source ≡ sectors_for n
@@ -153,7 +154,7 @@ module _ {A B : Type 0} (G : Ghosts A) (H : Ghosts B) where
       same ∙ from ∙ ap (λ s. sectors_for (blocks_in s)) (sym same) in
       record {
         old = old;
-        goes = record { model = goes.model; time = goes.time; failures = goes.failures };
+        goes = record { model = stays H device after goes.sectors goes.model goes.units; time = goes.time; failures = goes.failures };
         stops = λ keeps keeps'. stops keeps keeps' (blocks_in (H.sector_count device)) to;
         new = λ keeps keeps'. new keeps keeps' (blocks_in (H.sector_count device)) to;
         undamaged = λ keeps keeps' whole.

@@ -14,6 +14,7 @@ use Rattle.recovery.specs.Label.{blocks_in}
 use Rattle.terminal.specs.Checked.{Checks, report, told_of}
 use Rattle.terminal.specs.declared.orders.Layout.TheVariants.{Two}
 use Rattle.terminal.proofs.Becoming.{blocks_are}
+use Rattle.stores.proofs.Suited.{stays}
 
 module _ {D : Type 0} (G : Ghosts D) where
   pub checked : (device after : D) (n : ℕ) (under_way : Option ℕ) (digest : List ℕ) (written written' : Option (List ℕ))
@@ -28,7 +29,7 @@ module _ {D : Type 0} (G : Ghosts D) where
       → ReadsAtMost G device after (reads_to_list m (G.disk device).content + 2 * m + 1))
       → Appends written written' (report (512 * (3 + 4 * n)) Two n under_way digest) → Checks G written written' device after
   checked device after n under_way digest written written' size passes meant save same_digest same stops begins reads printed = record {
-    goes = record { model = passes.model; time = passes.time; failures = passes.failures };
+    goes = record { model = stays G device after passes.sectors passes.model passes.units; time = passes.time; failures = passes.failures };
     meant = λ keeps. subst (λ m. HasMeaning m (G.disk device).content) are (meant keeps);
     told = λ keeps.
         subst (λ m. Appends written written' (told_of (G.sector_count device) m (G.disk device).content)) are

@@ -25,6 +25,7 @@ use Rattle.shadow.specs.Layout.{sectors_for}
 use Rattle.shadow.specs.Opened.{HasMeaning}
 use Rattle.shadow.proofs.Labels.{count_is}
 use Rattle.stores.specs.Opened.{newer_refusal}
+use Rattle.stores.proofs.Suited.{stays}
 use Rattle.shadow_care.specs.Copied.{copy_refusal, copy_size_refusal, salvage_refusal}
 use Rattle.shadow_care.specs.Standing.{is_nowhere, is_other, reads_to_take, salvaged_blocks, standing_of}
 use Rattle.shadow_care.specs.declared.salvaging.Taken.{Taken}
@@ -57,7 +58,7 @@ module _ {D : Type 0} (G : Ghosts D) where
       → BeginsAtMost G device after 0 0 → ReadsAtMost G device after (5 * blocks_in (G.sector_count device) + 3)
       → Appends written written' (report (512 * (32 + 16 * n)) Three n None digest) → ChecksNewer G written written' device after
   checked_newer device after n digest written written' size passes meant same_digest same stops begins reads printed = record {
-    goes = record { model = passes.model; time = passes.time; failures = passes.failures };
+    goes = record { model = stays G device after passes.sectors passes.model passes.units; time = passes.time; failures = passes.failures };
     meant = λ keeps. subst (λ m. HasMeaning m (G.disk device).content) are (meant keeps);
     told = λ keeps.
         subst (λ m. Appends written written' (newer_report (G.sector_count device) m (G.disk device).content)) are
@@ -80,7 +81,7 @@ module _ {D : Type 0} (G : Ghosts D) where
       → BeginsAtMost G device after 0 0 → ReadsAtMost G device after (3 * blocks_on G device + 5)
       → Appends written written' (listing bytes) → ShowsNewer G b written written' device after
   shown_newer device after b bytes written written' passes below read meant same stops begins reads printed = record {
-    goes = record { model = passes.model; time = passes.time; failures = passes.failures };
+    goes = record { model = stays G device after passes.sectors passes.model passes.units; time = passes.time; failures = passes.failures };
     meant = meant;
     there = below;
     listed = λ keeps.
@@ -168,7 +169,7 @@ module _ {A B : Type 0} (G : Ghosts A) (H : Ghosts B) where
       record {
         old = old;
         sound = λ keeps. newer_not_refused (G.sector_count source) (H.sector_count device) (G.disk source).content (sound keeps);
-        goes = record { model = goes.model; time = goes.time; failures = goes.failures };
+        goes = record { model = stays H device after goes.sectors goes.model goes.units; time = goes.time; failures = goes.failures };
         stops = λ keeps keeps'. stops keeps keeps' (blocks_on G source) (blocks_on H device) from to;
         new = λ keeps keeps'. new keeps keeps' (blocks_on G source) (blocks_on H device) from to;
         begins = begins (blocks_on H device) to;
@@ -203,7 +204,7 @@ module _ {A B : Type 0} (G : Ghosts A) (H : Ghosts B) where
       same ∙ from ∙ ap (λ s. sectors_for (blocks_in s)) (sym same) in
       record {
         old = old;
-        goes = record { model = goes.model; time = goes.time; failures = goes.failures };
+        goes = record { model = stays H device after goes.sectors goes.model goes.units; time = goes.time; failures = goes.failures };
         stops = λ keeps keeps'. stops keeps keeps' (blocks_on H device) to;
         new = λ keeps keeps'. new keeps keeps' (blocks_on H device) to;
         undamaged = λ keeps keeps' whole.

@@ -48,9 +48,9 @@ module _ {A B : Type 0} (G : Ghosts A) (H : Ghosts B) where
     pub old : OnlyRead G source source'
     pub sound : IsTrue (G.keeps_model source) → image_refusal (G.sector_count source) (G.disk source).content ≡ None
     pub goes : Becomes H device after
-    pub stops : IsTrue (G.keeps_model source) → IsTrue (H.keeps_model device)
+    pub stops : IsTrue (G.keeps_model source) → IsTrue (H.keeps_sectors device)
         → StopsLeave H device after (MakingLeaves (blocks_on H device) (grown (blocks_on H device) (meant_by G source)) (H.disk device))
-    pub new : IsTrue (G.keeps_model source) → IsTrue (H.keeps_model device)
+    pub new : IsTrue (G.keeps_model source) → IsTrue (H.keeps_sectors device)
         → LeavesBlocks H after (grown (blocks_on H device) (meant_by G source))
     pub begins : BeginsAtMost H device after (2 * blocks_on H device + 4) 4
     pub reads : IsTrue (G.keeps_model source) → ReadsAtMost G source source'
@@ -61,11 +61,11 @@ module _ {A B : Type 0} (G : Ghosts A) (H : Ghosts B) where
   pub record Salvages (written written' : Option (List ℕ)) (source source' : A) (device after : B) : Type 0 where
     pub old : OnlyRead G source source'
     pub goes : Becomes H device after
-    pub stops : IsTrue (G.keeps_model source) → IsTrue (H.keeps_model device) → StopsLeave H device after
+    pub stops : IsTrue (G.keeps_model source) → IsTrue (H.keeps_sectors device) → StopsLeave H device after
         (MakingLeaves (blocks_on H device) (salvaged_blocks (blocks_on H device) (G.disk source).content) (H.disk device))
-    pub new : IsTrue (G.keeps_model source) → IsTrue (H.keeps_model device)
+    pub new : IsTrue (G.keeps_model source) → IsTrue (H.keeps_sectors device)
         → LeavesBlocks H after (salvaged_blocks (blocks_on H device) (G.disk source).content)
-    pub undamaged : IsTrue (G.keeps_model source) → IsTrue (H.keeps_model device)
+    pub undamaged : IsTrue (G.keeps_model source) → IsTrue (H.keeps_sectors device)
         → is_damaged (blocks_on H device) (G.disk source).content ≡ false → LeavesBlocks H after (meant_by G source)
     pub told : Appends written written' no_recovery
     pub begins : BeginsAtMost H device after (2 * blocks_on H device + 4) 4

@@ -11,6 +11,7 @@ use Rattle.recovery.specs.Upgraded.{OldLeaves}
 use Rattle.shadow.specs.Upgraded.{known_blocks}
 use Rattle.stores.specs.Images.{Means, meaning}
 use Rattle.stores.specs.Opened.{OpeningLeaves, reads_for, syncs_for, writes_for}
+use Rattle.stores.specs.Suits.{suits}
 use Rattle.interpreter.specs.State.{Forth}
 use Rattle.interpreter.specs.Lines.{new_forth}
 use Rattle.interpreter.specs.Promise.{Keeps}
@@ -48,17 +49,17 @@ module _ {D : Type 0} (G : Ghosts D) where
   pub record Recovers (device begun : D) : Type 0 where
     pub goes : Becomes G device begun
     pub sectors : G.sector_count begun ≡ G.sector_count device
-    pub stops : IsTrue (G.keeps_model device) → StopsLeave G device begun (OpeningLeaves (G.sector_count device) (G.disk device))
-    pub begins : IsTrue (G.keeps_model device) → BeginsAtMost G device begun
+    pub stops : IsTrue (suits G device) → StopsLeave G device begun (OpeningLeaves (G.sector_count device) (G.disk device))
+    pub begins : IsTrue (suits G device) → BeginsAtMost G device begun
         (writes_for (G.sector_count device) (G.disk device).content) (syncs_for (G.sector_count device) (G.disk device).content)
-    pub reads : IsTrue (G.keeps_model device)
+    pub reads : IsTrue (suits G device)
         → ReadsAtMost G device begun (reads_for (G.sector_count device) (G.disk device).content)
 
   -- `new`: the device was formatted, and has become an image of n blank blocks, of layout 2.
   pub record MakesBlank (n : ℕ) (device after : D) : Type 0 where
     pub goes : Becomes G device after
-    pub stops : IsTrue (G.keeps_model device) → StopsLeave G device after (FormatLeaves n (G.disk device))
-    pub blank : IsTrue (G.keeps_model device) → older.LeavesBlocks G after (blank_blocks n)
+    pub stops : IsTrue (G.keeps_sectors device) → StopsLeave G device after (FormatLeaves n (G.disk device))
+    pub blank : IsTrue (G.keeps_sectors device) → older.LeavesBlocks G after (blank_blocks n)
     pub begins : BeginsAtMost G device after (2 * n + 4) 4
     pub reads : ReadsAtMost G device after 1
 
@@ -76,7 +77,7 @@ module _ {D : Type 0} (G : Ghosts D) where
     pub begun : D
     pub recovers : Recovers device begun
     pub goes : Becomes G begun after
-    pub runs : IsTrue (G.keeps_model device)
+    pub runs : IsTrue (suits G device)
         → RunsFrom (new_forth steps (maps_on device)) left left' written written' begun after
 
   -- `list`: a recovery, and the listing of a block that is there was printed. Nothing was written for it, and the block was
@@ -86,9 +87,9 @@ module _ {D : Type 0} (G : Ghosts D) where
     pub recovers : Recovers device begun
     pub goes : Becomes G begun after
     pub there : b < blocks_on device
-    pub listed : IsTrue (G.keeps_model device) → Appends written written' (listing (contents (maps_on device) b))
-    pub stops : IsTrue (G.keeps_model device) → StopsLeave G begun after (MeansOn device (meant_by device))
-    pub same : IsTrue (G.keeps_model device) → LeavesBlocks after (meant_by device)
+    pub listed : IsTrue (suits G device) → Appends written written' (listing (contents (maps_on device) b))
+    pub stops : IsTrue (suits G device) → StopsLeave G begun after (MeansOn device (meant_by device))
+    pub same : IsTrue (suits G device) → LeavesBlocks after (meant_by device)
     pub begins : BeginsAtMost G begun after 0 0
     pub reads : ReadsAtMost G begun after 2
 
@@ -114,7 +115,7 @@ module _ {D : Type 0} (G : Ghosts D) where
     pub recovers : Recovers device begun
     pub goes : Becomes G begun after
     pub there : b < blocks_on device
-    pub saves : IsTrue (G.keeps_model device) → SavesText (maps_on device) b begun after
+    pub saves : IsTrue (suits G device) → SavesText (maps_on device) b begun after
     pub begins : BeginsAtMost G begun after 7 4
     pub reads : ReadsAtMost G begun after 4
 
@@ -127,9 +128,9 @@ module _ {D : Type 0} (G : Ghosts D) where
     pub goes : Becomes G begun after
     pub ordered : first ≤ last
     pub there : last < blocks_on device
-    pub printed : IsTrue (G.keeps_model device) → Appends written written' (exports form (maps_on device) first (last + 1 - first))
-    pub stops : IsTrue (G.keeps_model device) → StopsLeave G begun after (MeansOn device (meant_by device))
-    pub same : IsTrue (G.keeps_model device) → LeavesBlocks after (meant_by device)
+    pub printed : IsTrue (suits G device) → Appends written written' (exports form (maps_on device) first (last + 1 - first))
+    pub stops : IsTrue (suits G device) → StopsLeave G begun after (MeansOn device (meant_by device))
+    pub same : IsTrue (suits G device) → LeavesBlocks after (meant_by device)
     pub begins : BeginsAtMost G begun after 0 0
     pub reads : ReadsAtMost G begun after (2 * (last + 1 - first))
 
@@ -143,7 +144,7 @@ module _ {D : Type 0} (G : Ghosts D) where
     pub sound : refusal (told form (blocks_on device - first) file) ≡ None
     pub below : first < blocks_on device
     pub there : first + blocks_for (length (said form file)) ≤ blocks_on device
-    pub saves : IsTrue (G.keeps_model device) → SavesBlocks (maps_on device) first (as_blocks (said form file)) begun after
+    pub saves : IsTrue (suits G device) → SavesBlocks (maps_on device) first (as_blocks (said form file)) begun after
     pub begins : BeginsAtMost G begun after (4 * blocks_for (length (said form file)) + 3) 4
     pub reads : ReadsAtMost G begun after (4 * blocks_for (length (said form file)))
 
@@ -159,11 +160,11 @@ module _ {D : Type 0} (G : Ghosts D) where
   -- was recovered, and means the same.
   pub record Upgrades (source source' device after : D) : Type 0 where
     pub reads : Becomes G source source'
-    pub old : IsTrue (G.keeps_model source) → StopsLeave G source source' (OldLeaves (older.blocks_on G source) (G.disk source))
+    pub old : IsTrue (G.keeps_sectors source) → StopsLeave G source source' (OldLeaves (older.blocks_on G source) (G.disk source))
     pub goes : Becomes G device after
-    pub stops : IsTrue (G.keeps_model source) → IsTrue (G.keeps_model device)
+    pub stops : IsTrue (G.keeps_sectors source) → IsTrue (G.keeps_sectors device)
         → StopsLeave G device after (MakingLeaves (older.blocks_on G source) (older.meant_by G source) (G.disk device))
-    pub new : IsTrue (G.keeps_model source) → IsTrue (G.keeps_model device) → older.LeavesBlocks G after (older.meant_by G source)
+    pub new : IsTrue (G.keeps_sectors source) → IsTrue (G.keeps_sectors device) → older.LeavesBlocks G after (older.meant_by G source)
 
   -- The device was such a one, and has become this by what P says.
   abbrev pub Comes : (first : D → Type 0) (P : D → D → Type 0) (after : D) → Type 0

@@ -3,6 +3,7 @@ use Rattle.std.specs.Prelude.{◌≡◌, ℕ, false, IsTrue}
 use Rattle.sector_disk.specs.declared.device.SectorDevice as device
 use Rattle.stores.specs.declared.store.Store.{Store}
 use Rattle.stores.specs.Store.{StandsFor, blocks_of, closed_of, device_of, pending_count}
+use Rattle.stores.specs.Suits.{suits}
 use Rattle.sector_disk.specs.Opening.{AreZeros, KeepsGoing, sectors_in}
 use Rattle.sector_disk.specs.SectorFile.{file_of, sectors_of}
 use Rattle.sector_disk.specs.declared.file.SectorFile.{SectorFile}
@@ -27,7 +28,7 @@ module _ {H : Type 0} (G : Ghosts H) where
 pub record OpensAs {D : Type 0} (G : device.Ghosts D) (opened : D) (store : Store D G) : Type 0 where
   pub recovers : Recovers G opened (device_of store)
   pub size : blocks_of store ≡ blocks_on G opened
-  pub stands : IsTrue (G.keeps_model opened) → StandsFor store (maps_on G opened)
+  pub stands : IsTrue (suits G opened) → StandsFor store (maps_on G opened)
   pub pending : pending_count store ≡ 0
   pub closed : closed_of store ≡ false
 

@@ -251,7 +251,7 @@ pub fn copy_over<A: SectorDevice, B: SectorDevice>(old: &mut A, new: &mut B) -> 
     // Where the old image is refused, no call of the other device was made.
     ensures unasked { IfErr result (λ e. e ≢ Failure.Device → new.new ≡ new.old) }
     // Whatever the answer is, a stop leaves of the other device no image, or the whole one, or what could be left before.
-    ensures stops { IsTrue (A.keeps_model old.old) → IsTrue (B.keeps_model new.old) → (n m : ℕ)
+    ensures stops { IsTrue (A.keeps_model old.old) → IsTrue (B.keeps_sectors new.old) → (n m : ℕ)
         → A.sector_count old.old ≡ sectors_for n → B.sector_count new.old ≡ sectors_for m
         → StopsLeave B.SectorDevice new.old new.new
         (MakingLeaves m (grown m (meaning n (A.disk old.old).content)) (B.disk new.old)) }
@@ -284,11 +284,11 @@ pub fn salvage_over<A: SectorDevice, B: SectorDevice, W: Write>(
     ensures kept { OnlyRead A.SectorDevice old.old old.new }
     // Where the sizes are refused, no call of the other device was made.
     ensures unasked { IfErr result (λ e. e ≢ Failure.Device → e ≢ Failure.CannotWrite → new.new ≡ new.old) }
-    ensures stops { IsTrue (A.keeps_model old.old) → IsTrue (B.keeps_model new.old) → (n : ℕ)
+    ensures stops { IsTrue (A.keeps_model old.old) → IsTrue (B.keeps_sectors new.old) → (n : ℕ)
         → B.sector_count new.old ≡ sectors_for n → StopsLeave B.SectorDevice new.old new.new
         (MakingLeaves n (salvaged_blocks n (A.disk old.old).content) (B.disk new.old)) }
     // Where it couldn't be told, the image is there all the same.
-    ensures whole { IsTrue (A.keeps_model old.old) → IsTrue (B.keeps_model new.old)
+    ensures whole { IsTrue (A.keeps_model old.old) → IsTrue (B.keeps_sectors new.old)
         → IfErr result (λ e. e ≡ Failure.CannotWrite → (n : ℕ) → B.sector_count new.old ≡ sectors_for n
         → LeavesBlocks B.SectorDevice new.new (salvaged_blocks n (A.disk old.old).content)) }
     // Where nothing was salvaged, nothing is told.

@@ -14,6 +14,7 @@ ghost use Rattle.recovery.specs.Label.{is_size_for};
 ghost use Rattle.shadow.specs.Label as newer_label;
 ghost use Rattle.shadow.specs.Label.{is_known_size};
 ghost use Rattle.stores.specs.Opened.{image_refusal};
+ghost use Rattle.stores.specs.Suits.{suits};
 ghost use Rattle.terminal.specs.Done.{ListsBlock, MakesBlank};
 ghost use Rattle.terminal.specs.Failures.{of_image};
 ghost use Rattle.terminal.specs.Files.{OpensAs};
@@ -38,7 +39,7 @@ const TEXT_ROOM: usize = 1057;
 /// Makes a device an image of blank blocks, of layout 2. A failure hands the device back.
 pub fn make_over<D: SectorDevice + Drop>(device: D, blocks: u16) -> Result<Store<D>, (Failure, D)>
     ensures made { IfOk result (λ store. MakesBlank D.SectorDevice blocks device (device_of store)) }
-    ensures stands { IsTrue (D.keeps_model device) → IfOk result (λ store. StandsFor store (fresh (blank_blocks blocks))) }
+    ensures stands { IsTrue (D.keeps_sectors device) → IfOk result (λ store. StandsFor store (fresh (blank_blocks blocks))) }
     // Ok only where no call failed.
     ensures well { IfOk result (λ store. D.failures (device_of store) ≡ D.failures device) }
     ensures begins { IfOk result (λ store. BeginsAtMost D.SectorDevice device (device_of store) (2 * blocks + 4) 4) }
@@ -78,7 +79,7 @@ pub fn open_over<D: SectorDevice + Drop>(device: D) -> Result<Store<D>, (Failure
     // Ok only where no call failed.
     ensures well { IfOk result (λ store. D.failures (device_of store) ≡ D.failures device) }
     // Each refusal tells the first test that the image fails.
-    ensures exact { IsTrue (D.keeps_model device) → MatchResult result
+    ensures exact { IsTrue (suits D.SectorDevice device) → MatchResult result
         (λ _. image_refusal (D.sector_count device) (D.disk device).content ≡ None)
         (λ e. (e.0 ≡ Failure.Device) ⊎ (Some e.0 ≡ option_map of_image
         (image_refusal (D.sector_count device) (D.disk device).content))) }

@@ -39,7 +39,7 @@ impl<D: SectorDevice> Forth<D> {
         ensures tells { D.failures (device self.new) ≡ D.failures (device self.old) }
         ensures budget { self.new.budget ≡ self.old.budget }
     {
-        match terminal.key() {
+        match terminal.ask() {
             Ok(Some(b'\n')) => Ok(Some(Room { count: 0, left: 0 })),
             Ok(Some(b'\r')) => Ok(Some(Room { count: 0, left })),
             Ok(Some(byte)) => {
@@ -117,7 +117,7 @@ impl<D: SectorDevice> Forth<D> {
         if self.stack.depth() >= 256 {
             return Err(Stop::Fault(Fault::StackFull));
         }
-        match terminal.key() {
+        match terminal.ask() {
             Ok(Some(byte)) => {
                 self.leave(u16::from(byte));
                 Ok(())

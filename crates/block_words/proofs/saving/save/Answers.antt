@@ -22,7 +22,7 @@ returns-in-Err-clause-runs g c = λ m change stands.
       stands = f.shut_so;
       kept = keeps_save g.D.SectorDevice m.closed (device_of c.args.store.now) (device_of c.spill_updated.new.store) m.saved (next_map b c.args.space.now m) false open_now
           c.spill_updated.ensures.continues.sectors (λ x since. inl (c.in-Err.ensures.stops m stands open_now x since)) (λ no. absurd (cc));
-      wears = unspilled_wears g.D.SectorDevice (device_of c.args.store.now) (device_of c.spill_updated.new.store) f.before f.begins c.in-Err.ensures.reads;
+      wears = unspilled_wears g.D.SectorDevice (device_of c.args.store.now) (device_of c.spill_updated.new.store) f.before c.spill_updated.ensures.continues.sectors f.begins c.in-Err.ensures.reads;
       shuts = λ _. refl;
       last = λ no. absurd (cc);
     }
@@ -51,7 +51,7 @@ returns-in-Ok-commit-clause-runs g c = λ m change stands.
             omega arith,
             λ x since. c.in-Ok-commit.ensures.after all mid_stands x (g.met.D.SectorDevice.only_now (device_of new) x since),
           ));
-      wears = saved_wears G (device_of old) mid new b all mid_stands c.in-Ok.ensures.opened c.in-Ok.ensures.begins c.in-Ok.ensures.reads c.commit.ensures.begins c.commit.ensures.reads
+      wears = saved_wears G (device_of old) mid new b all mid_stands c.in-Ok.ensures.opened c.in-Ok.ensures.continues.sectors c.commit.ensures.continues.sectors c.in-Ok.ensures.begins c.in-Ok.ensures.reads c.commit.ensures.begins c.commit.ensures.reads
           (λ none. c.commit.ensures.unasked c.in-Ok.ensures.opened none);
       shuts = λ h. absurd (let no : true ≡ false = sym h ∙ open_now in cc);
       last = λ h. subst (λ t. (latest all) ≡ last_map m.saved (save_begun t (next_map b sp m) true)) (sym open_now) refl;
@@ -76,7 +76,7 @@ returns-in-Err-commit-clause-runs g c = λ m change stands.
       kept = keeps_save g.D.SectorDevice m.closed (device_of old) (device_of new) m.saved (next_map b sp m) false open_now (c.commit.ensures.continues.sectors ∙ c.in-Ok.ensures.continues.sectors)
           (saves_then g.D.SectorDevice old mid new b sp c.in-Ok.ensures.continues c.commit.ensures.continues c.in-Ok.ensures.ok c.in-Ok.ensures.stops c.commit.ensures.stops m stands open_now)
           (λ no. absurd (cc));
-      wears = committed_wears g.D.SectorDevice (device_of old) mid new b all mid_stands c.in-Ok.ensures.opened c.in-Ok.ensures.begins c.in-Ok.ensures.reads c.commit.ensures.begins c.commit.ensures.reads;
+      wears = committed_wears g.D.SectorDevice (device_of old) mid new b all mid_stands c.in-Ok.ensures.opened c.in-Ok.ensures.continues.sectors c.commit.ensures.continues.sectors c.in-Ok.ensures.begins c.in-Ok.ensures.reads c.commit.ensures.begins c.commit.ensures.reads;
       shuts = λ _. refl;
       last = λ no. absurd (cc);
     }

@@ -1,6 +1,8 @@
 use Rattle.std.proofs.Common.{subst, sym}
 use Rattle.journal.specs.Calls.{StopsLeave}
 use Rattle.recovery.specs.Formatted.{FormatLeaves}
+use Rattle.sessions.specs.Devices.{Becomes}
+use Rattle.stores.proofs.Suited.{stays}
 use Rattle.embed.proofs.block_calls.make_image.Goals as goal
 
 pub returns-in-Ok-clause-stops : goal.returns-in-Ok-clause-stops
@@ -8,3 +10,19 @@ returns-in-Ok-clause-stops g c = λ keeps n size.
     let G = g.D.SectorDevice in
     subst (λ d. StopsLeave G c.args.device d (FormatLeaves n (G.disk c.args.device))) (sym c.into_device.ensures.device)
     (c.in-Ok.ensures.stops keeps n size)
+
+pub returns-in-Ok-clause-goes : goal.returns-in-Ok-clause-goes
+returns-in-Ok-clause-goes g c =
+    let G = g.D.SectorDevice in
+    subst (λ d. Becomes G c.args.device d) (sym c.into_device.ensures.device) (record {
+      model = stays G c.args.device _ c.in-Ok.ensures.sectors c.in-Ok.ensures.model c.in-Ok.ensures.units;
+      time = c.in-Ok.ensures.time;
+      failures = c.in-Ok.ensures.failures;
+    })
+
+pub returns-in-Err-clause-goes : goal.returns-in-Err-clause-goes
+returns-in-Err-clause-goes g c = record {
+  model = stays g.D.SectorDevice c.args.device _ c.in-Err.ensures.sectors c.in-Err.ensures.model c.in-Err.ensures.units;
+  time = c.in-Err.ensures.time;
+  failures = c.in-Err.ensures.failures;
+}

@@ -14,7 +14,7 @@ returns-in-Ok-clause-stops g c = λ source target.
     let d = B.disk c.args.target.now in
     let blocks = carried_blocks c.args.blocks.number m c.args.listing.now (g.A.SectorDevice.disk c.args.source.now).content in
     let mid = c.unlabel.new.device in
-    let honest : IsTrue (B.keeps_model mid) = subst IsTrue (sym c.unlabel.ensures.passes.model) target in
+    let honest : IsTrue (B.keeps_sectors mid) = subst IsTrue (sym c.unlabel.ensures.passes.units) target in
     leaves_then B.time B.left_since c.args.target.now mid c.write_image.new.target
     (TakenAway m d) (WrittenLeaves m blocks) (MakingLeaves m blocks d)
     c.unlabel.ensures.passes.time c.write_image.ensures.passes.time (c.unlabel.ensures.stops target) (c.write_image.ensures.stops source honest)

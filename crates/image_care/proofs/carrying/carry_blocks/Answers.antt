@@ -4,8 +4,9 @@ use Rattle.journal.specs.Images.{pair_at, home_of}
 use Rattle.journal.specs.Layout.{home_at, InPair}
 use Rattle.journal.specs.Steps.{WritesOnly, IsAsSynced}
 use Rattle.journal.proofs.Calls.{proceeds_then}
+use Rattle.recovery.proofs.Upgrades.{only_read_then}
 use Rattle.image_care.specs.Examined.{found_in}
-use Rattle.image_care.proofs.Copies.{carried_more, homes_only, homes_left, only_read_then}
+use Rattle.image_care.proofs.Copies.{carried_more, homes_only, homes_left}
 use Rattle.image_care.proofs.carrying.carry_blocks.Goals as goal
 
 pub loop-b-preserved : goal.loop-b-preserved
@@ -23,8 +24,8 @@ loop-b-preserved g c =
     let mid = c.loop-b.target in
     let new = c.carry_block.new.target in
     let reads : IsTrue (A.keeps_model from) → IsTrue (A.keeps_model read) = λ keeps. subst IsTrue (sym inv.source.passes.model) keeps in
-    let honest : IsTrue (B.keeps_model old) → IsTrue (B.keeps_model mid) = λ keeps. subst IsTrue (sym inv.passes.model) keeps in
-    let step_only : IsTrue (B.keeps_model old) → WritesOnly (InPair (home_at m b)) (B.disk mid) (B.disk new) =
+    let honest : IsTrue (B.keeps_sectors old) → IsTrue (B.keeps_sectors mid) = λ keeps. subst IsTrue (sym inv.passes.units) keeps in
+    let step_only : IsTrue (B.keeps_sectors old) → WritesOnly (InPair (home_at m b)) (B.disk mid) (B.disk new) =
     λ keeps. subst (λ k. WritesOnly (InPair k) (B.disk mid) (B.disk new)) c.home_sector.ensures (step.only (honest keeps)) in
     record {
       carried = λ source target.
@@ -49,3 +50,38 @@ loop-b-preserved g c =
       well = (c.in_ok-carry_block.ensures.well.0 ∙ inv.well.0, c.in_ok-carry_block.ensures.well.1 ∙ inv.well.1);
       passes = proceeds_then B old mid new g.met.B.SectorDevice.widens inv.passes step.passes;
     }
+
+pub returns-in_err-carry_block-clause-only : goal.returns-in_err-carry_block-clause-only
+returns-in_err-carry_block-clause-only g c = λ target.
+    let B = g.B.SectorDevice in
+    let m = c.args.new_blocks.number in
+    let mid = c.loop-b.target in
+    let new = c.carry_block.new.target in
+    let honest : IsTrue (B.keeps_sectors mid) = subst IsTrue (sym c.loop-b.invariant.passes.units) target in
+    homes_only m c.loop-b.b (B.disk c.args.target.now) (B.disk mid) (B.disk new) (c.loop-b.invariant.only target)
+    (subst (λ k. WritesOnly (InPair k) (B.disk mid) (B.disk new)) c.home_sector.ensures (c.carry_block.ensures.only honest))
+
+pub returns-in_err-carry_block-clause-stops : goal.returns-in_err-carry_block-clause-stops
+returns-in_err-carry_block-clause-stops g c = λ target.
+    let B = g.B.SectorDevice in
+    let inv = c.loop-b.invariant in
+    let step = c.carry_block.ensures in
+    let m = c.args.new_blocks.number in
+    let old = c.args.target.now in
+    let mid = c.loop-b.target in
+    let honest : IsTrue (B.keeps_sectors mid) = subst IsTrue (sym inv.passes.units) target in
+    leaves_then B.time B.left_since old mid c.carry_block.new.target
+    (IsAsSynced (λ k. 3 + 2 * m ≤ k) (B.disk old)) (IsAsSynced (InPair c.home_sector.result) (B.disk mid)) (IsAsSynced (λ k. 3 + 2 * m ≤ k) (B.disk old))
+    inv.passes.time step.passes.time (inv.stops target) (step.stops honest)
+    (λ x is. is)
+    (λ x is. homes_left m c.loop-b.b (B.disk old) (B.disk mid) x (inv.only target) (subst (λ k. IsAsSynced (InPair k) (B.disk mid) x) c.home_sector.ensures is))
+
+pub returns-in_err-carry_block-clause-source : goal.returns-in_err-carry_block-clause-source
+returns-in_err-carry_block-clause-source g c =
+    only_read_then g.A.SectorDevice c.args.source.now c.loop-b.source c.carry_block.new.source g.met.A.SectorDevice.widens
+    c.loop-b.invariant.source c.carry_block.ensures.source
+
+pub returns-in_err-carry_block-clause-passes : goal.returns-in_err-carry_block-clause-passes
+returns-in_err-carry_block-clause-passes g c =
+    proceeds_then g.B.SectorDevice c.args.target.now c.loop-b.target c.carry_block.new.target g.met.B.SectorDevice.widens
+    c.loop-b.invariant.passes c.carry_block.ensures.passes

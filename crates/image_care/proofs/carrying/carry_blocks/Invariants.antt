@@ -14,10 +14,10 @@ invariant-loop-b g l =
     let old = l.initial.target in
     let now = l.target in
     record {
-      carried : IsTrue (A.keeps_model from) → IsTrue (B.keeps_model old) → (a : ℕ) → a < l.b
+      carried : IsTrue (A.keeps_model from) → IsTrue (B.keeps_sectors old) → (a : ℕ) → a < l.b
           → home_of l.new_blocks.number (B.disk now).content a ≡ found_in l.blocks.number l.listing (A.disk from).content a;
-      only : IsTrue (B.keeps_model old) → WritesOnly (λ k. 3 + 2 * l.new_blocks.number ≤ k) (B.disk old) (B.disk now);
-      stops : IsTrue (B.keeps_model old) → StopsLeave B old now (IsAsSynced (λ k. 3 + 2 * l.new_blocks.number ≤ k) (B.disk old));
+      only : IsTrue (B.keeps_sectors old) → WritesOnly (λ k. 3 + 2 * l.new_blocks.number ≤ k) (B.disk old) (B.disk now);
+      stops : IsTrue (B.keeps_sectors old) → StopsLeave B old now (IsAsSynced (λ k. 3 + 2 * l.new_blocks.number ≤ k) (B.disk old));
       begins : BeginsAtMost B old now (2 * l.b) 0;
       reads : ReadsAtMost A from l.source (2 * l.b);
       no_reads : ReadsAtMost B old now 0;

@@ -10,7 +10,7 @@ returns-in-Ok-clause-ok g c = λ source target.
     let A = g.A.SectorDevice in
     let B = g.B.SectorDevice in
     let mid = c.fill_head.new.device in
-    let honest : IsTrue (B.keeps_model mid) = subst IsTrue (sym c.fill_head.ensures.passes.model) target in
+    let honest : IsTrue (B.keeps_sectors mid) = subst IsTrue (sym c.fill_head.ensures.passes.units) target in
     let cleared = c.in-Ok.ensures.ok target in
     on_ok_weaker c.fill_homes.result
     (filled_of c.args.blocks.number c.args.new_blocks.number c.requires.grows (found_in c.args.blocks.number c.args.listing.now (A.disk c.args.source.now).content)

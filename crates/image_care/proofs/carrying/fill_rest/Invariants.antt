@@ -10,9 +10,9 @@ invariant-loop-k g l =
     let old = l.initial.device in
     let now = l.device in
     record {
-      filled : IsTrue (D.keeps_model old) → (j : ℕ) → l.first ≤ j → j < l.k → (D.disk now).content j ≡ l.blank;
-      only : IsTrue (D.keeps_model old) → WritesOnly (λ j. l.first ≤ j) (D.disk old) (D.disk now);
-      stops : IsTrue (D.keeps_model old) → StopsLeave D old now (IsAsSynced (λ j. l.first ≤ j) (D.disk old));
+      filled : IsTrue (D.keeps_sectors old) → (j : ℕ) → l.first ≤ j → j < l.k → (D.disk now).content j ≡ l.blank;
+      only : IsTrue (D.keeps_sectors old) → WritesOnly (λ j. l.first ≤ j) (D.disk old) (D.disk now);
+      stops : IsTrue (D.keeps_sectors old) → StopsLeave D old now (IsAsSynced (λ j. l.first ≤ j) (D.disk old));
       few_writes : (D.counts now).writes + l.first ≤ (D.counts old).writes + l.k;
       few_syncs : (D.counts now).syncs ≤ (D.counts old).syncs;
       few_reads : (D.counts now).reads ≤ (D.counts old).reads;

@@ -14,7 +14,7 @@ returns-in-Ok-clause-ok g c = λ source target.
     let m = c.args.new_blocks.number in
     let blocks = carried_blocks c.args.blocks.number m c.args.listing.now (g.A.SectorDevice.disk c.args.source.now).content in
     let mid = c.prepare.new.target in
-    let honest : IsTrue (B.keeps_model mid) = subst IsTrue (sym c.prepare.ensures.passes.model) target in
+    let honest : IsTrue (B.keeps_sectors mid) = subst IsTrue (sym c.prepare.ensures.passes.units) target in
     subst (λ (d : Disk). IsWhole m blocks d) (sym (c.in-Ok.ensures.ok honest)) (whole_of m blocks (B.disk mid) (c.in_ok-prepare.ensures.ok source target))
 
 pub returns-in-Ok-clause-stops : goal.returns-in-Ok-clause-stops
@@ -25,7 +25,7 @@ returns-in-Ok-clause-stops g c = λ source target.
     let image = (g.A.SectorDevice.disk c.args.source.now).content in
     let blocks = carried_blocks n m c.args.listing.now image in
     let mid = c.prepare.new.target in
-    let honest : IsTrue (B.keeps_model mid) = subst IsTrue (sym c.prepare.ensures.passes.model) target in
+    let honest : IsTrue (B.keeps_sectors mid) = subst IsTrue (sym c.prepare.ensures.passes.units) target in
     leaves_then B.time B.left_since c.args.target.now mid c.seal.new.device
     (λ x. x 0 ≢ label_of m) (Sealed m (B.disk mid).content) (WrittenLeaves m blocks)
     c.prepare.ensures.passes.time c.seal.ensures.passes.time (c.prepare.ensures.stops target) (c.seal.ensures.stops honest)
@@ -41,7 +41,7 @@ returns-in-Err-clause-stops g c = λ source target.
     let image = (g.A.SectorDevice.disk c.args.source.now).content in
     let blocks = carried_blocks n m c.args.listing.now image in
     let mid = c.prepare.new.target in
-    let honest : IsTrue (B.keeps_model mid) = subst IsTrue (sym c.prepare.ensures.passes.model) target in
+    let honest : IsTrue (B.keeps_sectors mid) = subst IsTrue (sym c.prepare.ensures.passes.units) target in
     leaves_then B.time B.left_since c.args.target.now mid c.seal.new.device
     (λ x. x 0 ≢ label_of m) (Sealed m (B.disk mid).content) (WrittenLeaves m blocks)
     c.prepare.ensures.passes.time c.seal.ensures.passes.time (c.prepare.ensures.stops target) (c.seal.ensures.stops honest)

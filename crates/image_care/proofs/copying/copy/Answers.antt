@@ -6,10 +6,11 @@ use Rattle.recovery.specs.Formatted.{MakingLeaves}
 use Rattle.recovery.specs.Upgraded.{of_old}
 use Rattle.recovery.specs.declared.fault.UpgradeFault.TheVariants.{Old}
 use Rattle.recovery.proofs.Formats.{half_now, making}
+use Rattle.recovery.proofs.Upgrades.{only_read_then}
 use Rattle.image_care.specs.Carried.{carried_blocks}
 use Rattle.image_care.specs.Copied.{grown, HoldsBlocks, copy_refusal}
 use Rattle.image_care.specs.Examined.{found_in, reads_to_list}
-use Rattle.image_care.proofs.Copies.{carried_copy, copy_refused, length-grown, only_read_then, whole_means}
+use Rattle.image_care.proofs.Copies.{carried_copy, copy_refused, length-grown, whole_means}
 use Rattle.image_care.proofs.copying.copy.Goals as goal
 
 pub returns-in_err-sizes-clause-new_stops : goal.returns-in_err-sizes-clause-new_stops
@@ -46,7 +47,7 @@ returns-in-Ok-clause-after g c = λ source keeps.
     let mid = c.find.new.device in
     let now = c.carry.new.target in
     let honest : IsTrue (A.keeps_model mid) = subst IsTrue (sym c.find.ensures.only_read.passes.model) source in
-    let still : IsTrue (B.keeps_model now) = subst IsTrue (sym c.carry.ensures.passes.model) keeps in
+    let still : IsTrue (B.keeps_sectors now) = subst IsTrue (sym c.carry.ensures.passes.units) keeps in
     on_ok_weaker c.carry.result
     (λ whole n m from to x may.
     let one : a ≡ n = omega (arith, from, c.in_ok-sizes.ensures.old, c.sectors.ensures) in
@@ -56,7 +57,7 @@ returns-in-Ok-clause-after g c = λ source keeps.
     (whole_means b c.in_ok-sizes.sizes.new.many c.in_ok-sizes.sizes.new.few
     (carried_blocks a b c.in-Ok.listing (A.disk mid).content)
     (length-grown a b c.in_ok-sizes.ensures.grows (found_in a c.in-Ok.listing (A.disk mid).content))
-    (B.disk now) (g.met.B.SectorDevice.present now still) whole x may)))
+    (B.disk now) (g.met.B.SectorDevice.present now (g.met.B.SectorDevice.keeps_both _ still)) whole x may)))
     (c.carry.ensures.ok honest keeps)
 
 pub returns-in-Ok-clause-filled : goal.returns-in-Ok-clause-filled

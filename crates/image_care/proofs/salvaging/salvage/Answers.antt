@@ -41,7 +41,7 @@ returns-in-Ok-clause-after g c = λ source keeps.
     let mid = c.find_true.new.device in
     let now = c.carry.new.target in
     let honest : IsTrue (A.keeps_model mid) = subst IsTrue (sym c.find_true.ensures.only_read.passes.model) source in
-    let still : IsTrue (B.keeps_model now) = subst IsTrue (sym c.carry.ensures.passes.model) keeps in
+    let still : IsTrue (B.keeps_sectors now) = subst IsTrue (sym c.carry.ensures.passes.units) keeps in
     on_ok_weaker c.carry.result
     (λ whole n to x may.
     let one : a ≡ n = omega (arith, to, c.in_ok-blocks.ensures.new, c.sectors-2.ensures) in
@@ -49,7 +49,7 @@ returns-in-Ok-clause-after g c = λ source keeps.
     (whole_means a c.in_ok-blocks.blocks.many c.in_ok-blocks.blocks.few
     (carried_blocks a a c.in-Ok.listing (A.disk mid).content)
     (length-grown a a (omega arith) (found_in a c.in-Ok.listing (A.disk mid).content))
-    (B.disk now) (g.met.B.SectorDevice.present now still) whole x may))
+    (B.disk now) (g.met.B.SectorDevice.present now (g.met.B.SectorDevice.keeps_both _ still)) whole x may))
     (c.carry.ensures.ok honest keeps)
 
 pub returns-in-Ok-clause-undamaged : goal.returns-in-Ok-clause-undamaged
@@ -61,7 +61,7 @@ returns-in-Ok-clause-undamaged g c = λ source keeps.
     let mid = c.find_true.new.device in
     let now = c.carry.new.target in
     let honest : IsTrue (A.keeps_model mid) = subst IsTrue (sym c.find_true.ensures.only_read.passes.model) source in
-    let still : IsTrue (B.keeps_model now) = subst IsTrue (sym c.carry.ensures.passes.model) keeps in
+    let still : IsTrue (B.keeps_sectors now) = subst IsTrue (sym c.carry.ensures.passes.units) keeps in
     on_ok_weaker c.carry.result
     (λ whole n to clear x may.
     let one : a ≡ n = omega (arith, to, c.in_ok-blocks.ensures.new, c.sectors-2.ensures) in
@@ -69,7 +69,7 @@ returns-in-Ok-clause-undamaged g c = λ source keeps.
     (whole_means a c.in_ok-blocks.blocks.many c.in_ok-blocks.blocks.few
     (carried_blocks a a c.in-Ok.listing (A.disk mid).content)
     (length-grown a a (omega arith) (found_in a c.in-Ok.listing (A.disk mid).content))
-    (B.disk now) (g.met.B.SectorDevice.present now still) whole x may))
+    (B.disk now) (g.met.B.SectorDevice.present now (g.met.B.SectorDevice.keeps_both _ still)) whole x may))
     (c.carry.ensures.ok honest keeps)
 
 pub returns-in-Ok-clause-filled : goal.returns-in-Ok-clause-filled

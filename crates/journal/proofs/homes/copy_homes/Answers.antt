@@ -1,8 +1,8 @@
 use Rattle.std.proofs.Common.{refl, arith, sym, subst, IsTrue}
+use Rattle.sector_disk.proofs.Moments.{leaves_then}
 use Rattle.journal.specs.Layout.{InListedHomes, InHomeIfListed}
 use Rattle.journal.specs.Steps.{IsAsSynced}
-use Rattle.sector_disk.proofs.Moments.{leaves_then}
-use Rattle.journal.proofs.Calls.{passes_then}
+use Rattle.journal.proofs.Calls.{passes_then, passes_err}
 use Rattle.journal.proofs.Copies.{step_writes, only_more, copied_more, as_synced_more}
 use Rattle.journal.proofs.homes.copy_homes.Goals as goal
 
@@ -30,7 +30,7 @@ loop-b-preserved g c =
     let d = D.disk c.args.device.now in
     let e = D.disk c.loop-b.device in
     let f = D.disk c.copy_if_listed.new.device in
-    let honest : IsTrue (D.keeps_model c.args.device.now) → IsTrue (D.keeps_model c.loop-b.device) = λ keeps. subst IsTrue (sym inv.passes.model) keeps in
+    let honest : IsTrue (D.keeps_sectors c.args.device.now) → IsTrue (D.keeps_sectors c.loop-b.device) = λ keeps. subst IsTrue (sym inv.passes.units) keeps in
     record {
       copied = λ keeps. copied_more n bytes c.loop-b.b d e f below (inv.only keeps) (step.only (honest keeps)) (c.in_ok-copy_if_listed.ensures.ok (honest keeps)) (inv.copied keeps);
       only = λ keeps. only_more n bytes c.loop-b.b d e f below (inv.only keeps) (step.only (honest keeps));
@@ -45,3 +45,10 @@ loop-b-preserved g c =
       };
       reads = (step_writes bytes c.loop-b.b n _ _ _ below inv.reads step.reads).0;
     }
+
+pub returns-in_err-copy_if_listed-clause-passes : goal.returns-in_err-copy_if_listed-clause-passes
+returns-in_err-copy_if_listed-clause-passes g c =
+    let D = g.D.SectorDevice in
+    passes_err D c.args.device.now c.copy_if_listed.new.device
+    (passes_then D c.args.device.now c.loop-b.device c.copy_if_listed.new.device g.met.D.SectorDevice.widens
+    c.loop-b.invariant.passes c.in_err-copy_if_listed.ensures.passes refl) refl c.from_residual.ensures.0

@@ -16,7 +16,7 @@ returns-in-Ok-clause-ok g c = λ keeps.
     let n = c.args.blocks in
     let fits = c.if-not-fits.ensures in
     let new = D.disk c.make.new.device in
-    let honest : IsTrue (D.keeps_model c.make.new.device) = subst IsTrue (sym c.make.ensures.passes.model) keeps in
+    let honest : IsTrue (D.keeps_sectors c.make.new.device) = subst IsTrue (sym c.make.ensures.passes.units) keeps in
     let means = made_means n fits.many fits.few (λ _. replicate 512 32) new (c.in-Ok.ensures.ok keeps) (blank_blocks n) (blank_homes n) new.content (λ k. refl) in
     subst (λ l. StandsFor c.adopt.result (fresh l)) (blank_meaning n new.content means) (c.adopt.ensures.state honest)
 
@@ -25,10 +25,10 @@ returns-in-Ok-clause-after g c = λ keeps x may.
     let D = g.D.SectorDevice in
     let fits = c.if-not-fits.ensures in
     let new = D.disk c.make.new.device in
-    let honest : IsTrue (D.keeps_model c.make.new.device) = subst IsTrue (sym c.make.ensures.passes.model) keeps in
+    let honest : IsTrue (D.keeps_sectors c.make.new.device) = subst IsTrue (sym c.make.ensures.passes.units) keeps in
     let made = c.in-Ok.ensures.ok keeps in
     let left = subst (λ d. MayLeave (D.disk d) x) c.adopt.ensures.device may in
-    made_means c.args.blocks fits.many fits.few (λ _. replicate 512 32) new made (blank_blocks c.args.blocks) (blank_homes c.args.blocks) x (λ k. left k (made.synced k) ∙ sym (g.met.D.SectorDevice.present c.make.new.device honest k (made.synced k)))
+    made_means c.args.blocks fits.many fits.few (λ _. replicate 512 32) new made (blank_blocks c.args.blocks) (blank_homes c.args.blocks) x (λ k. left k (made.synced k) ∙ sym (g.met.D.SectorDevice.present c.make.new.device (g.met.D.SectorDevice.keeps_both _ honest) k (made.synced k)))
 
 pub returns-in-Ok-clause-stops : goal.returns-in-Ok-clause-stops
 returns-in-Ok-clause-stops g c = λ keeps n size x since.

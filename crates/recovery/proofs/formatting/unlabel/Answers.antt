@@ -9,10 +9,10 @@ use Rattle.recovery.proofs.Formats.{half_now, half_cleared}
 use Rattle.recovery.proofs.formatting.unlabel.Goals as goal
 
 pub returns-in_err-settle-clause-stops : goal.returns-in_err-settle-clause-stops
-returns-in_err-settle-clause-stops g c = λ keeps x since. half_now c.args.blocks.number (g.D.SectorDevice.disk c.args.device.now) x (c.settle.ensures.stops keeps x since)
+returns-in_err-settle-clause-stops g c = λ keeps x since. half_now c.args.blocks.number (g.D.SectorDevice.disk c.args.device.now) x (c.settle.ensures.stops (g.met.D.SectorDevice.keeps_both _ keeps) x since)
 
 pub returns-else-eq-clause-stops : goal.returns-else-eq-clause-stops
-returns-else-eq-clause-stops g c = λ keeps x since. half_now c.args.blocks.number (g.D.SectorDevice.disk c.args.device.now) x (c.settle.ensures.stops keeps x since)
+returns-else-eq-clause-stops g c = λ keeps x since. half_now c.args.blocks.number (g.D.SectorDevice.disk c.args.device.now) x (c.settle.ensures.stops (g.met.D.SectorDevice.keeps_both _ keeps) x since)
 
 pub returns-then-eq-clause-stops : goal.returns-then-eq-clause-stops
 returns-then-eq-clause-stops g c = λ keeps.
@@ -20,14 +20,14 @@ returns-then-eq-clause-stops g c = λ keeps.
     let n = c.args.blocks.number in
     let d = D.disk c.args.device.now in
     let mid = c.settle.new.device in
-    let honest : IsTrue (D.keeps_model mid) = subst IsTrue (sym c.settle.ensures.passes.model) keeps in
+    let honest : IsTrue (D.keeps_sectors mid) = subst IsTrue (sym c.settle.ensures.passes.units) keeps in
     let same : c.settle.new.found ≡ c.label.result = search rules in
-    let good : d.content 0 ≡ label_of n = sym (c.in_ok-settle.ensures.label keeps) ∙ same ∙ c.label.ensures in
+    let good : d.content 0 ≡ label_of n = sym (c.in_ok-settle.ensures.label (g.met.D.SectorDevice.keeps_both _ keeps)) ∙ same ∙ c.label.ensures in
     leaves_then D.time D.left_since c.args.device.now mid c.write_through.new.device (MayLeave d) (IsAsSynced (λ k. k ≡ 0) (D.disk mid)) (TakenAway n d)
-    c.settle.ensures.passes.time c.write_through.ensures.passes.time (c.settle.ensures.stops keeps) (c.write_through.ensures.stops honest)
+    c.settle.ensures.passes.time c.write_through.ensures.passes.time (c.settle.ensures.stops (g.met.D.SectorDevice.keeps_both _ keeps)) (c.write_through.ensures.stops honest)
     (half_now n d)
-    (λ x is. half_cleared n d (g.met.D.SectorDevice.present c.args.device.now keeps) good x
-    (subst (λ (e : Disk). IsAsSynced (λ k. k ≡ 0) e x) (c.in_ok-settle.ensures.ok keeps) is))
+    (λ x is. half_cleared n d (g.met.D.SectorDevice.present c.args.device.now (g.met.D.SectorDevice.keeps_both _ keeps)) good x
+    (subst (λ (e : Disk). IsAsSynced (λ k. k ≡ 0) e x) (c.in_ok-settle.ensures.ok (g.met.D.SectorDevice.keeps_both _ keeps)) is))
 
 pub returns-then-eq-clause-passes : goal.returns-then-eq-clause-passes
 returns-then-eq-clause-passes g c =

@@ -17,7 +17,7 @@ returns-in-Ok-clause-ok g c = λ keeps.
     let n = c.in-Some.number in
     let old = (D.disk c.args.device).content in
     let new = (D.disk c.recover.new.device).content in
-    let honest : IsTrue (D.keeps_model c.recover.new.device) = subst IsTrue (sym c.recover.ensures.passes.model) keeps in
+    let honest : IsTrue (D.keeps_sectors c.recover.new.device) = subst IsTrue (sym c.recover.ensures.passes.units) keeps in
     let same : meaning n new ≡ meaning n old = same_below (block_of n new) (block_of n old) n (c.in-Ok.ensures.ok keeps).recovered.blocks in
     subst (λ m. StandsFor c.adopt.result (fresh (meaning m old))) (sym c.adopt.ensures.blocks)
     (subst (λ blocks. StandsFor c.adopt.result (fresh blocks)) same (c.adopt.ensures.state honest))
@@ -31,7 +31,7 @@ returns-in_default-clause-stops g c = λ keeps n size x since.
 
 pub adopt-requires-clause-clean : goal.adopt-requires-clause-clean
 adopt-requires-clause-clean g c = λ honest.
-    let keeps : IsTrue (g.D.SectorDevice.keeps_model c.args.device) = subst IsTrue c.recover.ensures.passes.model honest in
+    let keeps : IsTrue (g.D.SectorDevice.keeps_sectors c.args.device) = subst IsTrue c.recover.ensures.passes.units honest in
     let done = (c.in-Ok.ensures.ok keeps).recovered in
     record {
       label = record { many = c.in-Some.ensures.many; few = c.in-Some.ensures.few; label = done.label ∙ c.in-Ok.ensures.label keeps };
@@ -73,7 +73,7 @@ returns-in-Err-clause-stops g c = λ keeps n size x since.
     let d = D.disk c.args.device in
     let one : c.in-Some.number ≡ n = omega (arith, size, c.in-Some.ensures.size, c.sectors.ensures) in
     subst (λ m. RecoveryLeaves m d x) one
-    (recovers_by c.in-Some.number d (g.met.D.SectorDevice.present c.args.device keeps) c.in-Some.ensures.many c.in-Some.ensures.few x
+    (recovers_by c.in-Some.number d (g.met.D.SectorDevice.present c.args.device (g.met.D.SectorDevice.keeps_both _ keeps)) c.in-Some.ensures.many c.in-Some.ensures.few x
     (c.recover.ensures.stops keeps x since))
 
 pub returns-in-Ok-clause-stops : goal.returns-in-Ok-clause-stops
@@ -83,7 +83,7 @@ returns-in-Ok-clause-stops g c = λ keeps n size.
     let one : c.in-Some.number ≡ n = omega (arith, size, c.in-Some.ensures.size, c.sectors.ensures) in
     subst (λ now. (x : Image) → D.left_since now (D.time c.args.device) x → RecoveryLeaves n d x) (sym c.adopt.ensures.device)
     (λ x since. subst (λ m. RecoveryLeaves m d x) one
-    (recovers_by c.in-Some.number d (g.met.D.SectorDevice.present c.args.device keeps) c.in-Some.ensures.many c.in-Some.ensures.few x
+    (recovers_by c.in-Some.number d (g.met.D.SectorDevice.present c.args.device (g.met.D.SectorDevice.keeps_both _ keeps)) c.in-Some.ensures.many c.in-Some.ensures.few x
     (c.recover.ensures.stops keeps x since)))
 
 pub returns-in-Ok-clause-begins : goal.returns-in-Ok-clause-begins

@@ -6,7 +6,7 @@ returns-then-branch-clause-passes g c =
     let D = g.D.SectorDevice in
     let read = c.read.ensures in
     proceeds_then D c.args.device.now c.read.new.self c.is_true_record.new.device g.met.D.SectorDevice.widens
-    (proceeds D c.args.device.now c.read.new.self (passes_by D c.args.device.now c.read.new.self read.sectors read.model read.time read.failures))
+    (proceeds D c.args.device.now c.read.new.self (passes_by D c.args.device.now c.read.new.self read.sectors read.model read.units read.time read.failures))
     (proceeds D c.read.new.self c.is_true_record.new.device c.is_true_record.ensures.passes)
 
 pub returns-else-branch-clause-passes : goal.returns-else-branch-clause-passes
@@ -14,5 +14,13 @@ returns-else-branch-clause-passes g c =
     let D = g.D.SectorDevice in
     let read = c.read.ensures in
     proceeds_then D c.args.device.now c.read.new.self c.is_true_record.new.device g.met.D.SectorDevice.widens
-    (proceeds D c.args.device.now c.read.new.self (passes_by D c.args.device.now c.read.new.self read.sectors read.model read.time read.failures))
+    (proceeds D c.args.device.now c.read.new.self (passes_by D c.args.device.now c.read.new.self read.sectors read.model read.units read.time read.failures))
+    (proceeds D c.read.new.self c.is_true_record.new.device c.is_true_record.ensures.passes)
+
+pub returns-in_err-is_true_record-clause-passes : goal.returns-in_err-is_true_record-clause-passes
+returns-in_err-is_true_record-clause-passes g c =
+    let D = g.D.SectorDevice in
+    let read = c.read.ensures in
+    proceeds_then D c.args.device.now c.read.new.self c.is_true_record.new.device g.met.D.SectorDevice.widens
+    (proceeds D c.args.device.now c.read.new.self (passes_by D c.args.device.now c.read.new.self read.sectors read.model read.units read.time read.failures))
     (proceeds D c.read.new.self c.is_true_record.new.device c.is_true_record.ensures.passes)

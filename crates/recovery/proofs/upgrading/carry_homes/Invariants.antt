@@ -12,9 +12,9 @@ invariant-loop-k g l =
     let old = l.initial.target in
     let now = l.target in
     record {
-      carried : IsTrue (A.keeps_model from) → IsTrue (B.keeps_model old) → (j : ℕ) → 3 + 2 * l.fn.blocks.number ≤ j → j < l.k → (B.disk now).content j ≡ (A.disk from).content j;
-      only : IsTrue (B.keeps_model old) → WritesOnly (λ j. 3 + 2 * l.fn.blocks.number ≤ j) (B.disk old) (B.disk now);
-      stops : IsTrue (B.keeps_model old) → StopsLeave B old now (IsAsSynced (λ j. 3 + 2 * l.fn.blocks.number ≤ j) (B.disk old));
+      carried : IsTrue (A.keeps_model from) → IsTrue (B.keeps_sectors old) → (j : ℕ) → 3 + 2 * l.fn.blocks.number ≤ j → j < l.k → (B.disk now).content j ≡ (A.disk from).content j;
+      only : IsTrue (B.keeps_sectors old) → WritesOnly (λ j. 3 + 2 * l.fn.blocks.number ≤ j) (B.disk old) (B.disk now);
+      stops : IsTrue (B.keeps_sectors old) → StopsLeave B old now (IsAsSynced (λ j. 3 + 2 * l.fn.blocks.number ≤ j) (B.disk old));
       few_writes : (B.counts now).writes + l.first ≤ (B.counts old).writes + l.k;
       few_syncs : (B.counts now).syncs ≤ (B.counts old).syncs;
       few_reads : (A.counts l.source).reads + l.first ≤ (A.counts from).reads + l.k;

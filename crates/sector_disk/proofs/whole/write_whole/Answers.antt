@@ -31,7 +31,7 @@ loop-preserved g c =
       within = omega (arith, long, few, inv.within);
       puts = λ keeps.
           puts_then c.args.at bytes done rest n (length rest) f h i (λ j below. search (rules, places))
-          (inv.puts keeps) c.write_some.ensures.spoils (c.in_ok-done.ensures.puts (subst IsTrue (sym inv.goes.model) keeps));
+          inv.spoils.unit (inv.puts keeps) c.write_some.ensures.spoils (c.in_ok-done.ensures.puts (subst IsTrue (sym inv.goes.model) keeps));
       spoils = spoils_then c.args.at (length bytes) (c.args.at + done) (length rest) f h i (omega arith) (omega (arith, long, inv.within))
           inv.spoils c.write_some.ensures.spoils;
       goes = writes_then g.H.HostFile c.args.file.now c.loop.file c.write_some.new.file _ _ (g.met.H.HostFile.widens c.write_some.new.file)

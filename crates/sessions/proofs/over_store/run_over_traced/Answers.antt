@@ -1,5 +1,6 @@
 use Rattle.std.proofs.Common.{◌≡◌, IsTrue, ap, sym, subst}
 use Rattle.stores.specs.Store.{StandsFor, device_of}
+use Rattle.stores.specs.Suits.{suits}
 use Rattle.interpreter.specs.Lines.{new_forth}
 use Rattle.stores.proofs.OwnMaps.{own_maps, stands_for_own}
 use Rattle.sessions.proofs.Ended.{ended}
@@ -28,9 +29,8 @@ returns-clause-goes g c =
 
 pub run_traced-end-requires : goal.run_traced-end-requires
 run_traced-end-requires g c =
-    let present = g.met.D.SectorDevice.present in
-    let by_sectors = g.met.D.SectorDevice.by_sectors in
-    let sound = c.new-forth.ensures.sound (own_maps present by_sectors c.args.store)
-    (λ held is keeps. subst (λ s. StandsFor s (own_maps present by_sectors c.args.store)) (sym is)
-    (stands_for_own present by_sectors c.args.store (subst (λ s. IsTrue (g.D.SectorDevice.keeps_model (device_of s))) is keeps))) in
+    let D = g.met.D.SectorDevice in
+    let sound = c.new-forth.ensures.sound (own_maps c.args.store)
+    (λ held is keeps. subst (λ s. StandsFor s (own_maps c.args.store)) (sym is)
+    (stands_for_own D.present D.keeps_both c.args.store (subst (λ s. IsTrue (suits g.D.SectorDevice (device_of s))) is keeps))) in
     record { sound = sound }

@@ -5,7 +5,7 @@ use Rattle.journal.specs.Images.{pair_at}
 use Rattle.shadow.proofs.Calls.{passes_then, passes_ok, passes_err}
 use Rattle.shadow.specs.Images.{current_tag, free_of, free_tag}
 use Rattle.shadow.specs.Layout.{current_at, free_at, tag_in}
-use Rattle.shadow.specs.Pages.{InPage}
+use Rattle.sector_disk.specs.Pages.{InPage}
 use Rattle.shadow.specs.Steps.{IsAsSynced, WritesOnly}
 use Rattle.shadow.specs.Tags.{tag_of, xor_bytes}
 use Rattle.shadow.proofs.Exchanged.{current_not_tag}
@@ -24,7 +24,7 @@ returns-clause-tag g c = λ keeps.
     let first = (D.disk c.args.device.now).content in
     let mid = c.write_tag.new.device in
     let b = c.args.b in
-    let honest : IsTrue (D.keeps_model mid) = subst IsTrue (sym c.write_tag.ensures.passes.model) keeps.model in
+    let honest : IsTrue (D.keeps_model mid) = subst IsTrue (sym c.write_tag.ensures.passes.model) keeps in
     ap (λ (d : Disk). free_tag c.args.listing.now d.content b) (c.read_tag.ensures.disk honest)
     ∙ subst (λ j. tag_in ((D.disk mid).content (j + 2)) ≡ tag_of b (pair_at first j)) c.free_sector.ensures.place (c.in_ok-new.ensures.tag keeps)
 
@@ -32,7 +32,7 @@ pub returns-clause-others : goal.returns-clause-others
 returns-clause-others g c = λ keeps j other.
     let D = g.D.SectorDevice in
     let mid = c.write_tag.new.device in
-    let honest : IsTrue (D.keeps_model mid) = subst IsTrue (sym c.write_tag.ensures.passes.model) keeps.model in
+    let honest : IsTrue (D.keeps_model mid) = subst IsTrue (sym c.write_tag.ensures.passes.model) keeps in
     ap (λ (d : Disk). d.content j) (c.read_tag.ensures.disk honest)
     ∙ c.in_ok-new.ensures.others keeps j (λ is. other (is ∙ ap (λ i. i + 2) c.free_sector.ensures.place))
 
@@ -43,13 +43,13 @@ returns-clause-sum g c = λ keeps.
     let mid = c.write_tag.new.device in
     let listing = c.args.listing.now in
     let b = c.args.b in
-    let honest : IsTrue (D.keeps_model mid) = subst IsTrue (sym c.write_tag.ensures.passes.model) keeps.model in
+    let honest : IsTrue (D.keeps_model mid) = subst IsTrue (sym c.write_tag.ensures.passes.model) keeps in
     let k_is : c.free_sector.result ≡ free_at listing b = c.free_sector.ensures.place in
     let taken : c.in_ok-old.old ≡ current_tag listing first b =
     c.in_ok-old.ensures.bytes honest
     ∙ ap (λ i. tag_in ((D.disk mid).content (i + 2))) c.current_sector.ensures.place
     ∙ ap tag_in (c.in_ok-new.ensures.others keeps (current_at listing b + 2) (λ is. current_not_tag listing b 2 b (omega arith) (is ∙ ap (λ i. i + 2) k_is))) in
-    let put : c.in_ok-new.new ≡ tag_of b (free_of listing first b) = c.in_ok-new.ensures.made keeps.model ∙ ap (λ i. tag_of b (pair_at first i)) k_is in
+    let put : c.in_ok-new.new ≡ tag_of b (free_of listing first b) = c.in_ok-new.ensures.made keeps ∙ ap (λ i. tag_of b (pair_at first i)) k_is in
     c.exchange.ensures ∙ (λ t. xor_bytes (xor_bytes c.args.sum.now (taken t)) (put t))
 
 pub returns-in_err-new-clause-only : goal.returns-in_err-new-clause-only
@@ -62,7 +62,7 @@ pub returns-in_err-old-clause-only : goal.returns-in_err-old-clause-only
 returns-in_err-old-clause-only g c = λ keeps.
     let D = g.D.SectorDevice in
     let mid = c.write_tag.new.device in
-    let honest : IsTrue (D.keeps_model mid) = subst IsTrue (sym c.write_tag.ensures.passes.model) keeps.model in
+    let honest : IsTrue (D.keeps_model mid) = subst IsTrue (sym c.write_tag.ensures.passes.model) keeps in
     subst (λ (e : Disk). WritesOnly (InPage (free_at c.args.listing.now c.args.b)) (D.disk c.args.device.now) e) (sym (c.read_tag.ensures.disk honest))
     (page_only c.free_sector.result (free_at c.args.listing.now c.args.b) (D.disk c.args.device.now) (D.disk mid)
     c.free_sector.ensures.place (c.write_tag.ensures.only keeps))
@@ -71,7 +71,7 @@ pub returns-clause-only : goal.returns-clause-only
 returns-clause-only g c = λ keeps.
     let D = g.D.SectorDevice in
     let mid = c.write_tag.new.device in
-    let honest : IsTrue (D.keeps_model mid) = subst IsTrue (sym c.write_tag.ensures.passes.model) keeps.model in
+    let honest : IsTrue (D.keeps_model mid) = subst IsTrue (sym c.write_tag.ensures.passes.model) keeps in
     subst (λ (e : Disk). WritesOnly (InPage (free_at c.args.listing.now c.args.b)) (D.disk c.args.device.now) e) (sym (c.read_tag.ensures.disk honest))
     (page_only c.free_sector.result (free_at c.args.listing.now c.args.b) (D.disk c.args.device.now) (D.disk mid)
     c.free_sector.ensures.place (c.write_tag.ensures.only keeps))
@@ -88,7 +88,7 @@ returns-in_err-old-clause-stops g c = λ keeps.
     let old = c.args.device.now in
     let mid = c.write_tag.new.device in
     let k = c.free_sector.result in
-    let honest : IsTrue (D.keeps_model mid) = subst IsTrue (sym c.write_tag.ensures.passes.model) keeps.model in
+    let honest : IsTrue (D.keeps_model mid) = subst IsTrue (sym c.write_tag.ensures.passes.model) keeps in
     leaves_then D.time D.left_since old mid c.read_tag.new.device
     (IsAsSynced (InPage k) (D.disk old)) (MayLeave (D.disk mid)) (IsAsSynced (InPage (free_at c.args.listing.now c.args.b)) (D.disk old))
     c.write_tag.ensures.passes.time c.read_tag.ensures.passes.time (c.write_tag.ensures.stops keeps) (c.read_tag.ensures.stops honest)
@@ -102,7 +102,7 @@ returns-clause-stops g c = λ keeps.
     let old = c.args.device.now in
     let mid = c.write_tag.new.device in
     let k = c.free_sector.result in
-    let honest : IsTrue (D.keeps_model mid) = subst IsTrue (sym c.write_tag.ensures.passes.model) keeps.model in
+    let honest : IsTrue (D.keeps_model mid) = subst IsTrue (sym c.write_tag.ensures.passes.model) keeps in
     leaves_then D.time D.left_since old mid c.read_tag.new.device
     (IsAsSynced (InPage k) (D.disk old)) (MayLeave (D.disk mid)) (IsAsSynced (InPage (free_at c.args.listing.now c.args.b)) (D.disk old))
     c.write_tag.ensures.passes.time c.read_tag.ensures.passes.time (c.write_tag.ensures.stops keeps) (c.read_tag.ensures.stops honest)

@@ -1,10 +1,10 @@
-use Rattle.std.proofs.Common.{◌≡◌, ◌∙◌, ℕ, ◌<◌, cond, refl, ap, arith}
+use Rattle.std.proofs.Common.{IsTrue, ◌≡◌, ◌∙◌, ℕ, ◌<◌, cond, refl, ap, arith}
 use Rattle.sector_disk.proofs.Moments.{leaves_then}
 use Rattle.journal.specs.Layout.{listed}
 use Rattle.shadow.proofs.Calls.{keeps_on, passes_then, passes_err}
 use Rattle.shadow.specs.Images.{current_tag, free_of}
 use Rattle.shadow.specs.Layout.{free_at}
-use Rattle.shadow.specs.Pages.{InPage, KeepsPages}
+use Rattle.sector_disk.specs.Pages.{InPage}
 use Rattle.shadow.specs.Steps.{IsAsSynced, InFree, merged_tag}
 use Rattle.shadow.specs.Tags.{tag_of, xor_bytes, sum_below}
 use Rattle.shadow.proofs.Exchanged.{mixed, mixed_more, all_new, tag_same, free_same, tags_more, only_more, writes_more, reads_more}
@@ -26,7 +26,7 @@ loop-b-preserved g c =
     let b = c.loop-b.b in
     let below : b < n = c.loop-b-test.true in
     let within : (k : ℕ) → InPage (free_at listing b) k → InFree n listing k = λ k same. (b, below, same) in
-    let honest : KeepsPages D old → KeepsPages D mid = λ keeps. keeps_on D old mid keeps inv.passes in
+    let honest : IsTrue (D.keeps_model old) → IsTrue (D.keeps_model mid) = λ keeps. keeps_on D old mid keeps inv.passes in
     let first = (D.disk old).content in
     let now = (D.disk mid).content in
     record {

@@ -7,7 +7,7 @@ use Rattle.sector_disk.specs.Disk.{Disk, Image, MayLeave}
 use Rattle.sector_disk.proofs.Moments.{leaves_then, sector_same, sector_other}
 use Rattle.shadow.proofs.Calls.{keeps_on, passes_then, passes_ok, passes_err}
 use Rattle.shadow.specs.Layout.{tag_in}
-use Rattle.shadow.specs.Pages.{InPage}
+use Rattle.sector_disk.specs.Pages.{InPage}
 use Rattle.shadow.specs.Steps.{IsAsSynced, WritesOnly}
 use Rattle.shadow.proofs.Pages.{nothing_written, wider, wider_left}
 use Rattle.shadow.proofs.exchanges.write_tag.Goals as goal
@@ -29,7 +29,7 @@ returns-clause-tag g c = λ keeps.
     let honest = keeps_on D old mid keeps c.made_tag.ensures.passes in
     ap (λ (d : Disk). tag_in (d.content (k + 2))) (c.in_ok-write_sector.ensures.ok honest)
     ∙ ap tag_in (sector_same (D.disk mid).content (k + 2) c.tag_sector.result)
-    ∙ ap tag_in c.tag_sector.ensures ∙ ap (λ m. tag_in (m ++ replicate 480 0)) (c.in_ok-made.ensures.tag keeps.model)
+    ∙ ap tag_in c.tag_sector.ensures ∙ ap (λ m. tag_in (m ++ replicate 480 0)) (c.in_ok-made.ensures.tag keeps)
     ∙ front_of (tag_of c.args.b (pair_at (D.disk old).content k)) (replicate 480 0) (length-sha256 _)
 
 pub returns-clause-others : goal.returns-clause-others
@@ -41,7 +41,7 @@ returns-clause-others g c = λ keeps j other.
     let honest = keeps_on D old mid keeps c.made_tag.ensures.passes in
     ap (λ (d : Disk). d.content j) (c.in_ok-write_sector.ensures.ok honest)
     ∙ sector_other (D.disk mid).content (k + 2) j c.tag_sector.result other
-    ∙ ap (λ (d : Disk). d.content j) (c.made_tag.ensures.disk keeps.model)
+    ∙ ap (λ (d : Disk). d.content j) (c.made_tag.ensures.disk keeps)
 
 -- read, and then written
 read_then : (k : ℕ) (d e f : Disk) → InPage k (k + 2) → e ≡ d → WritesOnly (InPage (k + 2)) e f → WritesOnly (InPage k) d f
@@ -55,17 +55,17 @@ left_of_read k d e c page same is =
 pub returns-in_err-made-clause-only : goal.returns-in_err-made-clause-only
 returns-in_err-made-clause-only g c = λ keeps.
     let D = g.D.SectorDevice in
-    subst (λ (x : Disk). WritesOnly (InPage c.args.k) (D.disk c.args.device.now) x) (sym (c.made_tag.ensures.disk keeps.model)) (nothing_written (InPage c.args.k) (D.disk c.args.device.now))
+    subst (λ (x : Disk). WritesOnly (InPage c.args.k) (D.disk c.args.device.now) x) (sym (c.made_tag.ensures.disk keeps)) (nothing_written (InPage c.args.k) (D.disk c.args.device.now))
 
 pub returns-in_err-made-clause-stops : goal.returns-in_err-made-clause-stops
-returns-in_err-made-clause-stops g c = λ keeps x since j out clear. c.made_tag.ensures.stops keeps.model x since j clear
+returns-in_err-made-clause-stops g c = λ keeps x since j out clear. c.made_tag.ensures.stops keeps x since j clear
 
 pub returns-in_err-write_sector-clause-only : goal.returns-in_err-write_sector-clause-only
 returns-in_err-write_sector-clause-only g c = λ keeps.
     let D = g.D.SectorDevice in
     let old = c.args.device.now in
     let mid = c.made_tag.new.device in
-    let same = c.made_tag.ensures.disk keeps.model in
+    let same = c.made_tag.ensures.disk keeps in
     let honest = keeps_on D old mid keeps c.made_tag.ensures.passes in
     read_then c.args.k (D.disk old) (D.disk mid) (D.disk c.write_sector.new.device) c.requires.page same (c.write_sector.ensures.only honest)
 
@@ -74,7 +74,7 @@ returns-clause-only g c = λ keeps.
     let D = g.D.SectorDevice in
     let old = c.args.device.now in
     let mid = c.made_tag.new.device in
-    let same = c.made_tag.ensures.disk keeps.model in
+    let same = c.made_tag.ensures.disk keeps in
     let honest = keeps_on D old mid keeps c.made_tag.ensures.passes in
     read_then c.args.k (D.disk old) (D.disk mid) (D.disk c.write_sector.new.device) c.requires.page same (c.write_sector.ensures.only honest)
 
@@ -84,11 +84,11 @@ returns-in_err-write_sector-clause-stops g c = λ keeps.
     let old = c.args.device.now in
     let mid = c.made_tag.new.device in
     let k = c.args.k in
-    let same = c.made_tag.ensures.disk keeps.model in
+    let same = c.made_tag.ensures.disk keeps in
     let honest = keeps_on D old mid keeps c.made_tag.ensures.passes in
     leaves_then D.time D.left_since old mid c.write_sector.new.device
     (MayLeave (D.disk old)) (IsAsSynced (InPage (k + 2)) (D.disk mid)) (IsAsSynced (InPage k) (D.disk old))
-    c.made_tag.ensures.passes.time c.write_sector.ensures.passes.time (c.made_tag.ensures.stops keeps.model) (c.write_sector.ensures.stops honest)
+    c.made_tag.ensures.passes.time c.write_sector.ensures.passes.time (c.made_tag.ensures.stops keeps) (c.write_sector.ensures.stops honest)
     (λ x may j out clear. may j clear) (λ x is. left_of_read k (D.disk old) (D.disk mid) x c.requires.page same is)
 
 pub returns-clause-stops : goal.returns-clause-stops
@@ -97,11 +97,11 @@ returns-clause-stops g c = λ keeps.
     let old = c.args.device.now in
     let mid = c.made_tag.new.device in
     let k = c.args.k in
-    let same = c.made_tag.ensures.disk keeps.model in
+    let same = c.made_tag.ensures.disk keeps in
     let honest = keeps_on D old mid keeps c.made_tag.ensures.passes in
     leaves_then D.time D.left_since old mid c.write_sector.new.device
     (MayLeave (D.disk old)) (IsAsSynced (InPage (k + 2)) (D.disk mid)) (IsAsSynced (InPage k) (D.disk old))
-    c.made_tag.ensures.passes.time c.write_sector.ensures.passes.time (c.made_tag.ensures.stops keeps.model) (c.write_sector.ensures.stops honest)
+    c.made_tag.ensures.passes.time c.write_sector.ensures.passes.time (c.made_tag.ensures.stops keeps) (c.write_sector.ensures.stops honest)
     (λ x may j out clear. may j clear) (λ x is. left_of_read k (D.disk old) (D.disk mid) x c.requires.page same is)
 
 pub returns-in_err-write_sector-clause-passes : goal.returns-in_err-write_sector-clause-passes

@@ -4,7 +4,6 @@ use Rattle.recovery.specs.Formatted.{blank_blocks}
 use Rattle.shadow.specs.Formatted.{FormatLeaves}
 use Rattle.shadow.specs.Store.{StandsFor}
 use Rattle.shadow.proofs.Calls.{keeps_on, kept_before}
-use Rattle.shadow.proofs.Openings.{keeps_pages}
 use Rattle.shadow.proofs.Formats.{half_now, making, blanks_are, made_means, made_clean, blank_meaning}
 use Rattle.shadow.proofs.formatting.format.Goals as goal
 
@@ -44,12 +43,3 @@ returns-in-Err-clause-stops g c = λ keeps n size x since.
     let D = g.D.SectorDevice in
     let one : c.args.blocks ≡ n = omega (arith, size, c.if-not-fits.ensures.size, c.sectors.ensures) in
     subst (λ m. FormatLeaves m (D.disk c.args.device) x) one (c.make.ensures.stops keeps x since)
-
-pub returns-then-not-fits-clause-pages : goal.returns-then-not-fits-clause-pages
-returns-then-not-fits-clause-pages g c = keeps_pages g.D.SectorDevice c.args.device (λ k. g.met.D.SectorDevice.by_sectors c.args.device k)
-
-pub returns-in-Ok-clause-pages : goal.returns-in-Ok-clause-pages
-returns-in-Ok-clause-pages g c = keeps_pages g.D.SectorDevice c.args.device (λ k. g.met.D.SectorDevice.by_sectors c.args.device k)
-
-pub returns-in-Err-clause-pages : goal.returns-in-Err-clause-pages
-returns-in-Err-clause-pages g c = keeps_pages g.D.SectorDevice c.args.device (λ k. g.met.D.SectorDevice.by_sectors c.args.device k)

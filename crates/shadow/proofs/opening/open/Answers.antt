@@ -1,12 +1,13 @@
-use Rattle.std.proofs.Common.{⊎_elim, refl, sym, subst, IsTrue}
-use Rattle.sector_disk.specs.Disk.{Disk}
+use Rattle.std.proofs.Common.{⊎_elim, refl, sym, ◌∙◌, ap, subst, IsTrue}
+use Rattle.sector_disk.specs.Disk.{Disk, settled}
+use Rattle.journal.specs.Layout.{gate_open}
 use Rattle.journal.specs.Maps.{fresh}
 use Rattle.shadow.specs.Clean.{IsClean}
-use Rattle.shadow.specs.Images.{meaning}
+use Rattle.shadow.specs.Images.{meaning, record_of}
+use Rattle.shadow.specs.Layout.{gate_at}
 use Rattle.shadow.specs.Opened.{HasMeaning}
-use Rattle.shadow.specs.Pages.{KeepsPages, IsPaged}
-use Rattle.shadow.specs.Store.{StandsFor}
-use Rattle.shadow.proofs.Openings.{never_refused, keeps_pages}
+use Rattle.shadow.specs.Store.{StandsFor, blocks_of}
+use Rattle.shadow.proofs.Openings.{never_refused}
 use Rattle.shadow.proofs.opening.open.Goals as goal
 
 pub returns-then-not-is_known_size-clause-stops : goal.returns-then-not-is_known_size-clause-stops
@@ -15,7 +16,7 @@ returns-then-not-is_known_size-clause-stops g c = λ keeps x since. g.met.D.Sect
 pub adopt-requires-clause-clean : goal.adopt-requires-clause-clean
 adopt-requires-clause-clean g c = λ keeps.
     let found = c.in-Ok.ensures in
-    let model : IsTrue (g.D.SectorDevice.keeps_model c.args.device) = subst IsTrue c.survey.ensures.passes.model keeps.model in
+    let model : IsTrue (g.D.SectorDevice.keeps_model c.args.device) = subst IsTrue c.survey.ensures.passes.model keeps in
     subst (λ (d : Disk). IsClean c.in-Ok.found.number c.in-Ok.found.is_open c.in-Ok.found.listing d) (sym (found.ok model)) (record {
       label = (found.meaning model).label;
       gate = found.gate model;
@@ -28,8 +29,8 @@ pub returns-in-Ok-clause-ok : goal.returns-in-Ok-clause-ok
 returns-in-Ok-clause-ok g c = λ keeps.
     let D = g.D.SectorDevice in
     let new = c.survey.new.device in
-    let same = c.in-Ok.ensures.ok keeps.model in
-    let after : KeepsPages D new = record { model = subst IsTrue (sym c.survey.ensures.passes.model) keeps.model; paged = subst IsPaged (sym same) keeps.paged } in
+    let same = c.in-Ok.ensures.ok keeps in
+    let after : IsTrue (D.keeps_model new) = subst IsTrue (sym c.survey.ensures.passes.model) keeps in
     subst (λ m. StandsFor c.adopt.result (fresh (meaning m (D.disk c.args.device).content))) (sym c.adopt.ensures.blocks)
     (subst (λ (d : Disk). StandsFor c.adopt.result (fresh (meaning c.in-Ok.found.number d.content))) same (c.adopt.ensures.state after))
 
@@ -40,15 +41,20 @@ pub returns-in-Ok-clause-meaning : goal.returns-in-Ok-clause-meaning
 returns-in-Ok-clause-meaning g c = λ keeps.
     subst (λ n. HasMeaning n (g.D.SectorDevice.disk c.args.device).content) (sym c.adopt.ensures.blocks) (c.in-Ok.ensures.meaning keeps)
 
+pub returns-in-Ok-clause-clean : goal.returns-in-Ok-clause-clean
+returns-in-Ok-clause-clean g c = λ keeps.
+    let D = g.D.SectorDevice in
+    let means = returns-in-Ok-clause-meaning g c keeps in
+    let n = blocks_of c.adopt.result in
+    subst (λ (d : Disk). IsClean n (gate_open (d.content gate_at)) (record_of d.content) d)
+    (sym (ap D.disk c.adopt.ensures.device ∙ c.in-Ok.ensures.ok keeps)) (record {
+      label = means.label;
+      gate = refl;
+      named = refl;
+      whole = means.whole;
+      synced = λ k. refl;
+    })
+
 pub returns-in-Err-clause-good : goal.returns-in-Err-clause-good
 returns-in-Err-clause-good g c = λ keeps n size means.
     ⊎_elim (λ device. device) (λ refused. absurd (never_refused n _ _ _ size means refused)) (c.in-Err.ensures.exact keeps)
-
-pub returns-then-not-is_known_size-clause-pages : goal.returns-then-not-is_known_size-clause-pages
-returns-then-not-is_known_size-clause-pages g c = keeps_pages g.D.SectorDevice c.args.device (λ k. g.met.D.SectorDevice.by_sectors c.args.device k)
-
-pub returns-in-Ok-clause-pages : goal.returns-in-Ok-clause-pages
-returns-in-Ok-clause-pages g c = keeps_pages g.D.SectorDevice c.args.device (λ k. g.met.D.SectorDevice.by_sectors c.args.device k)
-
-pub returns-in-Err-clause-pages : goal.returns-in-Err-clause-pages
-returns-in-Err-clause-pages g c = keeps_pages g.D.SectorDevice c.args.device (λ k. g.met.D.SectorDevice.by_sectors c.args.device k)

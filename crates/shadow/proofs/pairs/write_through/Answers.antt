@@ -2,7 +2,7 @@ use Rattle.std.proofs.Common.{refl}
 use Rattle.sector_disk.proofs.Moments.{leaves_then}
 use Rattle.shadow.proofs.Calls.{keeps_on, passes_then, passes_by, unit_synced}
 use Rattle.journal.proofs.Units.{synced_or_not, sync_left}
-use Rattle.shadow.specs.Pages.{InPage}
+use Rattle.sector_disk.specs.Pages.{InPage}
 use Rattle.shadow.specs.Steps.{IsAsSynced}
 use Rattle.shadow.proofs.Pages.{now_left}
 use Rattle.shadow.proofs.pairs.write_through.Goals as goal
@@ -20,8 +20,8 @@ returns-clause-stops g c = λ keeps.
     c.write_sector.ensures.passes.time c.sync.ensures.time (c.write_sector.ensures.stops keeps) c.sync.ensures.stops
     (λ x is. is)
     (λ x either. now_left (InPage c.args.k) (D.disk old) (D.disk mid) x only
-    (sync_left (D.disk mid) (D.disk new) x (g.met.D.SectorDevice.present mid honest.model)
-    (synced_or_not c.sync.result (D.disk mid) (D.disk new) (c.sync.ensures.ok honest.model) (c.sync.ensures.err honest.model)) either))
+    (sync_left (D.disk mid) (D.disk new) x (g.met.D.SectorDevice.present mid honest)
+    (synced_or_not c.sync.result (D.disk mid) (D.disk new) (c.sync.ensures.ok honest) (c.sync.ensures.err honest)) either))
 
 pub returns-clause-passes : goal.returns-clause-passes
 returns-clause-passes g c =
@@ -30,4 +30,4 @@ returns-clause-passes g c =
     let new = c.sync.new.self in
     let s = c.sync.ensures in
     passes_then D c.args.device.now mid new g.met.D.SectorDevice.widens c.in_ok-write_sector.ensures.passes
-    (passes_by D mid new s.sectors s.model (λ keeps. unit_synced c.sync.result (D.disk mid) (D.disk new) (s.ok keeps) (s.err keeps)) s.time s.failures) refl
+    (passes_by D mid new s.sectors s.model s.units (λ keeps. unit_synced c.sync.result (D.disk mid) (D.disk new) (s.ok keeps) (s.err keeps)) s.time s.failures) refl

@@ -6,7 +6,7 @@ use Rattle.sector_disk.proofs.Moments.{leaves_then}
 use Rattle.shadow.proofs.Calls.{keeps_on, passes_then}
 use Rattle.shadow.specs.Images.{current_of, current_tag}
 use Rattle.shadow.specs.Layout.{gate_at, record_at}
-use Rattle.shadow.specs.Pages.{InPage}
+use Rattle.sector_disk.specs.Pages.{InPage}
 use Rattle.shadow.specs.Steps.{IsAsSynced, InFree, HasBlocks, merged}
 use Rattle.shadow.specs.Tags.{tag_of}
 use Rattle.shadow.proofs.Saves.{saved, turning_means}
@@ -36,7 +36,7 @@ returns-in_err-next-clause-stops g c = λ keeps x since.
     let D = g.D.SectorDevice in
     let n = c.args.blocks in
     let listing = c.args.listing.now in
-    inl (before_gate n listing c.args.is_open (D.disk c.args.device.now) (g.met.D.SectorDevice.present c.args.device.now keeps.model) (c.requires.sound keeps)
+    inl (before_gate n listing c.args.is_open (D.disk c.args.device.now) (g.met.D.SectorDevice.present c.args.device.now keeps) (c.requires.sound keeps)
     (InFree n listing) (λ k free. inr free) x (c.prepare.ensures.stops keeps x since))
 
 pub returns-clause-stops : goal.returns-clause-stops
@@ -49,7 +49,7 @@ returns-clause-stops g c = λ keeps.
     let other = record_at (not c.args.is_open) in
     let sound = c.requires.sound keeps in
     let only = c.prepare.ensures.only keeps in
-    let here = g.met.D.SectorDevice.present old keeps.model in
+    let here = g.met.D.SectorDevice.present old keeps in
     let honest = keeps_on D old mid keeps c.prepare.ensures.passes in
     let ready = c.in_ok-next.ensures in
     leaves_then D.time D.left_since old mid c.turn.new.device

@@ -13,18 +13,8 @@ use Rattle.shadow.specs.Layout.{label_of}
 use Rattle.shadow.specs.Upgraded.{known_blocks, older_refusal, upgrade_refusal, found_of, found_blocks, reads_to_list}
 use Rattle.shadow.proofs.Calls.{keeps_by}
 use Rattle.shadow.proofs.Formats.{half_now, making}
-use Rattle.shadow.proofs.Openings.{keeps_pages}
 use Rattle.shadow.proofs.Upgrades.{are_found, made_stays, taken_blocks, taken_bytes, settled_left, upgrade_refused, anyway}
 use Rattle.shadow.proofs.upgrading.upgrade.Goals as goal
-
-pub returns-in_err-blocks-clause-pages : goal.returns-in_err-blocks-clause-pages
-returns-in_err-blocks-clause-pages g c = keeps_pages g.B.SectorDevice c.args.new.now (λ k. g.met.B.SectorDevice.by_sectors c.args.new.now k)
-
-pub returns-in-Ok-clause-pages : goal.returns-in-Ok-clause-pages
-returns-in-Ok-clause-pages g c = keeps_pages g.B.SectorDevice c.args.new.now (λ k. g.met.B.SectorDevice.by_sectors c.args.new.now k)
-
-pub returns-in-Err-clause-pages : goal.returns-in-Err-clause-pages
-returns-in-Err-clause-pages g c = keeps_pages g.B.SectorDevice c.args.new.now (λ k. g.met.B.SectorDevice.by_sectors c.args.new.now k)
 
 pub returns-in_err-blocks-clause-new_stops : goal.returns-in_err-blocks-clause-new_stops
 returns-in_err-blocks-clause-new_stops g c = λ source keeps n size x since.
@@ -67,7 +57,7 @@ returns-in-Ok-clause-after g c = λ source keeps.
     subst (λ k. Means (older.meaning k d.content) x) one
     (subst (λ l. Means l x) (taken_blocks m listing d (A.disk mid) (c.in-Ok.ensures.ok source) (c.in-Ok.ensures.listing source))
     (made_stays m (found_blocks m listing from) c.in_ok-blocks.blocks.many c.in_ok-blocks.blocks.few (found_of m listing from) (are_found m listing from)
-    (B.disk now) (g.met.B.SectorDevice.present now still.model) made x may)))
+    (B.disk now) (g.met.B.SectorDevice.present now still) made x may)))
     (c.carry.ensures.ok honest keeps)
 
 pub returns-in-Ok-clause-opens : goal.returns-in-Ok-clause-opens
@@ -76,7 +66,7 @@ returns-in-Ok-clause-opens g c = λ source keeps.
     let now = c.carry.new.target in
     let still = keeps_by B c.args.new.now now keeps c.carry.ensures.passes in
     on_ok_weaker c.carry.result
-    (λ left n size. left n size (B.disk now).content (g.met.B.SectorDevice.present now still.model))
+    (λ left n size. left n size (B.disk now).content (g.met.B.SectorDevice.present now still))
     (returns-in-Ok-clause-after g c source keeps)
 
 pub returns-in-Ok-clause-filled : goal.returns-in-Ok-clause-filled

@@ -2,7 +2,6 @@ use Rattle.std.proofs.Common.{◌≡◌, ◌∙◌, sym, ap, subst, arith, add-o
 use Rattle.sector_disk.specs.Disk.{Disk}
 use Rattle.journal.specs.Calls.{ReadsAtMost}
 use Rattle.shadow.specs.Formatted.{HasFirst, PastLabel}
-use Rattle.shadow.specs.Pages.{KeepsPages}
 use Rattle.shadow.specs.Tags.{tag_of, xor_bytes, sum_below}
 use Rattle.shadow_care.specs.Carried.{Notes, carried_of, carried_standing, reads_to_carry}
 use Rattle.shadow.proofs.Calls.{keeps_by, proceeds_then}
@@ -28,7 +27,7 @@ loop-b-preserved g c =
     let new = c.carry_block.new.target in
     let found = carried_of n c.args.listing.now (A.disk from).content in
     let honest : IsTrue (A.keeps_model from) → IsTrue (A.keeps_model read) = λ keeps. subst IsTrue (sym inv.source.passes.model) keeps in
-    let kept : KeepsPages B old → KeepsPages B mid = λ keeps. keeps_by B old mid keeps inv.passes in
+    let kept : IsTrue (B.keeps_model old) → IsTrue (B.keeps_model mid) = λ keeps. keeps_by B old mid keeps inv.passes in
     let same : IsTrue (A.keeps_model from) → carried_of n c.args.listing.now (A.disk read).content b ≡ found b =
     λ keeps t. carried_of n c.args.listing.now (inv.source.disk keeps t).content b in
     record {

@@ -3,7 +3,6 @@ use Rattle.journal.specs.Calls.{BeginsAtMost, ReadsAtMost}
 use Rattle.recovery.specs.Steps.{OnlyRead, WentWell}
 use Rattle.shadow.specs.Calls.{Proceeds}
 use Rattle.shadow.specs.Formatted.{HasFirst, KeepsRest, PastLabel, Spoils}
-use Rattle.shadow.specs.Pages.{KeepsPages}
 use Rattle.shadow.specs.Tags.{tag_of, sum_below}
 use Rattle.shadow_care.specs.Carried.{carried_of, carried_standing, reads_to_carry, reads_below, Notes}
 use Rattle.shadow_care.proofs.carrying.carry_blocks.Given as goal
@@ -17,8 +16,8 @@ invariant-loop-b g l =
     let now = l.target in
     let n = l.fn.blocks.number in
     record {
-      places : IsTrue (A.keeps_model from) → KeepsPages B old → (a : ℕ) → a < l.b → HasFirst a (carried_of n l.listing (A.disk from).content a) (B.disk now).content;
-      rest : KeepsPages B old → KeepsRest (B.disk old).content (B.disk now).content;
+      places : IsTrue (A.keeps_model from) → IsTrue (B.keeps_model old) → (a : ℕ) → a < l.b → HasFirst a (carried_of n l.listing (A.disk from).content a) (B.disk now).content;
+      rest : IsTrue (B.keeps_model old) → KeepsRest (B.disk old).content (B.disk now).content;
       sum : IsTrue (A.keeps_model from) → l.sum ≡ sum_below (λ a. tag_of a (carried_of n l.listing (A.disk from).content a)) l.b;
       spoils : Spoils B PastLabel old now;
       begins : BeginsAtMost B old now (4 * l.b) 0;

@@ -12,7 +12,6 @@ use Rattle.shadow.specs.Images.{IsWholeUnder, Means, current_of, meaning, record
 use Rattle.shadow.specs.Layout.{label_of}
 use Rattle.shadow.proofs.Calls.{keeps_by}
 use Rattle.shadow.proofs.Formats.{half_now, making}
-use Rattle.shadow.proofs.Openings.{keeps_pages}
 use Rattle.shadow.proofs.Upgrades.{made_stays, only_read_then}
 use Rattle.shadow_care.specs.Copied.{copy_refusal, copy_size_refusal}
 use Rattle.shadow_care.proofs.Copies.{are_grown, copied, copy_reads, copy_refused, find_reads, same_count}
@@ -27,15 +26,6 @@ carry_whole-requires-clause-whole g c = λ keeps.
     subst (λ (d : Disk). IsWholeUnder c.in_ok-sizes.sizes.old.number c.in-Ok.found.listing d.content) (sym (found.only_read.disk was))
     (subst (λ l. IsWholeUnder c.in_ok-sizes.sizes.old.number l (A.disk c.args.old.now).content) (found.named was)
     (subst (λ k. IsWholeUnder k (record_of (A.disk c.args.old.now).content) (A.disk c.args.old.now).content) one (found.meaning was).whole))
-
-pub returns-in_err-sizes-clause-pages : goal.returns-in_err-sizes-clause-pages
-returns-in_err-sizes-clause-pages g c = keeps_pages g.B.SectorDevice c.args.new.now (λ k. g.met.B.SectorDevice.by_sectors c.args.new.now k)
-
-pub returns-in-Ok-clause-pages : goal.returns-in-Ok-clause-pages
-returns-in-Ok-clause-pages g c = keeps_pages g.B.SectorDevice c.args.new.now (λ k. g.met.B.SectorDevice.by_sectors c.args.new.now k)
-
-pub returns-in-Err-clause-pages : goal.returns-in-Err-clause-pages
-returns-in-Err-clause-pages g c = keeps_pages g.B.SectorDevice c.args.new.now (λ k. g.met.B.SectorDevice.by_sectors c.args.new.now k)
 
 pub returns-in_err-sizes-clause-new_stops : goal.returns-in_err-sizes-clause-new_stops
 returns-in_err-sizes-clause-new_stops g c = λ source keeps n m from to x since.
@@ -82,7 +72,7 @@ returns-in-Ok-clause-after g c = λ source keeps.
     (subst (λ l. Means (grown b l) x) (copied a n c.in-Ok.found.listing d (A.disk mid) one (c.find.ensures.only_read.disk source) (c.in-Ok.ensures.named source))
     (made_stays b (grown b (blocks_below bytes a)) c.in_ok-sizes.sizes.new.many c.in_ok-sizes.sizes.new.few (block_in (grown b (blocks_below bytes a)))
     (are_grown a b c.in_ok-sizes.ensures.grows bytes)
-    (B.disk now) (g.met.B.SectorDevice.present now still.model) made x may)))
+    (B.disk now) (g.met.B.SectorDevice.present now still) made x may)))
     (c.carry_whole.ensures.ok honest keeps)
 
 pub returns-in-Ok-clause-opens : goal.returns-in-Ok-clause-opens
@@ -91,7 +81,7 @@ returns-in-Ok-clause-opens g c = λ source keeps.
     let now = c.carry_whole.new.target in
     let still = keeps_by B c.args.new.now now keeps c.carry_whole.ensures.passes in
     on_ok_weaker c.carry_whole.result
-    (λ left n m from to. left n m from to (B.disk now).content (g.met.B.SectorDevice.present now still.model))
+    (λ left n m from to. left n m from to (B.disk now).content (g.met.B.SectorDevice.present now still))
     (returns-in-Ok-clause-after g c source keeps)
 
 pub returns-in-Ok-clause-filled : goal.returns-in-Ok-clause-filled

@@ -6,7 +6,6 @@ use Rattle.shadow.specs.Images.{Means, record_of}
 use Rattle.shadow.specs.Layout.{label_of}
 use Rattle.shadow.proofs.Calls.{keeps_by}
 use Rattle.shadow.proofs.Formats.{half_now, making}
-use Rattle.shadow.proofs.Openings.{keeps_pages}
 use Rattle.shadow.proofs.Upgrades.{made_stays, only_read_then}
 use Rattle.shadow_care.specs.Carried.{carried_of, carried_blocks}
 use Rattle.shadow_care.specs.Standing.{reads_to_take, salvaged_blocks}
@@ -14,15 +13,6 @@ use Rattle.shadow_care.proofs.Carryings.{are_carried}
 use Rattle.shadow_care.proofs.Copies.{lost_told, others_told, salvage_filled, salvage_reads, salvaged, salvaged_meaning}
 use Rattle.shadow_care.proofs.Findings.{just_read}
 use Rattle.shadow_care.proofs.salvaging.salvage.Goals as goal
-
-pub returns-in_err-blocks-clause-pages : goal.returns-in_err-blocks-clause-pages
-returns-in_err-blocks-clause-pages g c = keeps_pages g.B.SectorDevice c.args.new.now (λ k. g.met.B.SectorDevice.by_sectors c.args.new.now k)
-
-pub returns-in-Ok-clause-pages : goal.returns-in-Ok-clause-pages
-returns-in-Ok-clause-pages g c = keeps_pages g.B.SectorDevice c.args.new.now (λ k. g.met.B.SectorDevice.by_sectors c.args.new.now k)
-
-pub returns-in-Err-clause-pages : goal.returns-in-Err-clause-pages
-returns-in-Err-clause-pages g c = keeps_pages g.B.SectorDevice c.args.new.now (λ k. g.met.B.SectorDevice.by_sectors c.args.new.now k)
 
 pub returns-in-Ok-clause-others : goal.returns-in-Ok-clause-others
 returns-in-Ok-clause-others g c = λ source.
@@ -102,7 +92,7 @@ returns-in-Ok-clause-after g c = λ source keeps.
     let one : a ≡ n = omega (arith, to, c.in_ok-blocks.ensures.new, c.sectors-2.ensures) in
     subst (λ l. Means l x) (salvaged a n listing d (A.disk mid) one (c.read_record.ensures.disk source) (c.in-Ok.ensures.named source))
     (made_stays a (carried_blocks a a listing from) c.in_ok-blocks.blocks.many c.in_ok-blocks.blocks.few (carried_of a listing from) (are_carried a a listing from)
-    (B.disk now) (g.met.B.SectorDevice.present now still.model) made x may))
+    (B.disk now) (g.met.B.SectorDevice.present now still) made x may))
     (c.carry.ensures.ok honest keeps)
 
 pub returns-in-Ok-clause-undamaged : goal.returns-in-Ok-clause-undamaged

@@ -3,6 +3,8 @@ use Rattle.terminal.proofs.Pending.{spilled_one}
 use Rattle.sector_disk.proofs.Moments.{leaves_then}
 use Rattle.journal.specs.Maps.{latest, spilled}
 use Rattle.stores.specs.Images.{Means}
+use Rattle.stores.specs.Store.{by_older, device_of, pending_count}
+use Rattle.stores.proofs.Stores.{most_begins, most_reads}
 use Rattle.terminal.proofs.images.put_block.Goals as goal
 
 pub returns-in-Ok-clause-ok : goal.returns-in-Ok-clause-ok
@@ -22,12 +24,18 @@ returns-in-Ok-clause-stops g c = λ m stands live.
 pub returns-in-Ok-clause-begins : goal.returns-in-Ok-clause-begins
 returns-in-Ok-clause-begins g c =
     let more = spilled_one c.args.store.now c.spill.new.self c.args.block c.in-Ok.ensures.continues c.in-Ok.ensures.pending in
+    let most = most_begins g.D.SectorDevice (device_of c.spill.new.self) (device_of c.commit.new.self) (pending_count c.spill.new.self) (by_older c.spill.new.self) c.commit.ensures.begins in
     record {
-      few_writes = omega (arith, more, c.in-Ok.ensures.begins.few_writes, c.commit.ensures.begins.few_writes);
-      few_syncs = omega (arith, c.in-Ok.ensures.begins.few_syncs, c.commit.ensures.begins.few_syncs);
+      few_writes = omega (arith, more, c.in-Ok.ensures.begins.few_writes, most.few_writes);
+      few_syncs = omega (arith, c.in-Ok.ensures.begins.few_syncs, most.few_syncs);
     }
 
 pub returns-in-Ok-clause-reads : goal.returns-in-Ok-clause-reads
 returns-in-Ok-clause-reads g c =
     let more = spilled_one c.args.store.now c.spill.new.self c.args.block c.in-Ok.ensures.continues c.in-Ok.ensures.pending in
-    omega (arith, more, c.in-Ok.ensures.reads, c.commit.ensures.reads)
+    omega (
+      arith,
+      more,
+      c.in-Ok.ensures.reads,
+      most_reads g.D.SectorDevice (device_of c.spill.new.self) (device_of c.commit.new.self) (pending_count c.spill.new.self) (by_older c.spill.new.self) c.commit.ensures.reads,
+    )

@@ -1,4 +1,6 @@
 use Rattle.std.proofs.Common.{Err, ap, arith}
+use Rattle.stores.specs.Store.{by_older, device_of, pending_count}
+use Rattle.stores.proofs.Stores.{most_begins, most_reads}
 use Rattle.terminal.specs.Transfer.{as_blocks, spilled_from}
 use Rattle.terminal.proofs.Saving.{fails_then, saves_then}
 use Rattle.terminal.proofs.importing.import_bytes.Goals as goal
@@ -8,6 +10,8 @@ returns-in-Ok-clause-imported g c =
     let sp = c.in_ok-spill_blocks.ensures.spilled in
     let mid = c.spill_blocks.new.store in
     let blocks = as_blocks c.args.bytes.now in
+    let most = most_begins g.D.SectorDevice (device_of mid) (device_of c.commit.new.self) (pending_count mid) (by_older mid) c.commit.ensures.begins in
+    let most_of = most_reads g.D.SectorDevice (device_of mid) (device_of c.commit.new.self) (pending_count mid) (by_older mid) c.commit.ensures.reads in
     record {
       saved = λ m stands. (
         c.in-Ok.ensures.ok (spilled_from m c.args.first blocks) (sp.stands m stands),
@@ -18,10 +22,10 @@ returns-in-Ok-clause-imported g c =
         },
       );
       begins = record {
-        few_writes = omega (arith, sp.few, sp.begins.few_writes, c.commit.ensures.begins.few_writes);
-        few_syncs = omega (arith, sp.begins.few_syncs, c.commit.ensures.begins.few_syncs);
+        few_writes = omega (arith, sp.few, sp.begins.few_writes, most.few_writes);
+        few_syncs = omega (arith, sp.begins.few_syncs, most.few_syncs);
       };
-      reads = omega (arith, sp.few, sp.reads, c.commit.ensures.reads);
+      reads = omega (arith, sp.few, sp.reads, most_of);
     }
 
 pub returns-in-Ok-clause-kept : goal.returns-in-Ok-clause-kept

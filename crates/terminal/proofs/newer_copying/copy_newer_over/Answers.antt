@@ -7,14 +7,14 @@ pub returns-in-Ok-clause-copies : goal.returns-in-Ok-clause-copies
 returns-in-Ok-clause-copies g c =
     let did = c.in-Ok.ensures in
     copied_newer g.A.SectorDevice g.B.SectorDevice c.args.old.now c.copy.new.old c.args.new.now c.copy.new.new did.sized did.exact
-    did.old_stops did.new_passes (λ keeps keeps'. did.new_stops keeps (did.pages keeps')) (λ keeps keeps'. did.after keeps (did.pages keeps'))
+    did.old_stops did.new_passes (λ keeps keeps'. did.new_stops keeps keeps') (λ keeps keeps'. did.after keeps keeps')
     did.new_begins did.new_reads did.old_reads
 
 pub returns-in-Ok-clause-stops : goal.returns-in-Ok-clause-stops
-returns-in-Ok-clause-stops g c = λ keeps keeps'. c.in-Ok.ensures.new_stops keeps (c.in-Ok.ensures.pages keeps')
+returns-in-Ok-clause-stops g c = λ keeps keeps'. c.in-Ok.ensures.new_stops keeps keeps'
 
 pub returns-in-Err-clause-stops : goal.returns-in-Err-clause-stops
-returns-in-Err-clause-stops g c = λ keeps keeps'. c.in-Err.ensures.new_stops keeps (c.in-Err.ensures.pages keeps')
+returns-in-Err-clause-stops g c = λ keeps keeps'. c.in-Err.ensures.new_stops keeps keeps'
 
 pub returns-in-Err-clause-exact : goal.returns-in-Err-clause-exact
 returns-in-Err-clause-exact g c = λ keeps. told_first c.from.result c.in-Err.fault _ c.from.ensures (c.in-Err.ensures.exact keeps)

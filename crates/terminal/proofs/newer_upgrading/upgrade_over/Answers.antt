@@ -2,6 +2,7 @@ use Rattle.std.proofs.Common.{◌≡◌}
 use Rattle.shadow.specs.Layout.{sectors_for}
 use Rattle.shadow.specs.Upgraded.{known_blocks}
 use Rattle.terminal.proofs.NewerSizes.{newer_size, older_sound}
+use Rattle.stores.proofs.Suited.{stays}
 use Rattle.terminal.proofs.newer_upgrading.upgrade_over.Goals as goal
 
 pub returns-in-Ok-clause-upgrades : goal.returns-in-Ok-clause-upgrades
@@ -11,24 +12,24 @@ returns-in-Ok-clause-upgrades g c =
     let new = g.B.SectorDevice.sector_count c.args.new.now in
     let to : new ≡ sectors_for (known_blocks old) = newer_size old new did.sized in
     record {
-      old = record { model = did.old_passes.model; time = did.old_passes.time; failures = did.old_passes.failures };
+      old = record { model = stays g.A.SectorDevice c.args.old.now _ did.old_passes.sectors did.old_passes.model did.old_passes.units; time = did.old_passes.time; failures = did.old_passes.failures };
       sound = λ keeps. older_sound old new (g.A.SectorDevice.disk c.args.old.now).content (did.exact keeps);
       same = did.old_disk;
       left = did.old_stops;
       unwritten = did.old_begins;
       reads = did.old_reads;
-      goes = record { model = did.new_passes.model; time = did.new_passes.time; failures = did.new_passes.failures };
-      stops = λ keeps keeps'. did.new_stops keeps (did.pages keeps') (known_blocks old) to;
-      new = λ keeps keeps'. did.after keeps (did.pages keeps') (known_blocks old) to;
+      goes = record { model = stays g.B.SectorDevice c.args.new.now _ did.new_passes.sectors did.new_passes.model did.new_passes.units; time = did.new_passes.time; failures = did.new_passes.failures };
+      stops = λ keeps keeps'. did.new_stops keeps keeps' (known_blocks old) to;
+      new = λ keeps keeps'. did.after keeps keeps' (known_blocks old) to;
       begins = did.new_begins (known_blocks old) to;
       looks = did.new_reads;
     }
 
 pub returns-in-Ok-clause-newer_stops : goal.returns-in-Ok-clause-newer_stops
-returns-in-Ok-clause-newer_stops g c = λ keeps keeps'. c.in-Ok.ensures.new_stops keeps (c.in-Ok.ensures.pages keeps')
+returns-in-Ok-clause-newer_stops g c = λ keeps keeps'. c.in-Ok.ensures.new_stops keeps keeps'
 
 pub returns-in-Ok-clause-newer_whole : goal.returns-in-Ok-clause-newer_whole
-returns-in-Ok-clause-newer_whole g c = λ keeps keeps'. c.in-Ok.ensures.after keeps (c.in-Ok.ensures.pages keeps')
+returns-in-Ok-clause-newer_whole g c = λ keeps keeps'. c.in-Ok.ensures.after keeps keeps'
 
 pub returns-in-Err-clause-newer_stops : goal.returns-in-Err-clause-newer_stops
-returns-in-Err-clause-newer_stops g c = λ keeps keeps'. c.in-Err.ensures.new_stops keeps (c.in-Err.ensures.pages keeps')
+returns-in-Err-clause-newer_stops g c = λ keeps keeps'. c.in-Err.ensures.new_stops keeps keeps'

@@ -9,7 +9,7 @@ pub returns-in-Ok-Some-eq10-clause-step : goal.returns-in-Ok-Some-eq10-clause-st
 returns-in-Ok-Some-eq10-clause-step g c =
     let e = c.in-Ok-Some-eq10 in
     let old = c.args.self.now in
-    let given = subst (λ b. Consumes (g.T.Terminal.input c.args.terminal.now) (g.T.Terminal.input c.key.new.self) (b ∷ [])) e.field-0-0-test (rw e.field-0-is at e.ensures.given) in
+    let given = subst (λ b. Consumes (g.T.Terminal.input c.args.terminal.now) (g.T.Terminal.input c.ask.new.self) (b ∷ [])) e.field-0-0-test (rw e.field-0-is at e.ensures.given) in
     let fewer = rw e.field-0-is at e.ensures.fewer in
     stepped g.T.Terminal 10 [] old.space old (heard_byte g.T.Terminal 10 given e.ensures.output e.ensures.counted) fewer
     (reading_feed c.args.left c.requires.some) refl (omega arith) (sym (with_none old.space c.args.a))
@@ -18,7 +18,7 @@ pub returns-in-Ok-Some-eq13-clause-step : goal.returns-in-Ok-Some-eq13-clause-st
 returns-in-Ok-Some-eq13-clause-step g c =
     let e = c.in-Ok-Some-eq13 in
     let old = c.args.self.now in
-    let given = subst (λ b. Consumes (g.T.Terminal.input c.args.terminal.now) (g.T.Terminal.input c.key.new.self) (b ∷ [])) e.field-0-0-test (rw e.field-0-is at e.ensures.given) in
+    let given = subst (λ b. Consumes (g.T.Terminal.input c.args.terminal.now) (g.T.Terminal.input c.ask.new.self) (b ∷ [])) e.field-0-0-test (rw e.field-0-is at e.ensures.given) in
     let fewer = rw e.field-0-is at e.ensures.fewer in
     stepped g.T.Terminal 13 [] old.space old (heard_byte g.T.Terminal 13 given e.ensures.output e.ensures.counted) fewer
     (reading_return c.args.left c.requires.some) refl (omega arith) (sym (with_none old.space c.args.a))

@@ -3,6 +3,7 @@ use Rattle.block_words.specs.declared.buffered_blocks.BlockFault.TheVariants.{No
 use Rattle.block_words.specs.Words.{update}
 use Rattle.stores.specs.declared.store.Store.{Store}
 use Rattle.stores.specs.Store.{device_of}
+use Rattle.stores.specs.Suits.{suits}
 use Rattle.cell_machine.specs.Value.{Did}
 use Rattle.interpreter.proofs.Called.{called, stands_on, rests_on, consulted_well, consulted_failed, tells_none}
 use Rattle.interpreter.proofs.forth.Forth.update.Goals as goal
@@ -11,7 +12,7 @@ pub returns-in-Ok-clause-consults : goal.returns-in-Ok-clause-consults
 returns-in-Ok-clause-consults g c = λ levels x stands.
     let old = c.args.self.now in
     let e = c.in-Ok.ensures in
-    let model = ap (λ (s : Store g.row.D.Denot g.D.SectorDevice). g.D.SectorDevice.keeps_model (device_of s)) e.store in
+    let model = ap (λ (s : Store g.row.D.Denot g.D.SectorDevice). suits g.D.SectorDevice (device_of s)) e.store in
     let count = ap (λ (s : Store g.row.D.Denot g.D.SectorDevice). g.D.SectorDevice.failures (device_of s)) e.store in
     let h = called g.D.SectorDevice update (Ok tt) (λ m. []) old.blocks c.update.new.self old.space old.space
     (λ m stands. e.runs m old.space stands) (λ m shut. refl) count model stands.rests in
@@ -21,7 +22,7 @@ pub returns-in-Err-clause-consults : goal.returns-in-Err-clause-consults
 returns-in-Err-clause-consults g c = λ levels x stands.
     let old = c.args.self.now in
     let e = c.in-Err.ensures in
-    let model = ap (λ (s : Store g.row.D.Denot g.D.SectorDevice). g.D.SectorDevice.keeps_model (device_of s)) e.store in
+    let model = ap (λ (s : Store g.row.D.Denot g.D.SectorDevice). suits g.D.SectorDevice (device_of s)) e.store in
     let other : c.in-Err.fault ≡ NoBuffer = e.only in
     let count = ap (λ (s : Store g.row.D.Denot g.D.SectorDevice). g.D.SectorDevice.failures (device_of s)) e.store in
     let h = called g.D.SectorDevice update (Err c.in-Err.fault) (λ m. []) old.blocks c.update.new.self old.space old.space

@@ -2,6 +2,7 @@ use Rattle.std.proofs.Common.{◌≡◌, ◌∙◌, IsTrue, refl, sym, ap, subst
 use Rattle.std.proofs.lemmas.Grind.{common_steps}
 use Rattle.data_space.specs.Space.{with_cell}
 use Rattle.stores.specs.Store.{StandsFor, device_of}
+use Rattle.stores.specs.Suits.{suits}
 use Rattle.interpreter.specs.Lines.{new_world}
 use Rattle.interpreter.proofs.forth.ForthLines.new.Goals as goal
 
@@ -14,7 +15,7 @@ returns-clause-sound g c = λ m gives.
         held_end = refl;
         held = refl;
         buffers = sym c.new-3.ensures.buffers;
-        maps = λ model. subst (λ s. StandsFor {D = g.row.D.Denot} {G = g.D.SectorDevice} s m) (sym e) (gives c.into.result c.into.ensures (subst (λ s. IsTrue (g.D.SectorDevice.keeps_model (device_of s))) e model));
+        maps = λ model. subst (λ s. StandsFor {D = g.row.D.Denot} {G = g.D.SectorDevice} s m) (sym e) (gives c.into.result c.into.ensures (subst (λ s. IsTrue (suits g.D.SectorDevice (device_of s))) e model));
       },
     )
 
@@ -35,5 +36,5 @@ returns-clause-opens g c = λ m gives.
           maps = λ model. subst (λ s. StandsFor {D = g.row.D.Denot} {G = g.D.SectorDevice} s m) (sym e) stands;
         };
       };
-      model = subst (λ s. IsTrue (g.D.SectorDevice.keeps_model (device_of s))) (sym e) stands.model;
+      model = subst (λ s. IsTrue (suits g.D.SectorDevice (device_of s))) (sym e) stands.model;
     }

@@ -38,11 +38,11 @@ returns-in-Ok-clause-after g c = λ s stands x may.
     let D = g.D.SectorDevice in
     let old = c.args.self.now in
     let saved = c.in-Ok.ensures.ok stands.model in
-    let keeps = subst IsTrue (sym c.save.ensures.passes.model) stands.model in
+    let keeps = subst IsTrue (sym c.save.ensures.passes.units) stands.model in
     means_sized old.blocks.number (home_of old.blocks.number (D.disk c.save.new.device).content) (latest s) x old.blocks.many old.blocks.few
     (length-overridden s.saved s.pending ∙ stands.size)
     (λ b below. latest_in old s stands c.if-self.false b below ∙ sym (saved.blocks b below))
-    (sound_means old.blocks.number (D.disk c.save.new.device) (g.met.D.SectorDevice.present c.save.new.device keeps) saved.sound (λ k. ⊥) (λ k none. absurd none) x (λ k _ synced. may k synced))
+    (sound_means old.blocks.number (D.disk c.save.new.device) (g.met.D.SectorDevice.present c.save.new.device (g.met.D.SectorDevice.keeps_both c.save.new.device keeps)) saved.sound (λ k. ⊥) (λ k none. absurd none) x (λ k _ synced. may k synced))
 
 pub returns-in-Ok-clause-ok : goal.returns-in-Ok-clause-ok
 returns-in-Ok-clause-ok g c = λ s stands.
@@ -50,7 +50,7 @@ returns-in-Ok-clause-ok g c = λ s stands.
     let old = c.args.self.now in
     let saved = c.in-Ok.ensures.ok stands.model in
     record {
-      model = subst IsTrue (sym c.save.ensures.passes.model) stands.model;
+      model = subst IsTrue (sym c.save.ensures.passes.units) stands.model;
       closed = stands.closed;
       size = length-overridden s.saved s.pending ∙ stands.size;
       pending_size = length-map s.pending _ ∙ stands.pending_size;

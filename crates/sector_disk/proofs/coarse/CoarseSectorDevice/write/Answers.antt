@@ -1,4 +1,4 @@
-use Rattle.std.proofs.Common.{◌≡◌, ◌<◌, ◌≤◌, refl, ◌∙◌, arith}
+use Rattle.std.proofs.Common.{◌≡◌, refl, ◌∙◌, arith}
 use Rattle.sector_disk.specs.Coarse.{in_eights}
 use Rattle.sector_disk.specs.Disk.{written}
 use Rattle.sector_disk.specs.MemoryDisk.{held, size}

@@ -1,4 +1,4 @@
-use Rattle.std.proofs.Common.{ℕ, ◌/◌, refl, sym, ◌∙◌, ap}
+use Rattle.std.proofs.Common.{refl}
 use Rattle.shadow.proofs.Meaning.{clean_sound}
 use Rattle.shadow.proofs.Stores.{adopted}
 use Rattle.shadow.proofs.store.Store.adopt.Goals as goal
@@ -9,15 +9,10 @@ invariant_of-result g c = record {
   few = c.requires.few;
   size = c.requires.size;
   clear = λ b past. c.empty_record.ensures b;
-  sound = λ model paged now. clean_sound c.args.blocks c.args.is_open c.args.listing.now (g.D.SectorDevice.disk c.args.device)
-      (c.requires.clean (record { model = model; paged = paged }));
-  keeps = λ model paged now b kept. cc;
+  sound = λ model now. clean_sound c.args.blocks c.args.is_open c.args.listing.now (g.D.SectorDevice.disk c.args.device)
+      (c.requires.clean model);
+  keeps = λ model now b kept. cc;
 }
 
 pub returns-clause-state : goal.returns-clause-state
 returns-clause-state g c = λ keeps. adopted g.met.D.SectorDevice.present _ keeps (c.requires.clean keeps) refl c.empty_record.ensures
-
-pub returns-clause-pages : goal.returns-clause-pages
-returns-clause-pages g c = λ model.
-    let own = λ (k : ℕ). g.met.D.SectorDevice.by_sectors c.args.device k model in
-    record { model = model; paged = λ j k same. ap (λ i. i / 8) (sym (own j) ∙ same ∙ own k) }

@@ -1,4 +1,4 @@
-use Rattle.std.proofs.Common.{sym, subst, cond, Some, None, ◌∙◌, ap, IsTrue}
+use Rattle.std.proofs.Common.{inl, sym, subst, cond, Some, None, ◌∙◌, ap, IsTrue}
 use Rattle.std.proofs.lemmas.List.{length-map}
 use Rattle.journal.specs.Maps.{block_in, latest}
 use Rattle.journal.proofs.Copies.{none_listed}
@@ -18,14 +18,18 @@ invariant_of-self-in-Ok g c =
       few = old.few;
       size = c.save.ensures.passes.sectors ∙ old.size;
       clear = λ b past. c.empty_record-self.ensures b;
-      sound = λ model paged now.
-          (c.in-Ok.ensures.ok (kept_before g.D.SectorDevice old.device c.save.new.device (record { model = model; paged = paged }) c.save.ensures.passes)).sound;
-      keeps = λ model paged now b kept. cc;
+      sound = λ model now.
+          (c.in-Ok.ensures.ok (kept_before g.D.SectorDevice old.device c.save.new.device model c.save.ensures.passes)).sound;
+      keeps = λ model now b kept. cc;
     }
 
 pub returns-then-count_blocks-eq0-clause-pending : goal.returns-then-count_blocks-eq0-clause-pending
 returns-then-count_blocks-eq0-clause-pending g c =
     none_listed c.args.self.now.pending c.args.self.now.blocks (sym c.count_blocks.ensures ∙ c.if-count_blocks-eq0.true) c.args.self.now.clear
+
+pub returns-then-count_blocks-eq0-clause-stops : goal.returns-then-count_blocks-eq0-clause-stops
+returns-then-count_blocks-eq0-clause-stops g c = λ s stands is_open x since.
+    inl (stands.left c.if-self.false x (g.met.D.SectorDevice.only_now c.args.self.now.device x since))
 
 pub returns-then-count_blocks-eq0-clause-ok : goal.returns-then-count_blocks-eq0-clause-ok
 returns-then-count_blocks-eq0-clause-ok g c = λ s stands.
@@ -52,7 +56,7 @@ returns-in-Ok-clause-after g c = λ s stands x may.
     let D = g.D.SectorDevice in
     let old = c.args.self.now in
     let saved = c.in-Ok.ensures.ok stands.keeps in
-    let keeps = subst IsTrue (sym c.save.ensures.passes.model) stands.keeps.model in
+    let keeps = subst IsTrue (sym c.save.ensures.passes.model) stands.keeps in
     means_sized old.blocks (current_of c.save.new.listing (D.disk c.save.new.device).content) (latest s) x old.many old.few
     (length-overridden s.saved s.pending ∙ stands.size)
     (λ b below. latest_in old s stands c.if-self.false b below ∙ sym (saved.blocks b below))

@@ -13,11 +13,11 @@ invariant_of-self g c =
       few = old.few;
       size = c.read_pair.ensures.passes.sectors ∙ old.size;
       clear = old.clear;
-      sound = λ model paged now. sound_read old new c.read_pair.ensures.passes now (record { model = model; paged = paged }) c.read_pair.ensures.disk;
-      keeps = λ model paged now a kept.
+      sound = λ model now. sound_read old new c.read_pair.ensures.passes now model c.read_pair.ensures.disk;
+      keeps = λ model now a kept.
           let same : c.args.b ≡ a = cc in
           subst (λ i. c.read_pair.new.out ≡ merged old.listing old.pending (g.D.SectorDevice.disk new).content i) same
-          (text_read old new c.read_pair.ensures.passes now (record { model = model; paged = paged }) c.read_pair.ensures.disk
+          (text_read old new c.read_pair.ensures.passes now model c.read_pair.ensures.disk
           c.args.b c.latest_sector-k.result c.read_pair.new.out c.latest_sector-k.ensures.place c.in-Ok.ensures.bytes);
     }
 
@@ -30,9 +30,9 @@ invariant_of-self-in-Err g c =
       few = old.few;
       size = c.read_pair.ensures.passes.sectors ∙ old.size;
       clear = old.clear;
-      sound = λ model paged now. sound_read old new c.read_pair.ensures.passes now (record { model = model; paged = paged }) c.read_pair.ensures.disk;
-      keeps = λ model paged now a kept.
-          c.in-Err.ensures.err ∙ text_same old new c.read_pair.ensures.passes now (record { model = model; paged = paged }) c.read_pair.ensures.disk a kept;
+      sound = λ model now. sound_read old new c.read_pair.ensures.passes now model c.read_pair.ensures.disk;
+      keeps = λ model now a kept.
+          c.in-Err.ensures.err ∙ text_same old new c.read_pair.ensures.passes now model c.read_pair.ensures.disk a kept;
     }
 
 pub returns-then-eq-clause-stops : goal.returns-then-eq-clause-stops
@@ -44,11 +44,11 @@ returns-then-eq-clause-kept g c = λ is. refl
 pub returns-in-Ok-clause-ok : goal.returns-in-Ok-clause-ok
 returns-in-Ok-clause-ok g c = λ m stands.
     latest_read c.args.self.now m stands c.if-self.false c.args.b c.requires.below c.latest_sector-k.result c.read_pair.new.out c.latest_sector-k.ensures.place
-    (c.in-Ok.ensures.bytes stands.keeps.model)
+    (c.in-Ok.ensures.bytes stands.keeps)
 
 pub returns-in-Ok-clause-state : goal.returns-in-Ok-clause-state
 returns-in-Ok-clause-state g c = λ m stands.
-    let same = c.read_pair.ensures.disk stands.keeps.model in
+    let same = c.read_pair.ensures.disk stands.keeps in
     record {
       keeps = keeps_on g.D.SectorDevice c.args.self.now.device c.read_pair.new.device stands.keeps c.read_pair.ensures.passes;
       closed = stands.closed;
@@ -61,7 +61,7 @@ returns-in-Ok-clause-state g c = λ m stands.
 
 pub returns-in-Err-clause-state : goal.returns-in-Err-clause-state
 returns-in-Err-clause-state g c = λ m stands.
-    let same = c.read_pair.ensures.disk stands.keeps.model in
+    let same = c.read_pair.ensures.disk stands.keeps in
     record {
       keeps = keeps_on g.D.SectorDevice c.args.self.now.device c.read_pair.new.device stands.keeps c.read_pair.ensures.passes;
       closed = stands.closed;
@@ -73,7 +73,7 @@ returns-in-Err-clause-state g c = λ m stands.
     }
 
 pub returns-in-Ok-clause-stops : goal.returns-in-Ok-clause-stops
-returns-in-Ok-clause-stops g c = λ s stands is_open x since. stands.left c.if-self.false x (c.read_pair.ensures.stops stands.keeps.model x since)
+returns-in-Ok-clause-stops g c = λ s stands is_open x since. stands.left c.if-self.false x (c.read_pair.ensures.stops stands.keeps x since)
 
 pub returns-in-Err-clause-stops : goal.returns-in-Err-clause-stops
-returns-in-Err-clause-stops g c = λ s stands is_open x since. stands.left c.if-self.false x (c.read_pair.ensures.stops stands.keeps.model x since)
+returns-in-Err-clause-stops g c = λ s stands is_open x since. stands.left c.if-self.false x (c.read_pair.ensures.stops stands.keeps x since)

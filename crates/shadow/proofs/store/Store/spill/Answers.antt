@@ -7,7 +7,7 @@ use Rattle.sector_disk.specs.Disk.{written}
 use Rattle.journal.specs.Layout.{listed}
 use Rattle.journal.proofs.Stores.{pending_more}
 use Rattle.shadow.specs.Images.{free_of}
-use Rattle.shadow.specs.Pages.{InPage}
+use Rattle.sector_disk.specs.Pages.{InPage}
 use Rattle.shadow.specs.Steps.{WritesOnly}
 use Rattle.shadow.proofs.Stores.{sound_spilled, saved_means, free_page, current_kept, free_kept, free_written}
 use Rattle.shadow.proofs.Calls.{keeps_on}
@@ -36,9 +36,9 @@ invariant_of-self g c =
       few = old.few;
       size = c.write_pair.ensures.passes.sectors ∙ old.size;
       clear = λ a past. c.list.ensures.others a (λ same. absurd (omega (arith, past, same, c.requires.below))) ∙ old.clear a past;
-      sound = λ model paged now. sound_spilled old new c.write_pair.ensures.passes now (record { model = model; paged = paged }) c.args.b c.requires.below
+      sound = λ model now. sound_spilled old new c.write_pair.ensures.passes now model c.args.b c.requires.below
           (λ keeps. subst (λ k. WritesOnly (InPage k) (D.disk old.device) (D.disk new)) c.free_sector-k.ensures.place (c.write_pair.ensures.only keeps));
-      keeps = λ model paged now b kept. cc;
+      keeps = λ model now b kept. cc;
     }
 
 pub returns-in-Ok-clause-pending : goal.returns-in-Ok-clause-pending

@@ -1,8 +1,10 @@
 use Rattle.std.proofs.Common.{ap}
 use Rattle.journal.specs.Maps.{committed, latest, shut}
+use Rattle.journal.specs.Store as older
+use Rattle.recovery.specs.Label.{is_size}
 use Rattle.shadow.specs.Store.{device_of, pending_count}
 use Rattle.stores.specs.declared.store.Store.TheVariants.{Journaled, Shadowed}
-use Rattle.stores.proofs.Stores.{journaled, shadowed, journaled_means, shadowed_means, journaled_saves, shadowed_saves, journaled_continues, shadowed_continues, fewer_begin, fewer_reads}
+use Rattle.stores.proofs.Stores.{journaled, shadowed, journaled_means, shadowed_means, journaled_saves, shadowed_saves, journaled_continues, shadowed_continues, older_size, newer_size, older_begins, older_reads, newer_begins, newer_reads}
 use Rattle.stores.proofs.Told.{on_ok, told_ok, told_fails, told_match}
 use Rattle.stores.proofs.store.Store.commit.Goals as goal
 
@@ -90,10 +92,22 @@ pub returns-in-Shadowed-clause-pending : goal.returns-in-Shadowed-clause-pending
 returns-in-Shadowed-clause-pending g c =
     rw c.in-Shadowed.is (told_match c.told.result c.commit-in-Shadowed.result _ _ c.told.ensures.ok c.commit-in-Shadowed.ensures.pending)
 
+pub returns-in-Journaled-clause-begins : goal.returns-in-Journaled-clause-begins
+returns-in-Journaled-clause-begins g c =
+    rw c.in-Journaled.is (older_begins g.D.SectorDevice (older.device_of c.in-Journaled.store) (older.device_of c.commit.new.self) (older.pending_count c.in-Journaled.store)
+    (is_size (g.D.SectorDevice.sector_count (older.device_of c.in-Journaled.store))) (older_size c.in-Journaled.store) c.commit.ensures.begins)
+
+pub returns-in-Journaled-clause-reads : goal.returns-in-Journaled-clause-reads
+returns-in-Journaled-clause-reads g c =
+    rw c.in-Journaled.is (older_reads g.D.SectorDevice (older.device_of c.in-Journaled.store) (older.device_of c.commit.new.self) (older.pending_count c.in-Journaled.store)
+    (is_size (g.D.SectorDevice.sector_count (older.device_of c.in-Journaled.store))) (older_size c.in-Journaled.store) c.commit.ensures.reads)
+
 pub returns-in-Shadowed-clause-begins : goal.returns-in-Shadowed-clause-begins
 returns-in-Shadowed-clause-begins g c =
-    rw c.in-Shadowed.is (fewer_begin g.D.SectorDevice (device_of c.in-Shadowed.store) (device_of c.commit-in-Shadowed.new.self) (pending_count c.in-Shadowed.store) c.commit-in-Shadowed.ensures.begins)
+    rw c.in-Shadowed.is (newer_begins g.D.SectorDevice (device_of c.in-Shadowed.store) (device_of c.commit-in-Shadowed.new.self) (pending_count c.in-Shadowed.store)
+    (is_size (g.D.SectorDevice.sector_count (device_of c.in-Shadowed.store))) (newer_size c.in-Shadowed.store) c.commit-in-Shadowed.ensures.begins)
 
 pub returns-in-Shadowed-clause-reads : goal.returns-in-Shadowed-clause-reads
 returns-in-Shadowed-clause-reads g c =
-    rw c.in-Shadowed.is (fewer_reads g.D.SectorDevice (device_of c.in-Shadowed.store) (device_of c.commit-in-Shadowed.new.self) (pending_count c.in-Shadowed.store) c.commit-in-Shadowed.ensures.reads)
+    rw c.in-Shadowed.is (newer_reads g.D.SectorDevice (device_of c.in-Shadowed.store) (device_of c.commit-in-Shadowed.new.self) (pending_count c.in-Shadowed.store)
+    (is_size (g.D.SectorDevice.sector_count (device_of c.in-Shadowed.store))) (newer_size c.in-Shadowed.store) c.commit-in-Shadowed.ensures.reads)
