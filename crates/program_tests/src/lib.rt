@@ -6,6 +6,8 @@ mod assertions;
 #[cfg(test)]
 mod copies;
 #[cfg(test)]
+mod files_in_memory;
+#[cfg(test)]
 mod lines;
 #[cfg(test)]
 mod newer_images;

@@ -193,7 +193,9 @@ impl HostFile for Opened<'_> {
 
     ghost keeps_model = { λ f. false };
 
-    ghost bytes = { λ f. record { content = λ _. 0; synced = λ _. 0; unsynced = λ _. true } };
+    ghost keeps_sectors = { λ f. false };
+
+    ghost bytes = { λ f. record { content = λ _. 0; synced = λ _. 0; unsynced = λ _. true; unit = λ k. k } };
 
     ghost extent = { λ f. 0 };
 
@@ -204,6 +206,12 @@ impl HostFile for Opened<'_> {
     ghost left_since = { λ f t c. Unit {0} };
 
     ghost present = { λ f keeps k synced. Prim.cc };
+
+    ghost keeps_both = { λ f keeps. keeps };
+
+    ghost by_pages = { λ f keeps. Prim.cc };
+
+    ghost by_sectors = { λ f k keeps. Prim.cc };
 
     ghost counts_now = { λ f t c le now. tt };
 

@@ -13,3 +13,5 @@ pub mod Images
 pub mod Stops
 pub mod Openings
 pub mod Formats
+pub mod NewerStops
+pub mod NewerSessions

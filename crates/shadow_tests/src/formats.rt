@@ -1,6 +1,6 @@
 // Formats: what is written, and what a stop leaves of it.
 use crate::assertions::{Assert, assert_same};
-use crate::images::{adopted, blank, blank_record, sector, spill, told};
+use crate::images::{blank, opened, sector, spill, told};
 use crate::openings::refusal;
 use sector_disk::{Coarse, Fate, Fused, MemoryDisk};
 use shadow::format;
@@ -32,7 +32,7 @@ fn another_size_is_refused(rt: HostRuntime) -> Result<(), Fail> {
 
 // An image with block 5 of A, of whose format the calls from this one on fail.
 fn format_until(alloc: Global, call: u64) -> Result<MemoryDisk, Fail> {
-    let mut store = adopted(blank(alloc)?, u64::MAX, false, &blank_record())?;
+    let mut store = opened(blank(alloc)?, u64::MAX)?;
     spill(&mut store, 5, b'A')?;
     store.commit().map_err(|_| "commit failed")?;
     let disk = store.into_device().into_device().into_device();

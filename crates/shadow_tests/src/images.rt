@@ -3,9 +3,9 @@ ghost use Rattle.std.specs.Prelude.{◌<◌};
 ghost use Rattle.journal.specs.Layout.{most_blocks};
 
 use sector_disk::{Coarse, Fused, MemoryDisk, SectorDevice};
-use shadow::Store;
 use shadow::layout::{current_sector, sum, tag, tag_sector, with_sum};
 use shadow::tags::{add, tag_of};
+use shadow::{Store, open};
 use std::alloc::{AllocError, Global};
 use std::test::Fail;
 
@@ -73,18 +73,16 @@ pub(crate) fn blank(alloc: Global) -> Result<MemoryDisk, Fail> {
     Ok(disk)
 }
 
-/// A store over an image of which each unit has eight sectors, and whose calls from this one on fail.
-pub(crate) fn adopted(
-    disk: MemoryDisk,
-    call: u64,
-    is_open: bool,
-    listing: &[u8; 512],
-) -> Result<Store<Fused<Coarse>>, Fail> {
-    let disk = Fused::from(Coarse::new(disk), call.max(1));
-    if disk.sectors() != 544 {
-        return Err("an image of another size")?;
+/// The calls of an opening of 32 blocks: a sync, three sectors of each block, and beside them label, gate and record.
+const OPENING: u64 = 100;
+
+/// The store of an image of which each unit has eight sectors. Its calls from this one on fail, counted from behind the opening.
+pub(crate) fn opened(disk: MemoryDisk, call: u64) -> Result<Store<Fused<Coarse>>, Fail> {
+    let disk = Fused::from(Coarse::new(disk), OPENING.saturating_add(call));
+    match open(disk) {
+        Ok(store) => Ok(store),
+        Err(_) => Err("not opened")?,
     }
-    Ok(Store::adopt(disk, BLOCKS, is_open, listing))
 }
 
 /// Spills a block that is full of this byte.

@@ -1,6 +1,6 @@
 // Openings: which images are refused, and what an opening does.
 use crate::assertions::{Assert, assert_same};
-use crate::images::{adopted, blank, blank_record, put, sector, spill, told};
+use crate::images::{blank, opened, put, sector, spill, told};
 use recovery::OpenFault;
 use sector_disk::{Coarse, Fate, MemoryDisk};
 use shadow::open;
@@ -67,7 +67,7 @@ fn sizes_of_other_images_are_refused(rt: HostRuntime) -> Result<(), Fail> {
 // A block in whose place an older one came back, with its true tag.
 #[test]
 fn a_stale_block_is_damage(rt: HostRuntime) -> Result<(), Fail> {
-    let mut store = adopted(blank(rt.alloc())?, u64::MAX, false, &blank_record())?;
+    let mut store = opened(blank(rt.alloc())?, u64::MAX)?;
     spill(&mut store, 5, b'A')?;
     store.commit().map_err(|_| "commit failed")?;
     let mut disk = store.into_device().into_device().into_device();

@@ -1,6 +1,6 @@
 // A save on a disk whose sectors lie in units of eight: what it writes, and what a stop leaves of it.
 use crate::assertions::{Assert, assert_same};
-use crate::images::{adopted, blank, blank_record, hex, sector, spill, told};
+use crate::images::{blank, hex, opened, sector, spill, told};
 use sector_disk::{Coarse, Fate, Fused, MemoryDisk, SectorDevice};
 use shadow::Store;
 use std::alloc::Global;
@@ -50,7 +50,7 @@ fn a_blank_image_is_whole(rt: HostRuntime) -> Result<(), Fail> {
 
 #[test]
 fn a_save_writes_free_places_the_other_record_and_the_gate(rt: HostRuntime) -> Result<(), Fail> {
-    let mut store = adopted(blank(rt.alloc())?, u64::MAX, false, &blank_record())?;
+    let mut store = opened(blank(rt.alloc())?, u64::MAX)?;
     spill(&mut store, 5, b'A')?;
     saved(&mut store)?;
     let mut disk = disk_of(store);
@@ -72,7 +72,7 @@ fn a_save_writes_free_places_the_other_record_and_the_gate(rt: HostRuntime) -> R
 
 #[test]
 fn the_next_save_goes_back(rt: HostRuntime) -> Result<(), Fail> {
-    let mut store = adopted(blank(rt.alloc())?, u64::MAX, false, &blank_record())?;
+    let mut store = opened(blank(rt.alloc())?, u64::MAX)?;
     spill(&mut store, 5, b'A')?;
     saved(&mut store)?;
     spill(&mut store, 31, b'C')?;
@@ -103,7 +103,7 @@ fn left(alloc: Global, disk: &MemoryDisk, torn: usize, others: Fate) -> Result<S
 
 // Begins a save of block 5, of which the calls from this one on fail.
 fn save_until(alloc: Global, call: u64) -> Result<MemoryDisk, Fail> {
-    let mut store = adopted(blank(alloc)?, call, false, &blank_record())?;
+    let mut store = opened(blank(alloc)?, call)?;
     if spill(&mut store, 5, b'A').is_ok() {
         let _ = store.commit();
     }

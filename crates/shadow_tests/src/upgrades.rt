@@ -1,6 +1,6 @@
 // Upgrades of images of layout 1 and 2: what is refused, what is written, and what a stop leaves of both images.
 use crate::assertions::{Assert, assert_same};
-use crate::images::{adopted, blank, blank_record, put, sector, spill, told};
+use crate::images::{blank, opened, put, sector, spill, told};
 use crate::openings::refusal;
 use recovery::{OpenFault, UpgradeFault};
 use sector_disk::{Coarse, Fate, Fused, MemoryDisk, SectorDevice};
@@ -43,7 +43,7 @@ fn before(alloc: Global, is_image: bool) -> Result<MemoryDisk, Fail> {
     if !is_image {
         return Ok(MemoryDisk::new(alloc, 544)?);
     }
-    let mut store = adopted(blank(alloc)?, u64::MAX, false, &blank_record())?;
+    let mut store = opened(blank(alloc)?, u64::MAX)?;
     spill(&mut store, 5, b'C')?;
     store.commit().map_err(|_| "commit failed")?;
     Ok(store.into_device().into_device().into_device())

@@ -1,0 +1,98 @@
+//! The program over a system of files in memory that keeps the model of a file: what is said of a command with that premise is said of
+//! these calls.
+use super::support::{Left, call_over};
+use crate::assertions::{Assert, assert_same};
+use recovery::format;
+use sector_disk::{HostFile, MemoryDisk, MemoryFile, MemoryFiles, Script, SectorDevice};
+use std::process::Abort;
+use std::rt::Files;
+use std::test::Fail;
+
+/// How many sectors an image of 32 blocks has.
+const SECTORS: u32 = 131;
+
+/// Each call moves all that it is asked for.
+const WHOLE: Script = Script {
+    most: usize::MAX,
+    interrupted: 0,
+    fails_after: u64::MAX,
+    calls: 0,
+};
+
+/// A disk with an image of blank blocks.
+fn formatted(rt: &impl AllocGlobal) -> Result<MemoryDisk, Fail> {
+    match format(MemoryDisk::new(rt.alloc(), SECTORS)?, 32) {
+        Ok(store) => Ok(store.into_device()),
+        Err((fault, _)) => Err(fault)?,
+    }
+}
+
+/// A file with the bytes of a disk.
+fn as_file(rt: &impl AllocGlobal, mut disk: MemoryDisk) -> Result<MemoryFile, Fail> {
+    let mut file = MemoryFile::new(rt.alloc(), SECTORS, WHOLE).map_err(|_| "no memory")?;
+    for k in 0..disk.sectors() {
+        let mut bytes = [0; 512];
+        disk.read(k, &mut bytes).map_err(|_| "no sector read")?;
+        file.write_at(512 * k as u64, &bytes)
+            .map_err(|_| "no sector written")?;
+    }
+    file.sync().map_err(|_| "no sync")?;
+    Ok(file)
+}
+
+/// The system in which each name is that of a file of zeros, or of one with an image of blank blocks.
+fn files(rt: &impl AllocGlobal, has_image: bool) -> Result<MemoryFiles, Fail> {
+    let file = if has_image {
+        as_file(rt, formatted(rt)?)?
+    } else {
+        MemoryFile::new(rt.alloc(), SECTORS, WHOLE).map_err(|_| "no memory")?
+    };
+    Ok(MemoryFiles::new(rt.alloc(), file, WHOLE))
+}
+
+fn told(
+    rt: &(impl Files<File = std::fs::File> + AllocGlobal + Abort),
+    files: &MemoryFiles,
+    words: &[&str],
+    input: &[u8],
+    status: u8,
+    output: &[u8],
+) {
+    let left: Left = call_over(rt, files, words, input);
+    assert_same!(rt; left.status, status, "{words:?}");
+    assert_same!(rt; left.output.as_slice(), output, "{words:?}");
+}
+
+#[test]
+fn commands_on_an_image(rt: HostRuntime) -> Result<(), Fail> {
+    let files = files(&rt, true)?;
+    let saving = b"7 1 BLOCK ! UPDATE FLUSH 1 BLOCK @ .\n";
+    told(&rt, &files, &["forth83", "run", "A"], saving, 0, b"7  ok\n");
+    // each opening gives the image as it was when the system was made
+    let looking = b"1 BLOCK @ .\n";
+    told(
+        &rt,
+        &files,
+        &["forth83", "run", "A"],
+        looking,
+        0,
+        b"8224  ok\n",
+    );
+    Ok(())
+}
+
+#[test]
+fn an_image_is_made(rt: HostRuntime) -> Result<(), Fail> {
+    let files = files(&rt, false)?;
+    told(
+        &rt,
+        &files,
+        &["forth83", "new", "A", "--blocks", "32"],
+        b"",
+        0,
+        b"",
+    );
+    let none: &[u8] = b"";
+    told(&rt, &files, &["forth83", "run", "A"], none, 3, none);
+    Ok(())
+}

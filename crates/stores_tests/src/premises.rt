@@ -1,0 +1,27 @@
+//! Laws: the premises on devices and files are met.
+ghost use Rattle.std.specs.Prelude.{◌≡◌, false, IsTrue};
+ghost use Rattle.recovery.specs.Label.{is_size};
+ghost use Rattle.stores.specs.Suits.{suits};
+
+use sector_disk::{MemoryDisk, MemoryFile, PagedFile, Recorded, SectorDevice, SectorFile};
+
+/// Does nothing. Its contract is a law: a disk in memory suits a store of either layout.
+pub fn disks_in_memory(device: &MemoryDisk)
+    ensures { IsTrue (suits ⟦<MemoryDisk as SectorDevice>⟧ device.now) }
+{}
+
+/// Does nothing. Its contract is a law: so does a disk that has its whole history.
+pub fn recorded_disks(device: &Recorded)
+    ensures { IsTrue (suits ⟦<Recorded as SectorDevice>⟧ device.now) }
+{}
+
+/// Does nothing. Its contract is a law: so does a file in memory, as a device.
+pub fn files_in_memory(device: &SectorFile<MemoryFile>)
+    ensures { IsTrue (suits ⟦<SectorFile<MemoryFile> as SectorDevice>⟧ device.now) }
+{}
+
+/// Does nothing. Its contract is a law: a file in memory that lies in pages, as a device, suits a store of layout 3.
+pub fn files_in_pages(device: &SectorFile<PagedFile>)
+    ensures { is_size (⟦<SectorFile<PagedFile> as SectorDevice>⟧.sector_count device.now) ≡ false
+        → IsTrue (suits ⟦<SectorFile<PagedFile> as SectorDevice>⟧ device.now) }
+{}
