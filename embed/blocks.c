@@ -5,7 +5,9 @@
  * Then a device that lies: its syncs settle nothing. The same trial has to notice. And a save each of whose calls fails: it has to
  * say so, and to leave all or none.
  *
- * With an argument, the disk's power fails at that device call of a save alone, and what the blocks hold then is printed. */
+ *     blocks                  over an image of layout 2, that it makes
+ *     blocks CALL             the power fails at that device call of a save alone, and what the blocks hold then is printed
+ *     blocks --paged IMAGE    over the image of layout 3 in a file, on a disk in units of eight: a write may spoil its whole page */
 #include <setjmp.h>
 #include <stdio.h>
 #include <stdlib.h>
@@ -24,14 +26,14 @@ static void power_fails(void) { longjmp(cut, 1); }
 static uint8_t save(int number) {
     uint8_t bytes[2 * BLOCK_BYTES];
     memset(bytes, number, sizeof bytes);
-    return silgwyrad_save(DEVICE, SECTORS, two_blocks, 2, bytes, sizeof bytes);
+    return silgwyrad_save(DEVICE, disk.sectors, two_blocks, 2, bytes, sizeof bytes);
 }
 
 /* The number that all bytes of both blocks hold. */
 static int held(void) {
     uint8_t bytes[2][BLOCK_BYTES];
     for (int i = 0; i < 2; i++)
-        if (silgwyrad_read(DEVICE, SECTORS, two_blocks[i], bytes[i], BLOCK_BYTES)) return REFUSED;
+        if (silgwyrad_read(DEVICE, disk.sectors, two_blocks[i], bytes[i], BLOCK_BYTES)) return REFUSED;
     if (memcmp(bytes[0], bytes[1], BLOCK_BYTES)) return MIXED;
     for (int i = 1; i < BLOCK_BYTES; i++)
         if (bytes[0][i] != bytes[0][0]) return MIXED;
@@ -46,24 +48,31 @@ static int ends(uint8_t (*call)(void), uint8_t *answer) {
 }
 
 static uint8_t save_new(void) { return save(NEW); }
-static uint8_t recover(void) { return silgwyrad_recover(DEVICE, SECTORS); }
+static uint8_t recover(void) { return silgwyrad_recover(DEVICE, disk.sectors); }
+
+/* The outcome in which all that wasn't synced is torn. */
+static long all_torn(const struct disk *stopped) {
+    long torn = 0, fates = stopped->in_unit == 1 ? 3 : 4;
+    for (long all = outcomes(stopped); all > 1; all /= fates) torn = torn * fates + 2;
+    return torn;
+}
 
 struct tally {
     long stops, images, olds, news, most, recoveries;
 };
 
-/* Recovers a disk whose power came back, stopped before each call in turn; answers what the blocks hold, or MIXED where a stop
- * changed that. */
+/* Recovers a disk whose power came back, stopped before each call in turn, or by layout 3, where it writes nothing, before each 16th;
+ * answers what the blocks hold, or MIXED where a stop changed that. */
 static int held_after_recoveries(const struct disk *back, struct tally *tally) {
     disk = *back;
     int first = held();
-    for (long at = 0;; at++) {
+    for (long at = 0;; at += back->in_unit == 1 ? 1 : 16) {
         uint8_t answer = 0;
         disk = *back;
         disk.stop_at = at;
         if (ends(recover, &answer)) return answer ? REFUSED : first;
         tally->recoveries++;
-        settle(&disk, outcomes(&disk) - 1);
+        settle(&disk, all_torn(&disk));
         if (held() != first) return MIXED;
     }
 }
@@ -123,13 +132,13 @@ static int are_refused(const struct disk *start) {
     const uint16_t past_the_end = BLOCKS;
     memset(bytes, 5, sizeof bytes);
     disk = *start;
-    return silgwyrad_read(DEVICE, SECTORS, BLOCKS, bytes, BLOCK_BYTES) == SILGWYRAD_NO_BLOCK
-        && silgwyrad_read(DEVICE, SECTORS, 1, bytes, BLOCK_BYTES + 1) == SILGWYRAD_BAD_LENGTH
-        && silgwyrad_read(DEVICE, SECTORS - 1, 1, bytes, BLOCK_BYTES) == SILGWYRAD_BAD_SIZE
-        && silgwyrad_save(DEVICE, SECTORS, &past_the_end, 1, bytes, BLOCK_BYTES) == SILGWYRAD_NO_BLOCK
-        && silgwyrad_save(DEVICE, SECTORS, two_blocks, 2, bytes, BLOCK_BYTES) == SILGWYRAD_BAD_LENGTH
-        && silgwyrad_recover(DEVICE, SECTORS + 1) == SILGWYRAD_BAD_SIZE
-        && silgwyrad_format(DEVICE, SECTORS, BLOCKS - 1) == SILGWYRAD_BAD_SIZE
+    return silgwyrad_read(DEVICE, disk.sectors, BLOCKS, bytes, BLOCK_BYTES) == SILGWYRAD_NO_BLOCK
+        && silgwyrad_read(DEVICE, disk.sectors, 1, bytes, BLOCK_BYTES + 1) == SILGWYRAD_BAD_LENGTH
+        && silgwyrad_read(DEVICE, disk.sectors - 2, 1, bytes, BLOCK_BYTES) == SILGWYRAD_BAD_SIZE
+        && silgwyrad_save(DEVICE, disk.sectors, &past_the_end, 1, bytes, BLOCK_BYTES) == SILGWYRAD_NO_BLOCK
+        && silgwyrad_save(DEVICE, disk.sectors, two_blocks, 2, bytes, BLOCK_BYTES) == SILGWYRAD_BAD_LENGTH
+        && silgwyrad_recover(DEVICE, disk.sectors + 1) == SILGWYRAD_BAD_SIZE
+        && silgwyrad_format(DEVICE, disk.sectors, BLOCKS - 1) == SILGWYRAD_BAD_SIZE
         && disk.calls == 0 && bytes[0] == 5 && bytes[BLOCK_BYTES] == 5;
 }
 
@@ -139,7 +148,7 @@ static int show(const struct disk *start, long at) {
     disk = *start;
     disk.stop_at = at;
     if (ends(save_new, &answer)) return printf("the save ended before call %ld\n", at), 1;
-    settle(&disk, outcomes(&disk) - 1);
+    settle(&disk, all_torn(&disk));
     int number = held();
     printf("power lost before call %ld: both blocks hold %d\n", at, number);
     return 0;
@@ -150,18 +159,27 @@ static int told(int is_well, const char *what) {
     return !is_well;
 }
 
+/* Makes the image, or begins with the one in a file; answers how much of it was not well. */
+static int begin(const char *paged) {
+    if (paged) return told(begins_paged(&disk, paged) && held() == ' ', "an image of layout 3 is taken");
+    disk.sectors = SECTORS;
+    disk.in_unit = 1;
+    int failed = told(silgwyrad_recover(DEVICE, disk.sectors) == SILGWYRAD_NO_LABEL, "a disk that was never formatted is refused");
+    return failed + told(!silgwyrad_format(DEVICE, disk.sectors, BLOCKS) && held() == ' ', "a format makes blank blocks");
+}
+
 int main(int argc, char **argv) {
     static struct disk start;
     const struct silgwyrad_device device = device_of(&disk);
+    const char *paged = argc == 3 && !strcmp(argv[1], "--paged") ? argv[2] : NULL;
     stop = power_fails;
     silgwyrad_use_device(DEVICE, &device);
     disk.stop_at = disk.fail_at = NEVER;
-    int failed = told(silgwyrad_recover(DEVICE, SECTORS) == SILGWYRAD_NO_LABEL, "a disk that was never formatted is refused");
-    failed += told(!silgwyrad_format(DEVICE, SECTORS, BLOCKS) && held() == ' ', "a format makes blank blocks");
+    int failed = begin(paged);
     failed += told(!save(OLD) && held() == OLD, "a save is read back");
     start = disk;
     start.calls = 0;
-    if (argc > 1) return failed ? 1 : show(&start, strtol(argv[1], NULL, 10));
+    if (argc == 2) return failed ? 1 : show(&start, strtol(argv[1], NULL, 10));
     failed += told(are_refused(&start), "refused arguments leave the device alone");
     struct tally tally = {0};
     failed += told(first_mixed(&start, &tally) == NEVER, "a save that loses power is all or none");

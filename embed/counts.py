@@ -1,7 +1,8 @@
 #!/usr/bin/env python3
-"""Prints what `blocks` and `sessions` have to print: how many stops, images and recoveries there are.
+"""Prints what `blocks`, `sessions`, `flash` and boards/trial.c have to print: how many stops, images and recoveries there are.
 
     counts.py blocks|sessions
+    counts.py flash|trial LAYOUT
 
 It shares no code with the library. The disk, the store and the block words are those of crates/stop_texts/totals.py, which are written by docs/IMAGE.md.
 """
@@ -108,10 +109,153 @@ SESSIONS_TEXT = """a session that loses power is all or none: well
 stops {0}, images {1} ({2} old, {3} new)
 """
 
+
+
+class Checked(MODEL.Older):
+    """A store of layout 2 that refuses a damaged image."""
+
+    def open(self):
+        if self.disk.now[1][:8] == MODEL.OPEN[:8] and self.digest(self.disk.now[2][:480]) != self.disk.now[2][480:]:
+            raise ValueError("the image is damaged")
+        super().open()
+
+
+STORES = {2: Checked, 3: MODEL.Newer}
+SECTORS = {2: 3 + 4 * BLOCKS, 3: 32 + 16 * BLOCKS}
+
+
+class Flash(MODEL.Disk):
+    """Sectors of a flash that is erased by eight: a write passes three moments, at each of which it may be stopped."""
+
+    def __init__(self, sectors, stop_at=None):
+        super().__init__(sectors)
+        self.moments, self.stop_at = 0, stop_at
+
+    def moment(self):
+        if self.moments == self.stop_at:
+            raise MODEL.Fault
+        self.moments += 1
+
+    def write(self, k, data):
+        first = k - k % 8
+        unit = self.now[first : first + 8]
+        unit[k - first] = data
+        self.moment()
+        self.now[first : first + 8] = [b"\xff" * 512] * 8
+        self.moment()
+        self.now[first : first + 4] = unit[:4]
+        self.moment()
+        self.now[first : first + 8] = unit
+
+
+def saved(disk, layout, rows):
+    """Opens the image on a disk and saves blocks with their bytes."""
+    store = STORES[layout](disk, BLOCKS)
+    for block, data in rows:
+        store.spill(block, data)
+    store.commit()
+
+
+def formed(layout, sectors):
+    disk = MODEL.Disk([bytes(512)] * sectors, layout=layout)
+    MODEL.form(disk, BLOCKS)
+    return disk.now
+
+
+def of_pair(byte):
+    return [(block, byte * 1024) for block in PAIR]
+
+
+def found(sectors, layout):
+    """The blocks of an image, once it is recovered, or None where it is refused."""
+    disk = MODEL.Disk(sectors)
+    if sectors[0] != MODEL.label(BLOCKS, layout):
+        return None
+    try:
+        store = STORES[layout](disk, BLOCKS)
+    except ValueError:
+        return None
+    return [disk.now[store.latest(b)] + disk.now[store.latest(b) + 1] for b in range(BLOCKS)]
+
+
+def flash(layout):
+    """Stops and images of a flash; those with the old pair, with the new one, and those that lost a block."""
+    base = Flash(formed(layout, SECTORS[3]))
+    saved(base, layout, [(b, bytes([b]) * 1024) for b in range(BLOCKS)])
+    saved(base, layout, of_pair(b"O"))
+    kinds = {}
+    for byte in (b"O", b"N"):
+        kinds[byte] = [byte * 1024 if b in PAIR else bytes([b]) * 1024 for b in range(BLOCKS)]
+    tally = {"images": 0, b"O": 0, b"N": 0}
+    for stop in itertools.count():
+        disk = Flash(base.now, stop)
+        if ended(lambda: saved(disk, layout, of_pair(b"N"))):
+            return stop, tally["images"], tally[b"O"], tally[b"N"], tally["images"] - tally[b"O"] - tally[b"N"]
+        for again in itertools.count():
+            other = Flash(disk.now, again)
+            is_last = ended(lambda: recovered(other, layout))
+            blocks = found(other.now, layout)
+            tally["images"] += 1
+            for byte, kind in kinds.items():
+                tally[byte] += blocks == kind
+            if is_last:
+                break
+
+
+def recovered(disk, layout):
+    """Opens an image, which may be refused."""
+    if disk.now[0] == MODEL.label(BLOCKS, layout):
+        try:
+            STORES[layout](disk, BLOCKS)
+        except ValueError:
+            pass
+
+
+def ended(call):
+    try:
+        call()
+        return True
+    except MODEL.Fault:
+        return False
+
+
+def trial(layout):
+    """Stops of a save on a board, those that left the old pair and the new one, and stops of the recoveries after them."""
+    start = MODEL.Disk(formed(layout, SECTORS[layout]))
+    saved(start, layout, [(4, b"K" * 1024)])
+    olds = news = recoveries = 0
+    for stop in itertools.count():
+        saved(start, layout, of_pair(b"O"))
+        disk = MODEL.Disk(start.now, "from", stop + 1)
+        if ended(lambda: saved(disk, layout, of_pair(b"N"))):
+            return stop, olds, news, recoveries
+        after = MODEL.Disk(disk.now)
+        STORES[layout](after, BLOCKS)
+        recoveries += after.calls
+        is_new = found(after.now, layout)[PAIR[0]] == b"N" * 1024
+        olds, news = olds + (not is_new), news + is_new
+
+
+FLASH_TEXT = """stops {0}, images {1} ({2} old, {3} new, {4} that lost a block)
+layout {layout} {word} on such a flash: well
+"""
+TRIAL_TEXT = "stops {0} ({1} old, {2} new), stopped recoveries {3}: well\n"
+
+
+def text_of(words):
+    """What is to be printed, or None where the words ask for nothing."""
+    texts = {"blocks": lambda: BLOCKS_TEXT.format(*count(save)), "sessions": lambda: SESSIONS_TEXT.format(*count(session))}
+    if len(words) == 1 and words[0] in texts:
+        return texts[words[0]]()
+    if len(words) == 2 and words[0] in ("flash", "trial") and words[1] in ("2", "3"):
+        layout = int(words[1])
+        word = {2: "loses blocks", 3: "loses nothing"}[layout]
+        return FLASH_TEXT.format(*flash(layout), layout=layout, word=word) if words[0] == "flash" else TRIAL_TEXT.format(*trial(layout))
+    return None
+
+
 if __name__ == "__main__":
-    if sys.argv[1:] not in (["blocks"], ["sessions"]):
-        sys.exit("usage: counts.py blocks|sessions")
-    if sys.argv[1] == "blocks":
-        print(BLOCKS_TEXT.format(*count(save)), end="")
-    else:
-        print(SESSIONS_TEXT.format(*count(session)), end="")
+    text = text_of(sys.argv[1:])
+    if text is None:
+        sys.exit("usage: counts.py blocks|sessions\n       counts.py flash|trial LAYOUT")
+    print(text, end="")

@@ -1,8 +1,9 @@
 #include "disk.h"
 
+#include <stdio.h>
 #include <string.h>
 
-enum fate { LOST, KEPT, TORN, FATES };
+enum fate { LOST, KEPT, TORN, FATES, IN_TURN = FATES };
 
 void (*stop)(void);
 
@@ -16,16 +17,16 @@ static int begin(struct disk *disk) {
 
 static int read_sector(void *context, uint32_t sector, uint8_t out[SECTOR_BYTES]) {
     struct disk *disk = context;
-    if (begin(disk) || sector >= SECTORS) return 1;
+    if (begin(disk) || sector >= disk->sectors) return 1;
     memcpy(out, disk->now[sector], SECTOR_BYTES);
     return 0;
 }
 
 static int write_sector(void *context, uint32_t sector, const uint8_t bytes[SECTOR_BYTES]) {
     struct disk *disk = context;
-    if (begin(disk) || sector >= SECTORS) return 1;
+    if (begin(disk) || sector >= disk->sectors) return 1;
     memcpy(disk->now[sector], bytes, SECTOR_BYTES);
-    disk->unsynced[sector] = 1;
+    memset(disk->unsynced + sector / disk->in_unit * disk->in_unit, 1, disk->in_unit);
     return 0;
 }
 
@@ -45,23 +46,41 @@ struct silgwyrad_device device_of(struct disk *disk) {
     return (struct silgwyrad_device){.context = disk, .read = read_sector, .write = write_sector, .sync = sync_all};
 }
 
+int begins_paged(struct disk *disk, const char *file) {
+    FILE *image = fopen(file, "rb");
+    size_t had = image ? fread(disk->now, SECTOR_BYTES, PAGED_SECTORS, image) : 0;
+    if (image) fclose(image);
+    disk->sectors = PAGED_SECTORS;
+    disk->in_unit = IN_PAGE;
+    make_all_stay(disk);
+    return had == PAGED_SECTORS;
+}
+
+/* How many outcomes a unit has that isn't synced. */
+static int fates(const struct disk *disk) { return disk->in_unit == 1 ? FATES : FATES + 1; }
+
 long outcomes(const struct disk *disk) {
     long all = 1;
-    for (int k = 0; k < SECTORS; k++)
-        if (disk->unsynced[k]) all *= FATES;
+    for (uint32_t k = 0; k < disk->sectors; k += disk->in_unit)
+        if (disk->unsynced[k]) all *= fates(disk);
     return all;
 }
 
-static void tear(uint8_t bytes[SECTOR_BYTES], int k) {
-    for (int i = 0; i < SECTOR_BYTES; i++) bytes[i] = (uint8_t)(i * 37 + k + 11);
+static void tear(uint8_t bytes[SECTOR_BYTES], uint32_t k) {
+    for (uint32_t i = 0; i < SECTOR_BYTES; i++) bytes[i] = (uint8_t)(i * 37 + k + 11);
+}
+
+static void meet(struct disk *disk, uint32_t k, enum fate fate) {
+    if (fate == LOST) memcpy(disk->now[k], disk->synced[k], SECTOR_BYTES);
+    if (fate == TORN) tear(disk->now[k], k);
 }
 
 void settle(struct disk *disk, long outcome) {
-    for (int k = 0; k < SECTORS; k++) {
-        if (!disk->unsynced[k]) continue;
-        if (outcome % FATES == LOST) memcpy(disk->now[k], disk->synced[k], SECTOR_BYTES);
-        if (outcome % FATES == TORN) tear(disk->now[k], k);
-        outcome /= FATES;
+    for (uint32_t first = 0; first < disk->sectors; first += disk->in_unit) {
+        if (!disk->unsynced[first]) continue;
+        enum fate fate = (enum fate)(outcome % fates(disk));
+        for (uint32_t k = first; k < first + disk->in_unit; k++) meet(disk, k, fate == IN_TURN ? (enum fate)(k % FATES) : fate);
+        outcome /= fates(disk);
     }
     make_all_stay(disk);
     disk->calls = 0;

@@ -1,16 +1,23 @@
 #!/bin/bash
-# Prints how much code and data the library has, in all and for blocks alone, and how much of the stack and of the heap each call takes.
-# usage: measure.sh [FOLDER]          where library.sh has built the library; it is built where none is given
+# Prints how much code and data the library has, in all and for blocks alone, how much of the stack and of the heap each call takes, and what a step of
+# a session costs: on this machine, and on the boards whose compilers and emulators are installed. It ends with status 1 where a call takes more than
+# the pages say that it does.
+# usage: measure.sh [FOLDER]          where module.sh has built the library; it is built where it isn't there
 set -euo pipefail
 cd "$(dirname "$0")"
-folder=$(mktemp -d)
-trap 'rm -rf "$folder"' EXIT
 if [ $# -gt 0 ]; then
-    library=$1/libsilgwyrad.a
+    folder=$(mkdir -p "$1" && cd "$1" && pwd)
 else
-    ./library.sh "$folder" > "$folder/library.log" 2>&1 || { tail -n 20 "$folder/library.log"; exit 1; }
-    library=$folder/libsilgwyrad.a
+    folder=$(mktemp -d)
+    trap 'rm -rf "$folder"' EXIT
 fi
+if [ ! -f "$folder/module.ll" ]; then
+    ./module.sh "$folder" > "$folder/library.log" 2>&1 || { tail -n 20 "$folder/library.log"; exit 1; }
+fi
+
+# The most that docs/EMBEDDING.md says of each call's stack, and of a session's heap, in bytes.
+most_of_stack=24576
+most_of_heap=462000
 
 # What a link keeps of the library, by the linker's map: bytes of code, of constants, and of data.
 kept() {
@@ -21,18 +28,50 @@ import sys
 with open(sys.argv[1], encoding="utf-8") as file:
     text = file.read().partition("Linker script and memory map")[2]
 sizes = dict.fromkeys(("text", "rodata", "data", "bss"), 0)
-for name, size in re.findall(r"^ \.(\w+)\S*\s+0x\w+\s+(0x\w+) \S*libsilgwyrad\.a\(", text, re.M):
+for name, size in re.findall(r"^ \.(\w+)\S*\s+0x\w+\s+(0x\w+) \S*(?:libsilgwyrad\.a\(|library\.o$)", text, re.M):
     if name in sizes:
         sizes[name] += int(size, 16)
 print(" ".join(f"{name} {size}" for name, size in sizes.items()))
 END
 }
 
-gcc -O2 -ffunction-sections -Wl,--gc-sections -Wl,-Map="$folder/blocks.map" blocks.c disk.c host.c "$library" -o "$folder/blocks"
-gcc -O2 -ffunction-sections -Wl,--gc-sections -Wl,-Map="$folder/forth.map" forth.c host.c heap.c "$library" -o "$folder/forth"
+# Shows the rows of a measurement, and answers whether each call is within the limits. Where instructions of so many nanoseconds are the clock,
+# steps are told by these.
+shown() {
+    awk -v what="$1" -v nanoseconds="${2:-0}" -v stack=$most_of_stack -v heap=$most_of_heap '
+        $1 == "steps:" && nanoseconds { printf "%s: a step of a loop takes %.1f instructions\n", what, $4 * 1000000 / nanoseconds / $2; next }
+        $1 == "steps:" { printf "%s: %.0f million steps of a loop a second\n", what, $2 / $4 / 1000; next }
+        { print what ", " $0 }
+        / answer / { failed = 1 }
+        match($0, /stack [0-9]+ heap [0-9]+/) { split(substr($0, RSTART), it, " "); calls++; if (it[2] > stack || it[4] > heap) failed = 1 }
+        END {
+            if (failed || calls != 6) print what ": NOT WELL, at most " stack " bytes of stack and " heap " of heap are promised"
+            exit failed || calls != 6
+        }'
+}
+
+failed=0
+gcc -O2 -ffunction-sections -Wl,--gc-sections -Wl,-Map="$folder/blocks.map" blocks.c disk.c host.c "$folder/libsilgwyrad.a" -o "$folder/blocks"
+gcc -O2 -ffunction-sections -Wl,--gc-sections -Wl,-Map="$folder/forth.map" forth.c host.c heap.c "$folder/libsilgwyrad.a" -o "$folder/forth"
 # (-z now: the first call of a function would otherwise look it up on this stack)
-gcc -O2 -DARENA=1000000 -Wl,-z,now measure.c disk.c host.c heap.c "$library" -o "$folder/measure"
-echo "the archive:        $(size -t "$library" 2> /dev/null | awk 'END { print "text", $1, "data", $2, "bss", $3 }')"
-echo "blocks alone:       $(kept "$folder/blocks.map")"
-echo "blocks and session: $(kept "$folder/forth.map")"
-"$folder/measure"
+gcc -O2 -DARENA=1000000 -Wl,-z,now measure_here.c measure.c disk.c host.c heap.c "$folder/libsilgwyrad.a" -o "$folder/measure"
+echo "x86-64, blocks alone: $(kept "$folder/blocks.map")"
+echo "x86-64, blocks and session: $(kept "$folder/forth.map")"
+"$folder/measure" | shown x86-64 || failed=1
+
+for board in virt mps2; do
+    lacks=$(boards/board.sh lacks $board | tr '\n' ' ')
+    if [ -n "$lacks" ]; then
+        echo "$board isn't measured: not installed here is $lacks"
+        continue
+    fi
+    for sources in trial.c forth.c 'measure_board.c ../measure.c'; do
+        # shellcheck disable=SC2086
+        (cd boards && ./board.sh build $board "$folder" $sources)
+    done
+    echo "$board, blocks alone: $(kept "$folder/$board/trial.map")"
+    echo "$board, blocks and session: $(kept "$folder/$board/forth.map")"
+    truncate -s 1048576 "$folder/$board/disk.img"
+    timeout 300 boards/board.sh boot $board "$folder/$board/measure_board.elf" "$folder/$board" -icount shift=5 < /dev/null | tr -d '\r' | shown $board 32 || failed=1
+done
+exit $failed

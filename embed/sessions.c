@@ -1,6 +1,9 @@
 /* A session that saves two blocks with one number in both, stopped before each of its device calls, with every combination of lost,
  * kept and torn sectors. Each session is a process of its own, which ends where the power fails; the disk is memory that both
- * share. For Linux. */
+ * share. For Linux.
+ *
+ *     sessions                  over an image of layout 2, that it makes
+ *     sessions --paged IMAGE    over the image of layout 3 in a file, on a disk in units of eight: a write may spoil its whole page */
 #define _DEFAULT_SOURCE
 #include <stdio.h>
 #include <string.h>
@@ -37,7 +40,7 @@ static int run(int number) {
     pid_t child = fork();
     if (child == 0) {
         left_of_text = text;
-        _exit(silgwyrad_run(DEVICE, SECTORS, CONSOLE, CONSOLE, STEPS));
+        _exit(silgwyrad_run(DEVICE, disk->sectors, CONSOLE, CONSOLE, STEPS));
     }
     int status = 0;
     waitpid(child, &status, 0);
@@ -48,7 +51,7 @@ static int run(int number) {
 static int held(void) {
     uint8_t bytes[2][BLOCK_BYTES];
     for (uint16_t i = 0; i < 2; i++)
-        if (silgwyrad_read(DEVICE, SECTORS, (uint16_t)(i + 2), bytes[i], BLOCK_BYTES)) return REFUSED;
+        if (silgwyrad_read(DEVICE, disk->sectors, (uint16_t)(i + 2), bytes[i], BLOCK_BYTES)) return REFUSED;
     if (memcmp(bytes[0], bytes[1], BLOCK_BYTES)) return MIXED;
     for (int i = 1; i < BLOCK_BYTES; i++)
         if (bytes[0][i] != bytes[0][0]) return MIXED;
@@ -72,7 +75,15 @@ static int all_or_none(const struct disk *stopped, struct tally *tally) {
     return 1;
 }
 
-int main(void) {
+/* Makes the image, or begins with the one in a file. */
+static int begins(const char *paged) {
+    if (paged) return begins_paged(disk, paged);
+    disk->sectors = SECTORS;
+    disk->in_unit = 1;
+    return silgwyrad_format(DEVICE, disk->sectors, BLOCKS) == SILGWYRAD_DONE;
+}
+
+int main(int argc, char **argv) {
     static struct disk start, stopped;
     struct tally tally = {0};
     disk = mmap(NULL, sizeof *disk, PROT_READ | PROT_WRITE, MAP_SHARED | MAP_ANONYMOUS, -1, 0);
@@ -83,7 +94,8 @@ int main(void) {
     silgwyrad_use_device(DEVICE, &device);
     silgwyrad_use_console(CONSOLE, &console);
     disk->stop_at = disk->fail_at = NEVER;
-    if (silgwyrad_format(DEVICE, SECTORS, BLOCKS) || run(OLD) || held() != OLD) return printf("no start: NOT WELL\n"), 1;
+    if (!begins(argc == 3 && !strcmp(argv[1], "--paged") ? argv[2] : NULL) || run(OLD) || held() != OLD)
+        return printf("no start: NOT WELL\n"), 1;
     start = *disk;
     start.calls = 0;
     for (;; tally.stops++) {

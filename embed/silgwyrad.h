@@ -29,8 +29,8 @@
  *   one that a loss of power ended; one of silgwyrad_run leaves its memory taken.
  * - A device has the sectors that the call says, of 512 bytes each, and nothing else writes to them. To keep the disk model: a
  *   read gives what was last written. A write changes no other sector; until a sync has succeeded, a loss of power may leave
- *   any bytes in it, and so may a write that failed. A sync that answers 0 makes all stay that was written before it, also
- *   where an earlier sync failed. */
+ *   any bytes in it (with an image of layout 3, in each of the eight sectors of its page), and so may a write that failed. A
+ *   sync that answers 0 makes all stay that was written before it, also where an earlier sync failed. */
 #ifndef SILGWYRAD_H
 #define SILGWYRAD_H
 
@@ -58,6 +58,8 @@ enum silgwyrad_answer {
     SILGWYRAD_NO_MEMORY = 12     /* there is no memory for a session; nothing of the input was read */
 };
 
+/* The numbers of a call have the same bits on each target: a length has 64 also where a pointer has 32. */
+
 /* Makes an image of layout 2 of so many blank blocks, on a device of 3 + 4 * blocks sectors. A stop leaves the blank image, the old
  * one, or one without a label. The calls below take images of either layout. */
 uint8_t silgwyrad_format(int32_t device, uint32_t sectors, uint16_t blocks);
@@ -66,10 +68,11 @@ uint8_t silgwyrad_format(int32_t device, uint32_t sectors, uint16_t blocks);
 uint8_t silgwyrad_recover(int32_t device, uint32_t sectors);
 
 /* Reads the 1024 bytes of a block, as it was saved last. At any other answer than 0, out is as it was. n is 1024. */
-uint8_t silgwyrad_read(int32_t device, uint32_t sectors, uint16_t block, uint8_t *out, size_t n);
+uint8_t silgwyrad_read(int32_t device, uint32_t sectors, uint16_t block, uint8_t *out, uint64_t n);
 
 /* Saves `count` blocks, all or none, whenever it is stopped. n is 1024 for each. Of a block that stands twice the last bytes count. */
-uint8_t silgwyrad_save(int32_t device, uint32_t sectors, const uint16_t *blocks, size_t count, const uint8_t *bytes, size_t n);
+uint8_t silgwyrad_save(int32_t device, uint32_t sectors, const uint16_t *blocks, uint64_t count, const uint8_t *bytes,
+                       uint64_t n);
 
 /* Runs a session of a new Forth system over the image: the lines that `input` gives, to the end of the input, at most `steps`
  * steps a line, 1 or more. The replies are written to `output`, which may be the same console. */

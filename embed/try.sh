@@ -1,6 +1,7 @@
 #!/bin/bash
 # Builds the hosts in C over the library, with gcc's warnings and sanitizers, and runs them: on this machine, and on 64-bit ARM where a
-# compiler and an emulator for it are installed. It says what isn't installed. Its last line is `N passed, N failed`.
+# compiler and an emulator for it are installed. It looks at what the calls take of stack and memory (measure.sh). It says what isn't
+# installed. Firmware on boards is tried by boards/try.sh. Its last line is `N passed, N failed`.
 # usage: try.sh [FOLDER]          what is built goes to FOLDER, else to a folder that is removed again
 set -u
 cd "$(dirname "$0")" || exit 1
@@ -28,6 +29,7 @@ parts_of() {
         logger) echo logger.c host.c ;;
         forth) echo forth.c host.c heap.c ;;
         sessions) echo sessions.c disk.c host.c heap.c ;;
+        flash) echo flash.c host.c ;;
     esac
 }
 
@@ -58,6 +60,30 @@ run_hosts() {
     printf '1 BLOCK 8 + 9 SWAP ! UPDATE FLUSH\n' | $emulator "$in/forth" "$in/log" > "$in/edited.out"
     [ "$($emulator "$in/logger" "$in/log" | tail -n 1)" = '2: 9' ]
     told $? "$what: logger reads what forth saved"
+    ./image.py 2 32 "$in/host.img" 1=host.scr
+    ask_host $emulator "$in/forth" "$in/host.img"
+    told $? "$what: words of forth ask the host"
+}
+
+# A session whose words ask the host for the time, a delay and a lamp.
+ask_host() {
+    printf '%s\n' '1 LOAD' 'MS? 200 MS MS? SWAP - 199 > .' '1 BLINK' | ./host.py "$@" | cmp - expected/asked
+}
+
+# The hosts that lose power, over an image of layout 3 on a disk where a write may spoil the page of 4,096 bytes around it.
+run_paged() {
+    what=$1 in=$2 emulator=${3:-}
+    ./image.py 3 32 "$in/paged.img"
+    for host in blocks sessions; do
+        $emulator "$in/$host" --paged "$in/paged.img" > "$in/$host.paged"
+        told $? "$what: $host over pages"
+        ./paged.py $host | diff - "$in/$host.paged"
+        told $? "$what: the counts of $host over pages are those that paged.py computes"
+    done
+    $emulator "$in/flash" "$in/paged.img" | diff <(./counts.py flash 3) -
+    told $? "$what: blocks on a flash, by layout 3"
+    $emulator "$in/flash" | diff <(./counts.py flash 2) -
+    told $? "$what: blocks on a flash, by layout 2, which loses some"
 }
 
 # A logger that is killed while it adds readings: those that are there are the first ones, each whole.
@@ -78,11 +104,12 @@ kill_logger() {
 try_all() {
     what=$1 compiler=$2 flags=$3 library=$4 in=$5 emulator=${6:-}
     mkdir -p "$in"
-    for host in blocks sessions forth logger; do
+    for host in blocks sessions flash forth logger; do
         build "$compiler" "$flags" "$library" $host "$in/$host"
         told $? "$what: $host is built"
     done
     run_hosts "$what" "$in" "$emulator"
+    run_paged "$what" "$in" "$emulator"
 }
 
 if ! command -v gcc > /dev/null || ! command -v objcopy > /dev/null; then
@@ -96,7 +123,7 @@ else
     folder=$(mktemp -d)
     trap 'rm -rf "$folder"' EXIT
 fi
-if ! ./library.sh "$folder" > "$folder/library.log" 2>&1; then
+if ! ./module.sh "$folder" > "$folder/library.log" 2>&1; then
     tail -n 20 "$folder/library.log"
     told 1 'the library is built'
     finish
@@ -117,6 +144,12 @@ else
 fi
 try_all plain gcc -O2 "$folder/libsilgwyrad.a" "$folder/plain"
 kill_logger plain "$folder/plain"
+if [ -x ../crates/forth83/out/forth83 ]; then
+    ask_host ../crates/forth83/out/forth83 run "$folder/plain/host.img"
+    told $? 'words of the program ask the host'
+else
+    echo 'crates/forth83/out/forth83 is not built: its words do not ask the host'
+fi
 try_all sanitized gcc "$sanitizers" "$folder/libsilgwyrad.a" "$folder/sanitized"
 if command -v aarch64-linux-gnu-gcc > /dev/null && command -v qemu-aarch64 > /dev/null; then
     mkdir -p "$folder/arm"
@@ -130,4 +163,6 @@ if command -v aarch64-linux-gnu-gcc > /dev/null && command -v qemu-aarch64 > /de
 else
     echo 'aarch64-linux-gnu-gcc and qemu-aarch64 are not both installed here: 64-bit ARM is not tried'
 fi
+./measure.sh "$folder"
+told $? 'what the calls take is within the limits'
 finish

@@ -1,0 +1,103 @@
+#!/bin/bash
+# Firmware in C over the library: builds it for a board, and boots it in an emulator. The boards are virt (RISC-V 64), mps2 (Cortex-M3) and
+# lm3s (Cortex-M3 with 64 KB of RAM, for blocks alone).
+# usage: board.sh lacks BOARD                     prints what isn't installed here of what the board wants
+#        board.sh library BOARD FOLDER            compiles the library for the board's processor, in the folder where module.sh has built it; it is
+#                                                 built where it isn't there
+#        board.sh build BOARD FOLDER SOURCE.c ..  so, and makes FOLDER/BOARD/SOURCE.elf, named by the first source
+#        board.sh boot BOARD FIRMWARE.elf FOLDER  with the console on standard input and output; the disk is disk.img in the folder. More words
+#                                                 go to the emulator
+#        board.sh run BOARD FOLDER SOURCE.c ..    builds it and boots it, with a disk of zeros of 1 MB where FOLDER/BOARD has none yet
+set -euo pipefail
+here=$(cd "$(dirname "$0")" && pwd)
+usage() {
+    sed -n 's/^# usage: //p; s/^#        //p' "$0" >&2
+    exit 2
+}
+[ $# -ge 2 ] || usage
+act=$1 board=$2
+case $board in
+    virt)
+        processor=riscv64 tools=riscv64-unknown-elf emulator=qemu-system-riscv64 drivers=virt.c
+        compiled_for='-march=rv64imac_zicsr -mabi=lp64 -mcmodel=medany'
+        ;;
+    mps2 | lm3s)
+        processor=cortex-m3 tools=arm-none-eabi emulator=qemu-system-arm drivers="cortex.c $board.c"
+        compiled_for='-mcpu=cortex-m3 -mthumb'
+        ;;
+    *) usage ;;
+esac
+warnings='-std=c11 -Wall -Wextra -Wpedantic -Wshadow -Wconversion -Wstrict-prototypes -Wmissing-prototypes -Wcast-qual -Wundef -Werror'
+# (a loop of memory.c must not become a call of the function that it is)
+compiled="-Os -g -ffreestanding -fno-tree-loop-distribute-patterns -ffunction-sections -fdata-sections -DARENA=500000"
+linked='-nostdlib -Wl,--gc-sections -Wl,--no-warn-rwx-segments -Wl,-z,noexecstack'
+
+# The library's module as an object of the board's processor, with the names that host.c has for the host's two functions.
+make_library() {
+    local folder=$1 kit
+    kit=$(dirname "$(rt doc)")
+    [ -f "$folder/module.ll" ] || "$here/../module.sh" "$folder" >&2
+    mkdir -p "$folder/$processor"
+    [ "$folder/$processor/library.o" -ot "$folder/module.ll" ] || return 0
+    "$here/../retarget.py" $processor < "$folder/module.ll" > "$folder/$processor/module.ll"
+    # shellcheck disable=SC2046
+    "$kit/toolchain/bin/clang" $("$here/../retarget.py" --flags $processor) --no-default-config -Wno-override-module -ffunction-sections \
+        -fdata-sections -Os -c -x ir "$folder/$processor/module.ll" -o "$folder/$processor/named.o"
+    "$tools-objcopy" --redefine-sym read=silgwyrad_host_read --redefine-sym write=silgwyrad_host_write "$folder/$processor/named.o" \
+        "$folder/$processor/library.o"
+}
+
+make_firmware() {
+    local folder=$1 name
+    shift
+    name=$(basename "$1" .c)
+    make_library "$folder"
+    mkdir -p "$folder/$board"
+    # shellcheck disable=SC2086
+    (cd "$here" && "$tools-gcc" $warnings $compiled $compiled_for $linked -T $board.ld -I .. -I . start.c memory.c $drivers console.c image.c ../host.c \
+        ../heap.c "$@" "$folder/$processor/library.o" -lgcc -Wl,-Map="$folder/$board/$name.map" -o "$folder/$board/$name.elf")
+}
+
+boot() {
+    local firmware=$1 folder=$2
+    shift 2
+    local words=(-nographic -monitor none -serial stdio -kernel "$firmware")
+    local disk='file=disk.img,format=raw,cache=writeback' semihosting='enable=on,target=native'
+    case $board in
+        virt) words+=(-M virt -m 16M -bios none -global "virtio-mmio.force-legacy=false" -drive "$disk,if=none,id=disk" -device "virtio-blk-device,drive=disk") ;;
+        mps2) words+=(-M mps2-an385 -semihosting-config "$semihosting") ;;
+        lm3s) words+=(-M lm3s6965evb -semihosting-config "$semihosting" -drive "$disk,if=sd") ;;
+    esac
+    cd "$folder"
+    exec "$emulator" "${words[@]}" "$@"
+}
+
+case $act in
+    lacks)
+        for it in "$tools-gcc" "$emulator"; do command -v "$it" > /dev/null || echo "$it"; done
+        ;;
+    library)
+        [ $# = 3 ] || usage
+        make_library "$3"
+        ;;
+    build)
+        [ $# -ge 4 ] || usage
+        folder=$(mkdir -p "$3" && cd "$3" && pwd)
+        shift 3
+        mapfile -t sources < <(realpath -- "$@")
+        make_firmware "$folder" "${sources[@]}"
+        ;;
+    run)
+        [ $# -ge 4 ] || usage
+        "$0" build "$board" "${@:3}"
+        [ -f "$3/$board/disk.img" ] || truncate -s 1M "$3/$board/disk.img"
+        exec "$0" boot "$board" "$3/$board/$(basename "$4" .c).elf" "$3/$board"
+        ;;
+    boot)
+        [ $# -ge 4 ] || usage
+        firmware=$(realpath "$3") folder=$4
+        shift 4
+        boot "$firmware" "$folder" "$@"
+        ;;
+    *) usage ;;
+esac
