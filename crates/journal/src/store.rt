@@ -2,14 +2,22 @@
 ghost use Rattle.std.specs.Prelude.{◌≡◌, ◌≢◌, ◌==◌, ◌||◌, ◌<◌, ◌≤◌, ◌+◌, ◌*◌, ◌↔◌, ℕ, true, false, Some, length, replicate, IsTrue, OnOk, OnErr, IsOk, IsErr, IsErrOf, MatchResult};
 ghost use Rattle.sector_disk.specs.Disk.{Image, MayLeave};
 ghost use Rattle.journal.specs.Clean.{IsClean};
-ghost use Rattle.journal.specs.Images.{meaning, Means};
-ghost use Rattle.journal.specs.Layout.{fewest_blocks, most_blocks, listed, count_listed, sectors_for};
+ghost use Rattle.journal.specs.Costs.{each_reads, each_writes, more_writes, save_syncs};
+ghost use Rattle.journal.specs.Images.{meaning};
+ghost use Rattle.journal.specs.Layout as journal_layout;
+ghost use Rattle.journal.specs.Layout.{fewest_blocks, most_blocks, listed, count_listed};
 ghost use Rattle.journal.specs.Maps.{Maps, contents, latest, fresh, spilled, committed, shut};
-ghost use Rattle.journal.specs.Steps.{IsSound, merged};
+ghost use Rattle.journal.specs.PageClean as pages_clean;
+ghost use Rattle.journal.specs.PageImages as pages_images;
+ghost use Rattle.journal.specs.PageLayout as pages_layout;
+ghost use Rattle.journal.specs.Suits.{suits};
+ghost use Rattle.journal.specs.Technique.{sectors_for, latest_of, IsSound};
+ghost use Rattle.journal.specs.declared.technique.NamedRecord.{NamedRecord};
+ghost use Rattle.journal.specs.declared.technique.Technique.TheVariants.{Journal, Pages};
 
-use crate::commit::save;
-use crate::layout::{BlockCount, home_sector, is_listed, slot_sector};
-use crate::pairs::{read_pair, write_pair};
+use crate::layout::{BlockCount, is_listed};
+use crate::pages::layout::list;
+use crate::technique::{NamedRecord, Technique};
 use sector_disk::SectorDevice;
 use thiserror::Error;
 
@@ -22,37 +30,42 @@ pub enum StoreFault {
     Closed = 2,
 }
 
-/// Blocks of 1,024 bytes on a device. A block is spilled to a slot of its own, and a commit makes all spilled blocks
-/// the saved ones at once: a stop of the device at any moment leaves either all of them or none.
+/// Blocks of 1,024 bytes on a device, by layout 2 or 3. A block is spilled to a place of its own, and a commit makes
+/// all spilled blocks the saved ones at once: a stop of the device at any moment leaves either all of them or none.
+/// Rule: IMAGE, A save; IMAGE, Layout 3, A save.
 #[derive(Drop)]
 pub struct Store<D: SectorDevice> {
     device: D,
     blocks: BlockCount,
-    // the bits of the blocks spilled since the last save, with zeros where a commit record has its digest
+    technique: Technique,
+    // the bits of the blocks spilled since the last save, with zeros where a record has its digest or sum
     pending: [u8; 512],
     closed: bool,
     // the block whose text was read last, and its bytes, as long as nothing was written since
     kept: Option<u16>,
     text: [u8; 1024],
-    ghost size: { D.sector_count device ≡ sectors_for blocks.number },
+    ghost size: { D.sector_count device ≡ sectors_for technique blocks.number },
     ghost clear: { (b : ℕ) → blocks.number ≤ b → listed pending b ≡ false },
-    ghost sound: { IsTrue (D.keeps_sectors device) → closed ≡ false → IsSound blocks.number (D.disk device) },
-    ghost keeps: { IsTrue (D.keeps_sectors device) → closed ≡ false
-        → (b : ℕ) → kept ≡ Some b → text ≡ merged blocks.number pending (D.disk device).content b },
+    ghost sound: { IsTrue (suits D.SectorDevice device) → closed ≡ false
+        → IsSound technique blocks.number (D.disk device) },
+    ghost keeps: { IsTrue (suits D.SectorDevice device) → closed ≡ false
+        → (b : ℕ) → kept ≡ Some b → text ≡ latest_of technique blocks.number pending (D.disk device).content b },
 }
 
 impl<D: SectorDevice> Store<D> {
-    ghost use Rattle.journal.specs.Store.{device_of, disk_of, blocks_of, closed_of, text_of, kept_of, is_pending, pending_count, SamePending, HasRecordOf, StandsFor, Continues, DeviceFailed, DeviceWentWell, DeviceBegins, DeviceReads, KeepsSaved, SavesAllOrNone, OpensGateWhole, AddsNothing};
+    ghost use Rattle.journal.specs.Resting.{HasRested, StandsAsRested};
+    ghost use Rattle.journal.specs.Store.{device_of, disk_of, blocks_of, technique_of, sectors_of, closed_of, text_of, kept_of, is_text_of, is_pending, by_older, pending_count, SamePending, MeansBy, HasRecordOf, NamesLatest, StandsFor, Continues, KeepsModel, DeviceFailed, DeviceWentWell, DeviceBegins, DeviceReads, KeepsSaved, SavesAllOrNone, OpensGateWhole, AddsNothing};
 
-    /// A store of `blocks` blocks, 32 to 3,840, over an image with a good label and a closed gate, of which nothing is
-    /// unsynced. Makes no device call.
+    /// A store of `blocks` blocks, 32 to 3,840, over an image of layout 2 with a good label and a closed gate, of which
+    /// nothing is unsynced. Makes no device call.
     pub fn adopt(device: D, blocks: u16) -> Self
         requires many { fewest_blocks ≤ blocks }
         requires few { blocks ≤ most_blocks }
-        requires size { D.sector_count device ≡ sectors_for blocks }
+        requires size { D.sector_count device ≡ journal_layout.sectors_for blocks }
         requires clean { IsTrue (D.keeps_sectors device) → IsClean blocks (D.disk device) }
         ensures device { device_of result ≡ device }
         ensures blocks { blocks_of result ≡ blocks }
+        ensures technique { technique_of result ≡ Journal }
         ensures closed { closed_of result ≡ false }
         ensures pending { (b : ℕ) → is_pending result b ≡ false }
         ensures state { IsTrue (D.keeps_sectors device)
@@ -61,11 +74,76 @@ impl<D: SectorDevice> Store<D> {
         Store {
             device,
             blocks: BlockCount { number: blocks },
-            pending: empty_record(),
+            technique: Technique::Journal,
+            pending: empty_record(), // nothing is spilled yet
             closed: false,
             kept: None,
             text: [0; 1024],
         }
+    }
+
+    /// A store of `blocks` blocks, 32 to 3,840, over an image of layout 3 with a good label that isn't damaged, of
+    /// which nothing is unsynced. Its gate is open or not, as is told, and names the record `listing`. Makes no device
+    /// call.
+    /// Rule: IMAGE, Layout 3.
+    pub fn adopt_pages(device: D, blocks: u16, is_open: bool, listing: &[u8; 512]) -> Self
+        requires many { fewest_blocks ≤ blocks }
+        requires few { blocks ≤ most_blocks }
+        requires size { D.sector_count device ≡ pages_layout.sectors_for blocks }
+        requires clean { IsTrue (D.keeps_model device) → pages_clean.IsClean blocks is_open listing.now (D.disk device) }
+        ensures device { device_of result ≡ device }
+        ensures blocks { blocks_of result ≡ blocks }
+        ensures technique { technique_of result ≡ Pages (record { is_open = is_open; listing = listing.now }) }
+        ensures closed { closed_of result ≡ false }
+        ensures pending { (b : ℕ) → is_pending result b ≡ false }
+        ensures state { IsTrue (D.keeps_model device)
+            → StandsFor result (fresh (pages_images.meaning blocks (D.disk device).content)) }
+    {
+        Store {
+            device,
+            blocks: BlockCount { number: blocks },
+            technique: Technique::Pages(NamedRecord {
+                is_open,
+                listing: *listing,
+            }),
+            pending: empty_record(), // as over layout 2
+            closed: false,
+            kept: None,
+            text: [0; 1024],
+        }
+    }
+
+    /// A store of `blocks` blocks, 32 to 3,840, over a device that an open store of so many blocks gave back, with the
+    /// technique that it had then and nothing spilled since its last commit. It goes on as that one would have. Makes
+    /// no device call.
+    pub fn resume(device: D, blocks: u16, technique: Technique) -> Self
+        requires many { fewest_blocks ≤ blocks }
+        requires few { blocks ≤ most_blocks }
+        requires size { D.sector_count device ≡ sectors_for technique blocks }
+        requires rested { IsTrue (suits D.SectorDevice device) → HasRested D.SectorDevice device blocks technique }
+        ensures device { device_of result ≡ device }
+        ensures blocks { blocks_of result ≡ blocks }
+        ensures technique { technique_of result ≡ technique }
+        ensures closed { closed_of result ≡ false }
+        ensures pending { (b : ℕ) → is_pending result b ≡ false }
+        ensures state { StandsAsRested D.SectorDevice device blocks technique result }
+    {
+        Store {
+            device,
+            blocks: BlockCount { number: blocks },
+            technique,
+            pending: empty_record(), // a store that rests has nothing pending
+            closed: false,
+            kept: None,
+            text: [0; 1024],
+        }
+    }
+
+    /// How its blocks are saved: by layout 2, or by layout 3 with the record that the gate names.
+    pub fn technique(&self) -> &Technique
+        ensures { result.now ≡ technique_of self.now }
+    {
+        &self.technique
     }
 
     /// How many blocks there are, from 32 to 3,840.
@@ -91,13 +169,15 @@ impl<D: SectorDevice> Store<D> {
     /// The device, as it is. What was spilled and not committed is given up.
     pub fn into_device(self) -> D
         ensures device { result ≡ device_of self }
-        ensures sectors { D.sector_count result ≡ sectors_for (blocks_of self) }
+        ensures sectors { D.sector_count result ≡ sectors_of self }
     {
         let Store { device, .. } = self;
         device
     }
 
-    /// Reads block `b` as it was spilled last, or else as it was saved. A fault changes nothing.
+    /// Reads the 1,024 bytes of block `b`, as it was spilled last, or else as it was saved. `Closed` where the store is
+    /// closed, with no device call, and `Device` where the device failed. At either neither the blocks nor `out`
+    /// change.
     pub fn read_block(&mut self, b: u16, out: &mut [u8]) -> Result<(), StoreFault>
         requires below { b < blocks_of self.old }
         requires room { length out.old ≡ 1024 }
@@ -115,6 +195,7 @@ impl<D: SectorDevice> Store<D> {
         ensures stops { KeepsSaved self.old self.new }
         ensures closed_stops { AddsNothing self.old self.new }
         ensures continues { Continues self.old self.new }
+        ensures model { KeepsModel self.old self.new }
         ensures pending { SamePending self.old self.new }
         ensures begins { DeviceBegins self.old self.new 0 0 }
         ensures reads { DeviceReads self.old self.new 2 }
@@ -123,20 +204,20 @@ impl<D: SectorDevice> Store<D> {
         if self.closed {
             return Err(StoreFault::Closed);
         }
-        let k = if is_listed(&self.pending, b) {
-            slot_sector(b)
-        } else {
-            home_sector(self.blocks, b)
-        };
         self.kept = None; // a block that is edited has no second copy here
-        match read_pair(&mut self.device, k, out) {
+        match self
+            .technique
+            .read(&mut self.device, self.blocks, &self.pending, b, out)
+        {
             Ok(()) => Ok(()),
             Err(_) => Err(StoreFault::Device),
         }
     }
 
-    /// Reads block `b` as `read_block` does, and keeps its bytes, which `text` lends. While they are kept no call of the
-    /// device is made for them: until another text is read, a block by `read_block`, or anything is written.
+    /// Reads block `b` as `read_block` does, and keeps its bytes, which `text` lends. While they are kept no call of
+    /// the device is made for them: until another text is read, a block by `read_block`, or anything is written.
+    /// `Closed` and `Device` come as there; a closed store gives no text that it kept.
+    /// Rule: DECISIONS, The device and the image; LANGUAGE, Blocks.
     pub fn read_text(&mut self, b: u16) -> Result<(), StoreFault>
         requires below { b < blocks_of self.old }
 
@@ -152,6 +233,7 @@ impl<D: SectorDevice> Store<D> {
         ensures stops { KeepsSaved self.old self.new }
         ensures closed_stops { AddsNothing self.old self.new }
         ensures continues { Continues self.old self.new }
+        ensures model { KeepsModel self.old self.new }
         ensures pending { SamePending self.old self.new }
         ensures begins { DeviceBegins self.old self.new 0 0 }
         ensures reads { DeviceReads self.old self.new 2 }
@@ -166,12 +248,13 @@ impl<D: SectorDevice> Store<D> {
         if self.kept == Some(b) {
             return Ok(());
         }
-        let k = if is_listed(&self.pending, b) {
-            slot_sector(b)
-        } else {
-            home_sector(self.blocks, b)
-        };
-        match read_pair(&mut self.device, k, &mut self.text) {
+        match self.technique.read(
+            &mut self.device,
+            self.blocks,
+            &self.pending,
+            b,
+            &mut self.text,
+        ) {
             Ok(()) => {
                 self.kept = Some(b);
                 Ok(())
@@ -181,6 +264,7 @@ impl<D: SectorDevice> Store<D> {
     }
 
     /// The bytes that `read_text` read last: those of its block until the next call that reads or writes.
+    /// Rule: DECISIONS, The device and the image.
     #[inline]
     pub fn text(&self) -> &[u8; 1024]
         ensures { result.now ≡ text_of self.now }
@@ -188,7 +272,20 @@ impl<D: SectorDevice> Store<D> {
         &self.text
     }
 
-    /// Writes block `b` to its slot. It is saved by the next commit. A device fault closes the store.
+    /// Whether the bytes that `text` lends are those of block `b`.
+    /// Rule: DECISIONS, The device and the image.
+    #[inline]
+    pub fn keeps_text_of(&self, b: u16) -> bool
+        ensures { result ≡ is_text_of (kept_of self.now) b }
+    {
+        match self.kept {
+            Some(kept) => kept == b,
+            None => false,
+        }
+    }
+
+    /// Writes the 1,024 bytes of block `b` where no save has it; the next commit saves it. `Closed` where the store is
+    /// closed, with no device call. `Device` where the device failed: that closes the store.
     pub fn spill(&mut self, b: u16, bytes: &[u8]) -> Result<(), StoreFault>
         requires below { b < blocks_of self.old }
         requires whole { length bytes.now ≡ 1024 }
@@ -207,6 +304,7 @@ impl<D: SectorDevice> Store<D> {
         ensures stops { KeepsSaved self.old self.new }
         ensures closed_stops { AddsNothing self.old self.new }
         ensures continues { Continues self.old self.new }
+        ensures model { KeepsModel self.old self.new }
         ensures pending { MatchResult result
             (λ _. (a : ℕ) → is_pending self.new a ≡ ((a == b) || is_pending self.old a))
             (λ _. SamePending self.old self.new) }
@@ -218,9 +316,12 @@ impl<D: SectorDevice> Store<D> {
             return Err(StoreFault::Closed);
         }
         self.kept = None; // it may be this block's text
-        match write_pair(&mut self.device, slot_sector(b), bytes) {
+        match self
+            .technique
+            .write(&mut self.device, self.blocks, b, bytes)
+        {
             Ok(()) => {
-                list_block(&mut self.pending, b);
+                list(&mut self.pending, b);
                 Ok(())
             }
             Err(_) => {
@@ -230,8 +331,9 @@ impl<D: SectorDevice> Store<D> {
         }
     }
 
-    /// Saves all blocks spilled since the last commit, or none of them. With nothing spilled it makes no device call. A
-    /// device fault closes the store, and the saved blocks are then all the new ones or all the old ones.
+    /// Saves all blocks spilled since the last commit, or none of them. With nothing spilled it makes no device call.
+    /// `Closed` where the store is closed, also with nothing spilled. `Device` where the device failed: that closes the
+    /// store, and the saved blocks are then all the new ones or all the old ones.
     pub fn commit(&mut self) -> Result<(), StoreFault>
         ensures ok { (m : Maps) → StandsFor self.old m → OnOk result (StandsFor self.new (committed m)) }
         ensures fault { (m : Maps) → StandsFor self.old m
@@ -247,23 +349,32 @@ impl<D: SectorDevice> Store<D> {
             → pending_count self.old ≡ 0 → device_of self.new ≡ device_of self.old }
 
         ensures stops { SavesAllOrNone self.old self.new }
-        ensures gate { OpensGateWhole self.old self.new }
         // Once it has returned, a stop leaves the new blocks alone.
         ensures after { (m : Maps) → StandsFor self.old m
-            → OnOk result ((image : Image) → MayLeave (disk_of self.new) image → Means (latest m) image) }
+            → OnOk result ((image : Image) → MayLeave (disk_of self.new) image → MeansBy self.new (latest m) image) }
         ensures closed_stops { AddsNothing self.old self.new }
         ensures continues { Continues self.old self.new }
+        ensures model { KeepsModel self.old self.new }
         ensures pending { MatchResult result (λ _. (a : ℕ)
             → is_pending self.new a ≡ false) (λ _. SamePending self.old self.new) }
-        // The record on the device lists the blocks that were pending, and no bit past the last block, and its digest is that of
+        // By layout 2 the gate is open and whole wherever homes are half done.
+        ensures gate { technique_of self.old ≡ Journal → OpensGateWhole self.old self.new }
+        // The record on the device lists then the blocks that were pending, and no bit past the last block, and its digest is that of
         // these bits and their slots.
-        ensures recorded { IsTrue (D.keeps_sectors (device_of self.old)) → pending_count self.old ≢ 0
+        ensures recorded { technique_of self.old ≡ Journal → IsTrue (D.keeps_sectors (device_of self.old)) → pending_count self.old ≢ 0
             → OnOk result (HasRecordOf (blocks_of self.old) (is_pending self.old) (disk_of self.new).content) }
         // The gate is closed by zeros.
-        ensures shut_gate { IsTrue (D.keeps_sectors (device_of self.old)) → pending_count self.old ≢ 0
+        ensures shut_gate { technique_of self.old ≡ Journal → IsTrue (D.keeps_sectors (device_of self.old)) → pending_count self.old ≢ 0
             → OnOk result ((disk_of self.new).content 1 ≡ replicate 512 0) }
-        ensures begins { DeviceBegins self.old self.new (2 * pending_count self.old + 3) 4 }
-        ensures reads { DeviceReads self.old self.new (4 * pending_count self.old) }
+        // By layout 3 the gate names the other record, which lists the other place of each block that was pending.
+        ensures named { (named : NamedRecord) → technique_of self.old ≡ Pages named
+            → IsTrue (D.keeps_model (device_of self.old)) → pending_count self.old ≢ 0
+            → OnOk result (NamesLatest (blocks_of self.old) named.is_open named.listing self.old.pending (disk_of self.new).content) }
+        // So many are what its layout takes: 2 writes for each block and 3 more, 4 syncs and 4 reads for each by layout 2; by layout 3
+        // a write for each block and 2 more, 2 syncs and 3 reads for each.
+        ensures begins { DeviceBegins self.old self.new
+            (each_writes (by_older self.old) * pending_count self.old + more_writes (by_older self.old)) (save_syncs (by_older self.old)) }
+        ensures reads { DeviceReads self.old self.new (each_reads (by_older self.old) * pending_count self.old) }
     {
         if self.closed {
             return Err(StoreFault::Closed); // even where nothing is pending
@@ -272,7 +383,10 @@ impl<D: SectorDevice> Store<D> {
             return Ok(());
         }
         self.kept = None; // its bytes go to another place
-        match save(&mut self.device, self.blocks, &self.pending) {
+        match self
+            .technique
+            .save(&mut self.device, self.blocks, &self.pending)
+        {
             Ok(()) => {
                 self.pending = empty_record();
                 Ok(())
@@ -285,23 +399,14 @@ impl<D: SectorDevice> Store<D> {
     }
 }
 
-// A commit record that lists no block.
+// A record that lists no block.
 fn empty_record() -> [u8; 512]
     ensures { (b : ℕ) → listed result b ≡ false }
 {
     [0; 512]
 }
 
-// Adds a block to a commit record.
-fn list_block(bytes: &mut [u8; 512], b: u16)
-    requires { b < most_blocks }
-    ensures listed { listed bytes.new b ≡ true }
-    ensures others { (a : ℕ) → a ≢ b → listed bytes.new a ≡ listed bytes.old a }
-{
-    bytes[b as usize / 8] |= 1 << (b % 8);
-}
-
-// How many of the first blocks a commit record lists.
+// How many of the first blocks a record lists.
 fn count_blocks(bytes: &[u8; 512], blocks: BlockCount) -> u16
     ensures { result ≡ count_listed bytes.now blocks.number }
 {

@@ -9,17 +9,18 @@ use crate::{Counts, DeviceFault, MemoryDisk, SectorDevice};
 /// How many sectors a unit has.
 const UNIT: u32 = 8;
 
-/// A disk in memory whose sectors lie in units of eight, each from a multiple of eight on. A write touches each sector of its
-/// unit: until a sync, a stop may leave any bytes in them. No call fails.
+/// A disk in memory whose sectors lie in units of eight, each from a multiple of eight on. A write touches each sector
+/// of its unit: until a sync, a stop may leave any bytes in them. No call fails.
 ///
 /// So it keeps the disk model, and not by sectors: a write spoils more than its own sector.
+/// Rule: IMAGE, The device.
 #[derive(Drop)]
 pub struct Coarse {
     device: MemoryDisk,
 }
 
 impl Coarse {
-    /// The disk, with its sectors in units.
+    /// The disk, with its sectors in units of eight. Nothing is asked of it.
     pub fn new(device: MemoryDisk) -> Coarse
         ensures device { coarse_device_of result ≡ device }
         ensures sectors { ⟦<Coarse as SectorDevice>⟧.sector_count result ≡ size device }
@@ -30,7 +31,7 @@ impl Coarse {
         Coarse { device }
     }
 
-    /// The disk within. A stop may leave of it what it may leave of this one.
+    /// The disk within, as it is. A stop may leave of it what it may leave of this one.
     pub fn into_device(self) -> MemoryDisk
         ensures device { result ≡ coarse_device_of self }
         ensures left { (c : Image) → MayLeave (held result) c ↔ MayLeave (⟦<Coarse as SectorDevice>⟧.disk self) c }

@@ -61,18 +61,20 @@ pub(crate) fn count_failure<E: Drop>(
 /// A device of sectors of 512 bytes, numbered from 0. Each call is one step, before, within or after which the
 /// device may stop, as at a loss of power.
 ///
-/// The clauses with the premise `keeps_model` say what a call does to the disk, and bind only a device that keeps
-/// the disk model. All others bind every device: sectors, model and units never change, time goes on, a stop within a
-/// call leaves what one before it or after it may leave, each call is counted, and each that fails is counted as a failure.
+/// The clauses with the premise `keeps_model` say what a call does to the disk, and bind only a device that keeps the
+/// disk model. All others bind every device: sectors, model and units never change, time goes on, a stop within a call
+/// leaves what one before it or after it may leave, each call is counted, and each that fails is counted as a failure.
 ///
 /// A device may know its whole history, as `Recorded` does, or the present alone, as `MemoryDisk` does: both meet
 /// all clauses, so what is proved over any device speaks of each moment within a call.
+/// Rule: IMAGE, The device.
 pub trait SectorDevice {
     /// How many sectors it has.
     ghost sector_count: { Self → ℕ };
 
     /// Whether it keeps the disk model, which is known of a disk in memory. Of a file no contract can know it, so a
-    /// file says false and nothing is said of its bytes. A write may spoil its unit, which lies in a page of eight sectors.
+    /// file says false and nothing is said of its bytes. A write may spoil its unit, which lies in a page of eight
+    /// sectors.
     ghost keeps_model: { Self → Bool };
 
     /// Whether it keeps the disk model by sectors: a write spoils its own sector alone.
@@ -93,12 +95,12 @@ pub trait SectorDevice {
     /// How many calls were begun.
     ghost counts: { Self → Counts };
 
-    /// How many sectors it has. The number never changes.
+    /// How many sectors of 512 bytes it has, from 0 to 2^32 - 1. The number never changes.
     fn sectors(&self) -> u32
         ensures { result ≡ sector_count self.now };
 
-    /// Reads sector `k`, which is below `sectors()`. After a failed read the device is as it was, and `out` holds any
-    /// bytes.
+    /// Reads the 512 bytes of sector `k`, which is below `sectors()`. `DeviceFault` where the device failed: it is as
+    /// it was then, and `out` holds any bytes.
     fn read(&mut self, k: u32, out: &mut [u8; 512]) -> Result<(), DeviceFault>
         requires { k < sector_count self.old }
         ensures bytes { IsTrue (keeps_model self.old) → OnOk result (out.new ≡ (disk self.old).content k) }
@@ -111,8 +113,9 @@ pub trait SectorDevice {
         ensures failures { CountsFailure (failures self.old) (failures self.new) result }
         ensures counts { counts self.new ≡ with_read (counts self.old) };
 
-    /// Writes sector `k`, which is below `sectors()`. Until a sync succeeds, a stop may leave any bytes in its unit. A
-    /// write that fails may have been done, with any bytes, or not at all.
+    /// Writes the 512 bytes of sector `k`, which is below `sectors()`. Until a sync succeeds, a stop may leave any
+    /// bytes in its unit. `DeviceFault` where the device failed: the write may have been done, with any bytes, or not
+    /// at all.
     fn write(&mut self, k: u32, bytes: &[u8; 512]) -> Result<(), DeviceFault>
         requires { k < sector_count self.old }
         ensures ok { IsTrue (keeps_model self.old) → OnOk result (disk self.new ≡ written (disk self.old) k bytes.now) }
@@ -125,8 +128,8 @@ pub trait SectorDevice {
         ensures failures { CountsFailure (failures self.old) (failures self.new) result }
         ensures counts { counts self.new ≡ with_write (counts self.old) };
 
-    /// Makes all that was written stay. A failed sync settles nothing: a stop may leave what it might have left
-    /// before, and a read may give other bytes of a sector that isn't settled.
+    /// Makes all that was written stay. `DeviceFault` where the device failed: nothing is settled, a stop may leave
+    /// what it might have left before, and a read may give other bytes of a sector that isn't settled.
     fn sync(&mut self) -> Result<(), DeviceFault>
         ensures ok { IsTrue (keeps_model self.old) → OnOk result (disk self.new ≡ settled (disk self.old)) }
         ensures err { IsTrue (keeps_model self.old) → OnErr result (SettlesNothing (disk self.old) (disk self.new)) }

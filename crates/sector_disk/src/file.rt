@@ -15,6 +15,7 @@ pub(crate) const SECTOR: u64 = 512;
 /// reach the disk.
 ///
 /// Over a file that keeps the model of a file it keeps the disk model, and by sectors over one that keeps it so.
+/// Rule: IMAGE, The file.
 #[derive(Drop)]
 pub struct SectorFile<H: HostFile> {
     file: H,
@@ -30,7 +31,8 @@ impl<H: HostFile> SectorFile<H> {
     ghost use Rattle.sector_disk.specs.SectorFile.{file_of, has_failed_sync, sectors_of};
     ghost use Rattle.sector_disk.specs.FileBytes.{disk_of_file};
 
-    /// The file as a device of this many sectors.
+    /// The file as a device of this many sectors. What is synced then, and what isn't, is as the file has it. Asks
+    /// nothing of the file.
     pub fn new(file: H, sectors: u32) -> SectorFile<H>
         requires { IsTrue (H.syncs_settle file) }
         ensures file { file_of result ≡ file }

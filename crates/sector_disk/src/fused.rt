@@ -44,6 +44,7 @@ impl Fuse {
 }
 
 /// A device of which one call fails, or all calls from one on, without being passed on.
+/// Rule: IMAGE, The device.
 #[derive(Drop)]
 pub struct Fused<D> {
     device: D,
@@ -56,7 +57,7 @@ impl<D: SectorDevice> Fused<D> {
     ghost use Rattle.std.specs.Prelude.{◌^◌, ◌-◌, min};
     ghost use Rattle.sector_disk.specs.Fused.{device_of, fails_at};
 
-    /// Fails the `k`-th call, counted from 1.
+    /// Fails the `k`-th call of a read, a write or a sync, counted from 1; the others are passed on.
     pub fn once(device: D, k: u64) -> Self
         requires { 1 ≤ k }
         ensures device { device_of result ≡ device }
@@ -75,7 +76,7 @@ impl<D: SectorDevice> Fused<D> {
         Fused::with_fuse(device, Fuse::Once(k - 1))
     }
 
-    /// Fails the `k`-th call, counted from 1, and all calls after it.
+    /// Fails the `k`-th call of a read, a write or a sync, counted from 1, and all calls after it.
     pub fn from(device: D, k: u64) -> Self
         requires { 1 ≤ k }
         ensures device { device_of result ≡ device }
@@ -94,7 +95,7 @@ impl<D: SectorDevice> Fused<D> {
         Fused::with_fuse(device, Fuse::From(k - 1))
     }
 
-    /// The device within.
+    /// The device within, as it is.
     pub fn into_device(self) -> D
         ensures device { result ≡ device_of self }
         ensures disk { D.disk result ≡ ⟦<Fused<D> as SectorDevice>⟧.disk self }

@@ -24,9 +24,10 @@ pub enum HostFault {
 ///
 /// The clauses with the premise `keeps_model` are what has to be assumed of a system's file. No device is asked for
 /// anything else.
+/// Rule: IMAGE, The file.
 pub trait HostFile {
-    /// Whether it keeps the model of a file. A write touches the units in which it writes, and each lies in a page of eight
-    /// sectors, of 4,096 bytes.
+    /// Whether it keeps the model of a file. A write touches the units in which it writes, and each lies in a page of
+    /// eight sectors, of 4,096 bytes.
     ghost keeps_model: { Self → Bool };
 
     /// Whether it keeps the model of a file by sectors: a write touches those alone in which it writes.
@@ -47,11 +48,13 @@ pub trait HostFile {
     /// What a stop at some moment from that time on might have left, by sectors of 512 bytes.
     ghost left_since: { Self → ℕ → Image → Type 0 };
 
-    /// How many bytes it had when it was opened.
+    /// How many bytes it had when it was opened. An error where the system doesn't tell.
     fn len(&self) -> Result<u64, HostFault>
         ensures { IsTrue (keeps_model self.now) → IfOk result (λ n. n ≡ extent self.now) };
 
-    /// Reads the first bytes from a place on: at most as many as there is room for.
+    /// Reads the first bytes from place `position` on, counted in bytes from 0, and answers how many: at most as many
+    /// as there is room for. After an error the file is as it was, and what is in the buffer isn't said. `Interrupted`
+    /// where a signal came before anything was done.
     fn read_at(&mut self, position: u64, buffer: &mut [u8]) -> Result<usize, HostFault>
         ensures count { IfOk result (λ n. n ≤ length buffer.old) }
         ensures gives { IsTrue (keeps_model self.old) → IfOk result (λ n. Gives (bytes self.old) position buffer.new n) }
@@ -62,8 +65,9 @@ pub trait HostFile {
         ensures time { Elapses time left_since self.old self.new }
         ensures stops { LeavesOnly time left_since self.old self.new (MayLeaveEither (disk_of_file (bytes self.old)) (disk_of_file (bytes self.new))) };
 
-    /// Writes the first bytes of the buffer, and says how many. Where it was interrupted it has written none. After
-    /// any other failure the sectors of these bytes may hold any bytes, and their units may be unsynced.
+    /// Writes the first bytes of the buffer from place `position` on, counted in bytes from 0, and answers how many.
+    /// Where it was `Interrupted` it has written none. After any other error the sectors of these bytes may hold any
+    /// bytes, and their units may be unsynced.
     fn write_at(&mut self, position: u64, buffer: &[u8]) -> Result<usize, HostFault>
         ensures count { IfOk result (λ n. n ≤ length buffer.now) }
         ensures puts { IsTrue (keeps_model self.old) → IfOk result (λ n. Puts position buffer.now n (bytes self.old) (bytes self.new)) }
@@ -75,7 +79,8 @@ pub trait HostFile {
         ensures time { Elapses time left_since self.old self.new }
         ensures stops { LeavesOnly time left_since self.old self.new (MayLeaveEither (disk_of_file (bytes self.old)) (disk_of_file (bytes self.new))) };
 
-    /// Makes all that was written stay. One that failed settles nothing, and a read may give other bytes afterwards.
+    /// Makes all that was written stay. After an error nothing is settled, and a read may give other bytes of what
+    /// isn't.
     fn sync(&mut self) -> Result<(), HostFault>
         ensures ok { IsTrue (keeps_model self.old) → IsTrue (syncs_settle self.old) → OnOk result (bytes self.new ≡ settled_file (bytes self.old)) }
         ensures synced { IsTrue (keeps_model self.old) → OnErr result ((bytes self.new).synced ≡ (bytes self.old).synced) }
@@ -109,8 +114,8 @@ pub trait HostFile {
     ghost widens: { (f : Self) (s t : ℕ) (c : Image) → s ≤ t → left_since f t c → left_since f s c };
 }
 
-/// A file of this system. Each call is one of the system's: `pread`, `pwrite`, `fdatasync`. Its length is asked for once, by
-/// who opens it.
+/// A file of this system. Each call is one of the system's: `pread`, `pwrite`, `fdatasync`. Its length is asked for
+/// once, by who opens it.
 ///
 /// It is safe whatever the file holds. That it keeps the model of a file is assumed, not proved.
 #[derive(Drop)]

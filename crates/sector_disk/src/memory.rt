@@ -31,6 +31,7 @@ struct Sector {
 }
 
 /// A disk in memory. It keeps the disk model by sectors, and no call of it fails.
+/// Rule: IMAGE, The device; SEMANTICS, From the definitions to the code.
 #[derive(Drop)]
 pub struct MemoryDisk {
     sectors: Vec<Sector>,
@@ -42,6 +43,7 @@ impl MemoryDisk {
     ghost use Rattle.sector_disk.specs.MemoryDisk.{held, size, begun};
 
     /// A disk of zeros with this number of sectors, all of them synced. Each sector takes about 1,026 bytes of memory.
+    /// `NoMemory` where there is none for it.
     pub fn new(alloc: Global, sectors: u32) -> Result<MemoryDisk, NoMemory>
         ensures sectors { IfOk result (λ d. size d ≡ sectors) }
         ensures zeros { IfOk result (λ d. (k : ℕ) → k < sectors → (held d).content k ≡ replicate 512 0) }
@@ -58,7 +60,8 @@ impl MemoryDisk {
         })
     }
 
-    /// A disk that holds the same, synced and unsynced, with the same counts.
+    /// A disk that holds the same bytes, synced and unsynced, with the same counts. `NoMemory` where there is none for
+    /// it.
     pub fn try_clone(&self, alloc: Global) -> Result<MemoryDisk, NoMemory>
         ensures sectors { IfOk result (λ d. size d ≡ size self.now) }
         ensures disk { IfOk result (λ d. held d ≡ held self.now) }
@@ -71,7 +74,7 @@ impl MemoryDisk {
         })
     }
 
-    /// How many calls were begun.
+    /// How many reads, writes and syncs were begun. Each count stays at 2^64 - 1.
     pub fn counts(&self) -> Counts
         ensures { result ≡ begun self.now }
     {

@@ -7,9 +7,10 @@ ghost use Rattle.sector_disk.specs.MemoryFile.{bytes_in, IsAsSyncedElsewhere};
 use crate::{HostFault, HostFile, NoMemory};
 use std::alloc::Global;
 
-/// A file in memory. It keeps the model of a file by sectors, and does no more than that promises: a call moves few bytes, some
-/// are interrupted, one fails, a write that fails has written, and after a sync that failed the bytes since the
-/// last good one are lost and later syncs succeed and do nothing.
+/// A file in memory. It keeps the model of a file by sectors, and does no more than that promises: a call moves few
+/// bytes, some are interrupted, one fails, a write that fails has written, and after a sync that failed the bytes since
+/// the last good one are lost and later syncs succeed and do nothing.
+/// Rule: IMAGE, The file; SEMANTICS, From the definitions to the code.
 #[derive(Drop)]
 pub struct MemoryFile {
     content: Vec<u8>,
@@ -51,7 +52,8 @@ impl Script {
 }
 
 impl MemoryFile {
-    /// A file of zeros with this number of sectors, all of them synced.
+    /// A file of zeros with this number of sectors of 512 bytes, all of them synced, whose calls answer by this script.
+    /// `NoMemory` where there is none for it.
     pub fn new(alloc: Global, sectors: u32, script: Script) -> Result<MemoryFile, NoMemory>
         ensures settle { IfOk result (λ f. IsTrue (⟦<MemoryFile as HostFile>⟧.syncs_settle f)) }
         ensures model { IfOk result (λ f. IsTrue (⟦<MemoryFile as HostFile>⟧.keeps_model f)) }
@@ -72,7 +74,8 @@ impl MemoryFile {
         })
     }
 
-    /// The same bytes, synced and unsynced, as an opening gives them: no sync of it has failed, and its calls answer by this script.
+    /// A file with the bytes of this one, synced and unsynced, as an opening gives them: no sync of it has failed, and
+    /// its calls answer by this script. `NoMemory` where there is none for it.
     pub fn reopened(&self, alloc: Global, script: Script) -> Result<MemoryFile, NoMemory>
         ensures bytes { IfOk result (λ f. ⟦<MemoryFile as HostFile>⟧.bytes f ≡ ⟦<MemoryFile as HostFile>⟧.bytes self.now) }
         ensures extent { IfOk result (λ f. ⟦<MemoryFile as HostFile>⟧.extent f ≡ ⟦<MemoryFile as HostFile>⟧.extent self.now) }

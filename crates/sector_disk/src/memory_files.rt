@@ -5,11 +5,12 @@ ghost use Rattle.sector_disk.specs.MemoryFiles.{IsReopened, file_in};
 use crate::{FileFault, HostFault, HostFile, HostFiles, MemoryFile, Script};
 use std::alloc::Global;
 
-/// A system of files in memory. Each name is that of one file: an opening gives it as it was when the system was made, and so does a
-/// making, where the file is one of zeros.
+/// A system of files in memory. Each name is that of one file: an opening gives it as it was when the system was made,
+/// and so does a making, where the file is one of zeros.
 ///
-/// Its files keep the model of a file, so what is said with that premise is said of it. Whether an opening goes well depends on the
-/// memory alone.
+/// Its files keep the model of a file, so what is said with that premise is said of it. Whether an opening goes well
+/// depends on the memory alone.
+/// Rule: IMAGE, The file.
 #[derive(Drop)]
 pub struct MemoryFiles {
     alloc: Global,

@@ -23,6 +23,7 @@ pub enum FileFault {
 }
 
 /// The files of a system by their names. A file that was opened or made is the program's alone until it is closed.
+/// Rule: IMAGE, The file; DECISIONS, The device and the image.
 pub trait HostFiles<H: HostFile> {
     /// What `open` gives under a name.
     ghost opens: { Self → List ℕ → H → Type 0 };
@@ -30,24 +31,27 @@ pub trait HostFiles<H: HostFile> {
     /// What `make` gives under a name.
     ghost makes: { Self → List ℕ → H → Type 0 };
 
-    /// Opens a file that is there, for reading and writing. `InUse` where it isn't to be had alone, and `Cannot` where the
-    /// system refuses. Nothing of it is read before it is the program's alone.
+    /// Opens a file that is there, for reading and writing. `InUse` where it isn't to be had alone, and `Cannot` where
+    /// the system refuses. Nothing of it is read before it is the program's alone.
     fn open(&self, path: &str) -> Result<H, FileFault>
         ensures refusal { IfErr result (λ fault. fault ≢ FileFault.Exists) }
         ensures settle { IfOk result (λ file. IsTrue (H.syncs_settle file)) }
         ensures opens { IfOk result (λ file. opens self.now path.now file) };
 
-    /// Makes a file, without bytes, for reading and writing. `Exists` where something has that name.
+    /// Makes a file, without bytes, for reading and writing. `Exists` where something has that name, `InUse` where the
+    /// file isn't to be had alone, and `Cannot` where the system refuses.
     fn make(&self, path: &str) -> Result<H, FileFault>
         ensures settle { IfOk result (λ file. IsTrue (H.syncs_settle file)) }
         ensures makes { IfOk result (λ file. makes self.now path.now file) };
 
-    /// Makes the name of a file that was made stay.
+    /// Makes the name of a file that was made stay, once it answers Ok. An error where the system refuses; the file may
+    /// stay then.
     fn keep_name(&self, path: &str) -> Result<(), HostFault>;
 }
 
 /// Opens a file that is there. One whose length isn't a multiple of 512 bytes, or is 2^32 sectors or more, has no
 /// sectors. `Cannot` and `InUse` as the system says; `Cannot` where the length can't be told.
+/// Rule: IMAGE, The file.
 pub fn open_disk<H: HostFile + Drop, O: HostFiles<H>>(
     files: &O,
     path: &str,
@@ -68,9 +72,10 @@ pub fn open_disk<H: HostFile + Drop, O: HostFiles<H>>(
     }
 }
 
-/// Makes a file of this many sectors of zeros. `Exists` where something has that name, and `Cannot` where the file can't
-/// be made. Its bytes and its name are on the disk when it answers Ok, so there is room for each later write. After
-/// `Cannot` a file may stay.
+/// Makes a file of this many sectors of zeros. `Exists` where something has that name, `InUse` where the file isn't to
+/// be had alone, and `Cannot` where it can't be made, filled or synced. Its bytes and its name are on the disk when it
+/// answers Ok, so there is room for each later write. After `Cannot` a file may stay.
+/// Rule: IMAGE, The file; DECISIONS, The device and the image.
 pub fn create_disk<H: HostFile + Drop, O: HostFiles<H>>(
     files: &O,
     path: &str,

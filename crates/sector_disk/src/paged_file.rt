@@ -12,10 +12,11 @@ use std::alloc::Global;
 /// How many sectors a page has.
 const PAGE: usize = 8;
 
-/// A file in memory, whose units are pages of eight sectors. A write touches each sector of its page: until a sync, a stop may leave
-/// any bytes in them. Else it does as little as a `MemoryFile` does.
+/// A file in memory, whose units are pages of eight sectors. A write touches each sector of its page: until a sync, a
+/// stop may leave any bytes in them. Else it does as little as a `MemoryFile` does.
 ///
 /// So it keeps the model of a file, and not by sectors.
+/// Rule: IMAGE, The file.
 #[derive(Drop)]
 pub struct PagedFile {
     content: Vec<u8>,
@@ -30,7 +31,8 @@ pub struct PagedFile {
 }
 
 impl PagedFile {
-    /// A file of zeros with this number of sectors, all of them synced.
+    /// A file of zeros with this number of sectors of 512 bytes, all of them synced, whose calls answer by this script.
+    /// `NoMemory` where there is none for it.
     pub fn new(alloc: Global, sectors: u32, script: Script) -> Result<PagedFile, NoMemory>
         ensures settle { IfOk result (λ f. IsTrue (⟦<PagedFile as HostFile>⟧.syncs_settle f)) }
         ensures model { IfOk result (λ f. IsTrue (⟦<PagedFile as HostFile>⟧.keeps_model f)) }

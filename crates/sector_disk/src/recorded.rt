@@ -15,6 +15,7 @@ use std::alloc::Global;
 
 /// A disk in memory that keeps a copy of itself from before each call, so that what a stop at any moment of its
 /// life might have left can still be told. A call fails where there is no memory for the copy, and changes nothing.
+/// Rule: IMAGE, The device; SEMANTICS, From the definitions to the code.
 #[derive(Drop)]
 pub struct Recorded {
     alloc: Global,
@@ -25,7 +26,7 @@ pub struct Recorded {
 }
 
 impl Recorded {
-    /// A history that begins now.
+    /// A history of this disk that begins now, without a past moment.
     pub fn new(alloc: Global, device: MemoryDisk) -> Recorded
         ensures device { recorded_device_of result ≡ device }
         ensures sectors { ⟦<Recorded as SectorDevice>⟧.sector_count result ≡ size device }

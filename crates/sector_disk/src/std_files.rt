@@ -18,6 +18,7 @@ pub type FileDisk = SectorFile<StdFile>;
 const STREAMS: [&str; 3] = ["/dev/stdin", "/dev/stdout", "/dev/stderr"];
 
 /// The files of this system. Each is locked as long as it is open: only programs that ask for the lock are kept out.
+/// Rule: IMAGE, The file; DECISIONS, The device and the image.
 #[derive(Drop)]
 pub struct StdFiles<'a, R> {
     rt: &'a R,
@@ -74,8 +75,9 @@ impl<R: Files<File = File>> HostFiles<StdFile> for StdFiles<'_, R> {
 impl SectorFile<StdFile> {
     /// Opens a file of this system that is there. One whose length isn't a multiple of 512 bytes, or is 2^32 sectors or
     /// more, has no sectors. `InUse` where another program has it open or it is a standard stream of this one, and
-    /// `Cannot` where it can't be opened for reading and writing, or its file system has no locks. Nothing of it is read
-    /// then.
+    /// `Cannot` where it can't be opened for reading and writing, or its file system has no locks. Nothing of it is
+    /// read then.
+    /// Rule: IMAGE, The file; DECISIONS, The device and the image.
     pub fn open(rt: &impl Files<File = File>, path: &str) -> Result<FileDisk, FileFault>
         ensures refusal { IfErr result (λ fault. fault ≢ FileFault.Exists) }
         ensures counts { IfOk result (λ d. ⟦<SectorFile<StdFile> as SectorDevice>⟧.counts d
@@ -86,8 +88,10 @@ impl SectorFile<StdFile> {
         open_disk(&StdFiles::new(rt), path)
     }
 
-    /// Makes a file of this many sectors of zeros. `Exists` where something has that name, and `Cannot` where the
-    /// file can't be made. File and name are on the disk when it answers Ok. After `Cannot` a file may stay.
+    /// Makes a file of this many sectors of zeros. `Exists` where something has that name, `InUse` where another
+    /// program took its lock first, and `Cannot` where it can't be made, filled or synced. File and name are on the
+    /// disk when it answers Ok. After `Cannot` a file may stay.
+    /// Rule: IMAGE, The file; DECISIONS, The device and the image.
     pub fn create(
         rt: &impl Files<File = File>,
         path: &str,

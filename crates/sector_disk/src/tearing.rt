@@ -8,6 +8,7 @@ use crate::{Counts, DeviceFault, SectorDevice};
 
 /// A device of which one call fails. Where that is a write, its sector holds other bytes afterwards; any other call
 /// isn't passed on.
+/// Rule: IMAGE, The device.
 #[derive(Drop)]
 pub struct Tearing<D> {
     device: D,
@@ -21,7 +22,8 @@ impl<D: SectorDevice> Tearing<D> {
     ghost use Rattle.std.specs.Prelude.{◌^◌, ◌-◌, min};
     ghost use Rattle.sector_disk.specs.Tearing.{torn_device_of, tears_at, torn_bytes};
 
-    /// Fails the `k`-th call, counted from 1. A write that is failed leaves the bytes `torn`.
+    /// Fails the `k`-th call of a read, a write or a sync, counted from 1. A write that is failed leaves the bytes
+    /// `torn` in its sector.
     pub fn once(device: D, k: u64, torn: [u8; 512]) -> Self
         requires { 1 ≤ k }
         ensures device { torn_device_of result ≡ device }
@@ -47,7 +49,7 @@ impl<D: SectorDevice> Tearing<D> {
         }
     }
 
-    /// The device within.
+    /// The device within, as it is.
     pub fn into_device(self) -> D
         ensures device { result ≡ torn_device_of self }
         ensures disk { D.disk result ≡ ⟦<Tearing<D> as SectorDevice>⟧.disk self }

@@ -1,0 +1,142 @@
+//! Where the parts of an image of layout 3 stand, and how they are spelled. Sectors have 512 bytes and are numbered
+//! from 0.
+//! Rule: IMAGE, Layout 3.
+ghost use Rattle.std.specs.Prelude.{◌≡◌, ◌≢◌, ◌<◌, ◌≤◌, ◌+◌, ◌*◌, ◌%◌, ◌++◌, ℕ, not, true, false, take, replicate};
+ghost use Rattle.journal.specs.Layout.{most_blocks, listed, bits_of};
+ghost use Rattle.journal.specs.PageLayout.{sectors_for, label_of, gate_at, gate_bytes, record_at, place_at, current_at, free_at, sum_in, tag_in};
+
+use crate::layout::{is_listed, label as older_label};
+
+/// The version of the layout, as a label tells it.
+pub const VERSION: u16 = 3;
+
+/// The sector of the gate.
+pub const GATE: u32 = 8;
+
+/// The sectors of a unit.
+const UNIT: u32 = 8;
+
+/// The sectors of an image before the places of its blocks.
+const HEAD: u32 = 4 * UNIT;
+
+/// The bytes of a record before its sum.
+const BITS: usize = 480;
+
+/// How many sectors an image of layout 3 with so many blocks has, 3,840 or fewer.
+pub fn sectors_for(blocks: u16) -> u32
+    requires { blocks ≤ most_blocks }
+    ensures { result ≡ sectors_for blocks }
+{
+    HEAD + 2 * UNIT * blocks as u32
+}
+
+/// The label of an image of layout 3 with so many blocks, which has 32 to 3,840 of them.
+pub fn label(blocks: u16) -> [u8; 512]
+    ensures { result ≡ label_of blocks }
+{
+    let mut bytes = older_label(blocks);
+    bytes[8] = 3; // the low byte of the version
+    bytes
+}
+
+/// The sector of the record that an open gate names, or of the one that any other gate names.
+pub fn record_sector(is_open: bool) -> u32
+    ensures { result ≡ record_at is_open }
+{
+    if is_open { 2 * UNIT } else { 3 * UNIT }
+}
+
+/// The gate as it is written, open or closed: 512 bytes.
+pub fn gate(is_open: bool) -> [u8; 512]
+    ensures { result ≡ gate_bytes is_open }
+{
+    if is_open { open_gate() } else { [0; 512] }
+}
+
+fn open_gate() -> [u8; 512]
+    ensures { result ≡ gate_bytes true }
+{
+    let mut bytes = [0; 512];
+    bytes[..8].copy_from_slice(b"COMMIT83");
+    bytes
+}
+
+/// The first sector of the first or the second place of block `b`, a number below 3,840.
+pub fn place_sector(b: u16, second: bool) -> u32
+    requires { b < most_blocks }
+    ensures place { result ≡ place_at b second }
+    ensures page { result % 8 ≡ 0 }
+    ensures end { result + 8 ≤ 48 + 16 * b }
+{
+    let first = HEAD + 2 * UNIT * b as u32;
+    if second { first + UNIT } else { first }
+}
+
+/// The first sector of the place of block `b`, a number below 3,840, that the record `listing` names.
+pub fn current_sector(listing: &[u8; 512], b: u16) -> u32
+    requires { b < most_blocks }
+    ensures place { result ≡ current_at listing.now b }
+    ensures page { result % 8 ≡ 0 }
+    ensures end { result + 8 ≤ 48 + 16 * b }
+{
+    place_sector(b, is_listed(listing, b))
+}
+
+/// The first sector of the place of block `b`, a number below 3,840, that the record `listing` doesn't name.
+pub fn free_sector(listing: &[u8; 512], b: u16) -> u32
+    requires { b < most_blocks }
+    ensures place { result ≡ free_at listing.now b }
+    ensures page { result % 8 ≡ 0 }
+    ensures end { result + 8 ≤ 48 + 16 * b }
+{
+    place_sector(b, !is_listed(listing, b))
+}
+
+/// The sum in a record: its last 32 bytes.
+pub fn sum(listing: &[u8; 512]) -> [u8; 32]
+    ensures { result ≡ sum_in listing.now }
+{
+    let (_, end) = listing.split_at(BITS);
+    let mut sum = [0; 32];
+    sum.copy_from_slice(end);
+    sum
+}
+
+/// The record with these bits, the first 480 bytes, and this sum.
+pub fn with_sum(bits: &[u8; 512], sum: &[u8; 32]) -> [u8; 512]
+    ensures bits { bits_of result ≡ bits_of bits.now }
+    ensures sum { sum_in result ≡ sum.now }
+{
+    let mut bytes = *bits;
+    let (_, end) = bytes.split_at_mut(BITS);
+    end.copy_from_slice(sum);
+    bytes
+}
+
+/// The tag in the sector of a place's tag: its first 32 bytes.
+pub fn tag(sector: &[u8; 512]) -> [u8; 32]
+    ensures { result ≡ tag_in sector.now }
+{
+    let (front, _) = sector.split_at(32);
+    let mut tag = [0; 32];
+    tag.copy_from_slice(front);
+    tag
+}
+
+/// The sector of a place's tag: the tag, and zeros behind it.
+pub fn tag_sector(tag: &[u8; 32]) -> [u8; 512]
+    ensures { result ≡ tag.now ++ replicate 480 0 }
+{
+    let mut bytes = [0; 512];
+    bytes[..32].copy_from_slice(tag);
+    bytes
+}
+
+/// Sets the bit of block `b`, a number below 3,840, in a record.
+pub fn list(bits: &mut [u8; 512], b: u16)
+    requires { b < most_blocks }
+    ensures listed { listed bits.new b ≡ true }
+    ensures others { (a : ℕ) → a ≢ b → listed bits.new a ≡ listed bits.old a }
+{
+    bits[b as usize / 8] |= 1 << (b % 8);
+}

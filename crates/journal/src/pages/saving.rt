@@ -1,0 +1,125 @@
+// The steps of a save.
+ghost use Rattle.std.specs.Prelude.{◌≡◌, ◌⊎◌, ◌<◌, ◌≤◌, ◌+◌, ◌*◌, ◌^◌, ℕ, not, true, false, if◌then◌else◌, IsTrue, OnOk, IfOk};
+ghost use Rattle.sector_disk.specs.Disk.{written, settled};
+ghost use Rattle.journal.specs.Calls.{StopsLeave, BeginsAtMost, ReadsAtMost};
+ghost use Rattle.journal.specs.PageCalls.{Passes};
+ghost use Rattle.journal.specs.Layout.{fewest_blocks, most_blocks, listed, count_listed};
+ghost use Rattle.journal.specs.PageImages.{current_of, current_tag};
+ghost use Rattle.journal.specs.PageLayout.{HasFlipped, sectors_for, gate_at, gate_bytes, record_at, sum_in};
+ghost use Rattle.sector_disk.specs.Pages.{InPage};
+ghost use Rattle.journal.specs.Steps.{WritesOnly, IsAsSynced};
+ghost use Rattle.journal.specs.PageSteps.{InFree, HasTags, OnlyTags, HasBlocks, IsSound, HasSaved, merged, merged_tag};
+ghost use Rattle.journal.specs.Tags.{sum_below};
+
+use super::exchanges::exchange_tags;
+use super::layout::{GATE, gate, list, record_sector, sum, with_sum};
+use super::pairs::write_through;
+use crate::layout::is_listed;
+use sector_disk::{DeviceFault, SectorDevice};
+
+// Whether the second place of a block is to be the current one.
+fn is_second(listing: &[u8; 512], pending: &[u8; 512], b: u16) -> bool
+    requires { b < most_blocks }
+    ensures { result ≡ (if listed pending.now b then not (listed listing.now b) else listed listing.now b) }
+{
+    if is_listed(pending, b) {
+        !is_listed(listing, b)
+    } else {
+        is_listed(listing, b)
+    }
+}
+
+// The bits of the record that is to count.
+fn flipped(blocks: u16, listing: &[u8; 512], pending: &[u8; 512]) -> [u8; 512]
+    requires { blocks ≤ most_blocks }
+    ensures { HasFlipped blocks listing.now pending.now result }
+{
+    let mut bits = [0; 512];
+    for b in 0..blocks {
+        if is_second(listing, pending, b) {
+            list(&mut bits, b);
+        }
+    }
+    bits
+}
+
+// The record that is to count.
+fn next_record(blocks: u16, listing: &[u8; 512], pending: &[u8; 512], sum: &[u8; 32]) -> [u8; 512]
+    requires { blocks ≤ most_blocks }
+    ensures bits { HasFlipped blocks listing.now pending.now result }
+    ensures sum { sum_in result ≡ sum.now }
+{
+    with_sum(&flipped(blocks, listing, pending), sum)
+}
+
+// Writes the tags of the pending blocks, and answers the record that is to count.
+fn prepare<D: SectorDevice>(
+    device: &mut D,
+    blocks: u16,
+    listing: &[u8; 512],
+    pending: &[u8; 512],
+) -> Result<[u8; 512], DeviceFault>
+    requires few { blocks ≤ most_blocks }
+    requires size { D.sector_count device.old ≡ sectors_for blocks }
+    ensures bits { IfOk result (λ next. HasFlipped blocks listing.now pending.now next) }
+    ensures tags { IsTrue (D.keeps_model device.old) → OnOk result
+        (HasTags blocks listing.now pending.now (D.disk device.old).content (D.disk device.new).content) }
+    ensures others { IsTrue (D.keeps_model device.old)
+        → OnOk result (OnlyTags listing.now (D.disk device.old).content (D.disk device.new).content) }
+    ensures sum { IsTrue (D.keeps_model device.old) → IfOk result (λ next.
+        sum_in listing.now ≡ sum_below (current_tag listing.now (D.disk device.old).content) blocks
+        → sum_in next ≡ sum_below (merged_tag listing.now pending.now (D.disk device.old).content) blocks) }
+    ensures only { IsTrue (D.keeps_model device.old)
+        → WritesOnly (InFree blocks listing.now) (D.disk device.old) (D.disk device.new) }
+    ensures stops { IsTrue (D.keeps_model device.old) → StopsLeave D.SectorDevice device.old device.new
+        (IsAsSynced (InFree blocks listing.now) (D.disk device.old)) }
+    ensures passes { Passes D.SectorDevice device.old device.new result }
+    ensures begins { BeginsAtMost D.SectorDevice device.old device.new (count_listed pending.now blocks) 0 }
+    ensures reads { ReadsAtMost D.SectorDevice device.old device.new (3 * count_listed pending.now blocks) }
+{
+    let mut total = sum(listing);
+    exchange_tags(device, blocks, listing, pending, &mut total)?;
+    Ok(next_record(blocks, listing, pending, &total))
+}
+
+// Writes the record that doesn't count, and then the gate, which names it.
+fn turn<D: SectorDevice>(device: &mut D, is_open: bool, next: &[u8; 512]) -> Result<(), DeviceFault>
+    requires { 32 ≤ D.sector_count device.old }
+    ensures ok { IsTrue (D.keeps_model device.old) → OnOk result (D.disk device.new
+        ≡ settled (written (settled (written (D.disk device.old) (record_at (not is_open)) next.now)) gate_at (gate_bytes (not is_open)))) }
+    ensures stops { IsTrue (D.keeps_model device.old) → StopsLeave D.SectorDevice device.old device.new
+        (λ c. IsAsSynced (InPage (record_at (not is_open))) (D.disk device.old) c
+        ⊎ IsAsSynced (InPage gate_at) (settled (written (D.disk device.old) (record_at (not is_open)) next.now)) c) }
+    ensures passes { Passes D.SectorDevice device.old device.new result }
+    ensures begins { BeginsAtMost D.SectorDevice device.old device.new 2 2 }
+    ensures reads { ReadsAtMost D.SectorDevice device.old device.new 0 }
+{
+    write_through(device, record_sector(!is_open), next)?;
+    write_through(device, GATE, &gate(!is_open))
+}
+
+/// Makes the free places of the pending blocks their current ones, all at once, and `listing` the record that counts
+/// then.
+pub(crate) fn save<D: SectorDevice>(
+    device: &mut D,
+    blocks: u16,
+    is_open: bool,
+    listing: &mut [u8; 512],
+    pending: &[u8; 512],
+) -> Result<(), DeviceFault>
+    requires few { blocks ≤ most_blocks }
+    requires size { D.sector_count device.old ≡ sectors_for blocks }
+    requires sound { IsTrue (D.keeps_model device.old) → IsSound blocks is_open listing.old (D.disk device.old) }
+    ensures ok { IsTrue (D.keeps_model device.old) → OnOk result
+        (HasSaved blocks is_open listing.old pending.now listing.new (D.disk device.old) (D.disk device.new)) }
+    ensures stops { IsTrue (D.keeps_model device.old) → StopsLeave D.SectorDevice device.old device.new
+        (λ c. HasBlocks blocks (current_of listing.old (D.disk device.old).content) c
+        ⊎ HasBlocks blocks (merged listing.old pending.now (D.disk device.old).content) c) }
+    ensures passes { Passes D.SectorDevice device.old device.new result }
+    ensures begins { BeginsAtMost D.SectorDevice device.old device.new (count_listed pending.now blocks + 2) 2 }
+    ensures reads { ReadsAtMost D.SectorDevice device.old device.new (3 * count_listed pending.now blocks) }
+{
+    let next = prepare(device, blocks, listing, pending)?;
+    *listing = next;
+    turn(device, is_open, listing)
+}
