@@ -1,18 +1,16 @@
 -- What a stop leaves while an image is made.
 use Rattle.std.proofs.Common.{◌≡◌, ◌≢◌, ◌⊎◌, inl, inr, ⊎_elim, ℕ, ◌+◌, ◌<◌, ◌≤◌, Bool, true, false, List, length, replicate, refl, sym, ◌∙◌, ap, subst, arith}
-use Rattle.std.proofs.lemmas.Bool.{cases_eq, cases_lt}
+use Rattle.std.proofs.lemmas.Bool.{cases_lt}
 use Rattle.std.proofs.lemmas.Bool.Decides.{Decides-eqb}
 use Rattle.std.proofs.lemmas.List.{length-replicate, get_or-replicate}
 use Rattle.std.proofs.lemmas.Slice.Eq.{slice_eq-Decides}
-use Rattle.sector_disk.specs.Disk.{Disk, Image, MayLeave, written, settled}
-use Rattle.sector_disk.proofs.Moments.{sector_other}
+use Rattle.sector_disk.specs.Disk.{Disk, Image, MayLeave}
 use Rattle.journal.specs.Images.{home_of, Means, meaning}
 use Rattle.journal.specs.Layout.{fewest_blocks, most_blocks, HasGoodLabel, label_of, gate_open, home_at}
 use Rattle.journal.specs.Maps.{block_in}
-use Rattle.journal.specs.Steps.{IsAsSynced}
 use Rattle.journal.proofs.Meaning.{shut_means, means_sized, pair_same}
 use Rattle.recovery.specs.Formatted.{blank_blocks, MakingLeaves, IsFilled}
-use Rattle.recovery.specs.Steps.{IsPrepared, IsMade, TakenAway, Sealed}
+use Rattle.recovery.specs.Steps.{IsMade, TakenAway}
 
 pub same_or_not : (xs ys : List ℕ) → (xs ≡ ys) ⊎ (xs ≢ ys)
 same_or_not xs ys = decide _ (slice_eq-Decides Decides-eqb xs ys _ refl)
@@ -41,17 +39,6 @@ module _ (n : ℕ) (disk : Disk) where
   pub making : (blocks : List (List ℕ)) (c : Image) → TakenAway n disk c → MakingLeaves n blocks disk c
   making blocks c = ⊎_elim (λ bad. inl bad) (λ was. inr (inr was))
 
-  module _ (present : MayLeave disk disk.content) where
-    may_as : (c : Image) → ((k : ℕ) → c k ≡ disk.content k) → MayLeave disk c
-    may_as c same k synced = same k ∙ present k synced
-
-    -- while the label is cleared
-    pub half_cleared : disk.content 0 ≡ label_of n → (c : Image) → IsAsSynced (λ k. k ≡ 0) (settled disk) c → TakenAway n disk c
-    half_cleared was c is = ⊎_elim
-        (λ good. inr (good, may_as c (λ k. ⊎_elim (λ zero. ap c zero ∙ good.label ∙ sym was ∙ ap disk.content (sym zero)) (λ other. is k other refl) (cases_eq k 0))))
-        (λ bad. inl bad)
-        (good_or_not n c)
-
 -- Blocks whose bytes are those of these home sectors.
 abbrev pub AreHomes : ℕ → Image → List (List ℕ) → Type 0
 AreHomes n bytes blocks = (length blocks ≡ n) × ((b : ℕ) → b < n → block_in blocks b ≡ home_of n bytes b)
@@ -67,32 +54,6 @@ module _ (n : ℕ) (many : fewest_blocks ≤ n) (few : n ≤ most_blocks) (bytes
   pub filled_means : (blocks : List (List ℕ)) → AreHomes n bytes blocks → (c : Image) → c 0 ≡ label_of n → ((k : ℕ) → k ≢ 0 → c k ≡ image k) → Means blocks c
   filled_means blocks are c label same = means_sized n (home_of n image) blocks c many few are.0 (λ b below. are.1 b below ∙ sym (home b below))
       (shut_means n (replicate 512 0) image c label (λ k high. same k (omega arith)) (ap gate_open (same 1 (omega arith) ∙ filled.gate)))
-
-  -- with another label
-  pub filled_same : (c : Image) → ((k : ℕ) → k ≢ 0 → c k ≡ image k) → IsFilled n bytes c
-  filled_same c same = record {
-    gate = same 1 (omega arith) ∙ filled.gate;
-    listed = same 2 (omega arith) ∙ filled.listed;
-    homes = λ k high low. same k (omega arith) ∙ filled.homes k high low;
-  }
-
-  -- The label is written over it.
-  pub sealed_means : (blocks : List (List ℕ)) → AreHomes n bytes blocks → (disk : Disk) (c : Image) → Sealed n image c → MakingLeaves n blocks disk c
-  sealed_means blocks are disk c = ⊎_elim (λ bad. inl (unlabelled n c bad)) (λ good. inr (inl (filled_means blocks are c good.0 good.1)))
-
--- The label is being written.
-pub sealed : (n : ℕ) (disk : Disk) → MayLeave disk disk.content → ((k : ℕ) → disk.unsynced k ≡ false) → (c : Image) → IsAsSynced (λ k. k ≡ 0) disk c → Sealed n disk.content c
-sealed n disk present synced c is = ⊎_elim
-    (λ label. inr (label, λ k other. is k other (synced k) ∙ sym (present k (synced k))))
-    (λ bad. inl bad)
-    (same_or_not (c 0) (label_of n))
-
-pub made_of : (n : ℕ) (bytes : Image) (disk : Disk) → IsPrepared n bytes disk → IsMade n bytes (settled (written disk 0 (label_of n)))
-made_of n bytes disk prepared = record {
-  filled = record { gate = prepared.filled.gate; listed = prepared.filled.listed; homes = λ k high low. sector_other disk.content 0 k (label_of n) (omega arith) ∙ prepared.filled.homes k high low };
-  label = refl;
-  synced = λ k. refl;
-}
 
 -- The image is made.
 module _ (n : ℕ) (many : fewest_blocks ≤ n) (few : n ≤ most_blocks) (bytes : Image) (disk : Disk) (made : IsMade n bytes disk) where

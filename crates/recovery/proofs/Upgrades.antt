@@ -1,25 +1,24 @@
 -- What a stop of an upgrade leaves.
-use Rattle.std.proofs.Common.{◌≡◌, ◌⊎◌, inl, inr, ⊎_elim, ℕ, ◌≤◌, List, length, refl, sym, ◌∙◌, ap, subst, arith, IsTrue, Option, None, Result, Ok, Err}
+use Rattle.std.proofs.Common.{◌≡◌, ◌⊎◌, inl, inr, ⊎_elim, ℕ, ◌<◌, ◌≤◌, List, length, refl, sym, ◌∙◌, ap, subst, arith, IsTrue, None, Result, Ok, Err}
 use Rattle.std.specs.Prelude.{IfErr, MatchResult}
 use Rattle.std.proofs.lemmas.Bool.{cases_lt}
 use Rattle.sector_disk.specs.Disk.{Disk, Image, MayLeave}
 use Rattle.sector_disk.specs.declared.device.SectorDevice.{Ghosts}
 use Rattle.sector_disk.proofs.Moments.{leaves_then}
 use Rattle.journal.specs.Chain.{MayRedo}
-use Rattle.journal.specs.Images.{slot_of, home_of, block_of, meaning, Means}
+use Rattle.journal.specs.Images.{slot_of, home_of, block_of, blocks_below, meaning, Means}
 use Rattle.journal.specs.Layout.{fewest_blocks, most_blocks, most_blocks_1, label_1_of, gate_open, listed}
 use Rattle.journal.specs.Layout1.{HasGoodLabel1, Means1}
 use Rattle.journal.specs.Steps.{HasRecovered}
-use Rattle.journal.proofs.Blocks.{same_below, at_below, length-below}
+use Rattle.journal.proofs.Blocks.{same_below, same_list, at_below, length-below}
 use Rattle.journal.proofs.Calls.{Widens, proceeds_then}
 use Rattle.journal.proofs.Meaning.{redo_blocks, redo_label, pick_shut}
-use Rattle.recovery.specs.Formatted.{MakingLeaves}
 use Rattle.recovery.specs.Recovered.{LeavesBy}
-use Rattle.recovery.specs.Steps.{TakenAway, Sealed, IsPrepared, IsMade, CarriedLeaves, OnlyRead}
+use Rattle.recovery.specs.Steps.{IsMade, OnlyRead}
 use Rattle.recovery.specs.Label.{blocks_in, label_refusal_by}
 use Rattle.recovery.specs.Opened.{first_of}
 use Rattle.recovery.specs.Upgraded.{MeansAsBefore, OldLeaves, of_old, size_refusal, upgrade_refusal}
-use Rattle.recovery.proofs.Formats.{same_or_not, unlabelled, making, AreHomes, filled_means, filled_same, made_means}
+use Rattle.recovery.proofs.Formats.{same_or_not, AreHomes, made_means}
 
 good_or_not_1 : (n : ℕ) (c : Image) → HasGoodLabel1 n c ⊎ ¬ HasGoodLabel1 n c
 good_or_not_1 n c = ⊎_elim
@@ -89,16 +88,13 @@ recovered_homes n old new done = (
       ∙ pick_shut (gate_open (new.content 1)) (listed (new.content 2) b) (slot_of new.content b) (home_of n new.content b) done.gate,
 )
 
-pub sealed_leaves : (n : ℕ) → fewest_blocks ≤ n → n ≤ most_blocks → (bytes : Image) (disk : Disk) → IsPrepared n bytes disk → (x : Image) → Sealed n disk.content x → CarriedLeaves n bytes x
-sealed_leaves n many few bytes disk prepared x =
-    ⊎_elim (λ bad. inl bad) (λ good. inr (good.0, filled_same n many few bytes disk.content prepared.filled x good.1))
+pub recovered_blocks : (n : ℕ) (old new : Disk) → HasRecovered n old new → blocks_below (home_of n new.content) n ≡ meaning n old.content
+recovered_blocks n old new done =
+    let are = recovered_homes n old new done in
+    same_list (blocks_below (home_of n new.content) n) (meaning n old.content) (length-below (home_of n new.content) n ∙ sym are.0)
+    (λ b below. let low = subst (λ k. b < k) are.0 below in at_below (home_of n new.content) n b low ∙ sym (are.1 b low))
 
 module _ (n : ℕ) (many : fewest_blocks ≤ n) (few : n ≤ most_blocks) (bytes : Image) (blocks : List (List ℕ)) (are : AreHomes n bytes blocks) where
-  pub carried_means : (disk : Disk) (x : Image) → TakenAway n disk x ⊎ CarriedLeaves n bytes x → MakingLeaves n blocks disk x
-  carried_means disk x = ⊎_elim (making n disk blocks x) (⊎_elim
-      (λ bad. inl (unlabelled n x bad))
-      (λ good. inr (inl (filled_means n many few bytes x good.1 blocks are x good.0 (λ k other. refl)))))
-
   pub after_means : (disk : Disk) → MayLeave disk disk.content → IsMade n bytes disk → (x : Image) → MayLeave disk x → Means blocks x
   after_means disk present made x may =
       made_means n many few bytes disk made blocks are x (λ k. may k (made.synced k) ∙ sym (present k (made.synced k)))

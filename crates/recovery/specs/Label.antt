@@ -1,29 +1,30 @@
 -- Which refusal an image gives: the first condition that holds.
-use Rattle.std.specs.Prelude.{ℕ, ◌+◌, ◌-◌, ◌*◌, ◌/◌, ◌==◌, ◌&&◌, not, nat_le, nat_eq, if◌then◌else◌, Bool, List, drop, slice_index, codes, Option, Some, None}
+use Rattle.std.specs.Prelude.{ℕ, ◌+◌, ◌*◌, ◌==◌, ◌&&◌, not, nat_eq, if◌then◌else◌, Bool, List, drop, slice_index, codes, Option, Some, None}
 use Rattle.std.specs.List.{starts_with, list_all}
-use Rattle.journal.specs.Layout.{fewest_blocks, most_blocks, sectors_for}
+use Rattle.journal.specs.Layout.{most_blocks}
+use Rattle.journal.specs.Sizes as sizes
 use Rattle.recovery.specs.declared.fault.OpenFault.{OpenFault}
 use Rattle.recovery.specs.declared.fault.OpenFault.TheVariants.{BadSize, NoLabel, OtherVersion, WrongCount}
 
 -- how many blocks an image of so many sectors has
 abbrev pub blocks_in : ℕ → ℕ
-blocks_in sectors = (sectors - 3) / 4
+blocks_in sectors = sizes.blocks_in sectors
 
 -- whether an image of n blocks, and of no more than so many, has so many sectors
 abbrev pub fits_within : ℕ → ℕ → ℕ → Bool
-fits_within most n sectors = (nat_le fewest_blocks n && nat_le n most) && (sectors == sectors_for n)
+fits_within most n sectors = sizes.fits_within most n sectors
 
 -- whether some image of no more than so many blocks has so many sectors
 abbrev pub is_size_within : ℕ → ℕ → Bool
-is_size_within most sectors = fits_within most (blocks_in sectors) sectors
+is_size_within most sectors = sizes.is_size_within most sectors
 
 -- whether an image of n blocks has so many sectors
 abbrev pub is_size_for : ℕ → ℕ → Bool
-is_size_for n sectors = fits_within most_blocks n sectors
+is_size_for n sectors = sizes.fits_within most_blocks n sectors
 
 -- whether some image has so many sectors
 abbrev pub is_size : ℕ → Bool
-is_size sectors = is_size_within most_blocks sectors
+is_size sectors = sizes.is_size sectors
 
 -- the name at the beginning, and zeros after the numbers
 abbrev pub is_named : List ℕ → Bool

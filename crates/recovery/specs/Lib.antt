@@ -1,5 +1,9 @@
 pub mod Formatted
+pub mod Found
+pub mod Homes
 pub mod Label
+pub mod Making
+pub mod NullDevice
 pub mod Opened
 pub mod Recovered
 pub mod Steps

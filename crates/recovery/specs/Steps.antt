@@ -1,5 +1,5 @@
 -- The states of a disk while an image is made, what a stop then may leave, and what a copy does.
-use Rattle.std.specs.Prelude.{◌≡◌, ◌≢◌, ◌⊎◌, ℕ, false, IsTrue}
+use Rattle.std.specs.Prelude.{◌≡◌, ◌⊎◌, ℕ, false, IsTrue}
 use Rattle.sector_disk.specs.Counting.{count_up}
 use Rattle.sector_disk.specs.Disk.{Disk, Image, MayLeave}
 use Rattle.sector_disk.specs.declared.device.SectorDevice.{Ghosts}
@@ -10,17 +10,6 @@ use Rattle.recovery.specs.declared.fault.OpenFault.TheVariants.{Device}
 use Rattle.recovery.specs.declared.fault.UpgradeFault.{UpgradeFault}
 use Rattle.recovery.specs.declared.fault.UpgradeFault.TheVariants.{Old, New}
 
--- No good label stands, and nothing is unsynced.
-pub record IsUnlabelled (n : ℕ) (disk : Disk) : Type 0 where
-  pub label : disk.content 0 ≢ label_of n
-  pub synced : (k : ℕ) → disk.unsynced k ≡ false
-
--- All is filled under no good label, and nothing is unsynced.
-pub record IsPrepared (n : ℕ) (bytes : Image) (disk : Disk) : Type 0 where
-  pub filled : IsFilled n bytes disk.content
-  pub label : disk.content 0 ≢ label_of n
-  pub synced : (k : ℕ) → disk.unsynced k ≡ false
-
 -- The image is whole, and nothing is unsynced.
 pub record IsMade (n : ℕ) (bytes : Image) (disk : Disk) : Type 0 where
   pub filled : IsFilled n bytes disk.content
@@ -30,10 +19,6 @@ pub record IsMade (n : ℕ) (bytes : Image) (disk : Disk) : Type 0 where
 -- There is no good label, or the image could be left before.
 abbrev pub TakenAway : ℕ → Disk → Image → Type 0
 TakenAway n disk image = ¬ HasGoodLabel n image ⊎ (HasGoodLabel n image × MayLeave disk image)
-
--- There is no good label, or the image is the old one under it.
-abbrev pub Sealed : ℕ → Image → Image → Type 0
-Sealed n old image = (image 0 ≢ label_of n) ⊎ ((image 0 ≡ label_of n) × ((k : ℕ) → k ≢ 0 → image k ≡ old k))
 
 -- A device was only read.
 pub record OnlyRead {D : Type 0} (G : Ghosts D) (old new : D) : Type 0 where
@@ -52,7 +37,3 @@ abbrev pub TellsFault : {A B : Type 0} → Ghosts A → Ghosts B → A → A →
 TellsFault G H source source' target target' e =
     ((e ≡ Old Device) × (G.failures source' ≡ count_up (G.failures source)) × (H.failures target' ≡ H.failures target))
     ⊎ ((e ≡ New Device) × (G.failures source' ≡ G.failures source) × (H.failures target' ≡ count_up (H.failures target)))
-
--- There is no good label, or the image has these home sectors under it.
-abbrev pub CarriedLeaves : ℕ → Image → Image → Type 0
-CarriedLeaves n bytes image = (image 0 ≢ label_of n) ⊎ ((image 0 ≡ label_of n) × IsFilled n bytes image)

@@ -1,140 +1,33 @@
 // A device is made an image of blank blocks.
 ghost use Rattle.std.specs.Prelude.{◌≡◌, ◌≢◌, ◌⊎◌, ◌<◌, ◌≤◌, ◌+◌, ◌*◌, ℕ, true, false, IsTrue, OnOk, IfOk, IfErr, MatchBool, replicate};
 ghost use Rattle.sector_disk.specs.Counting.{count_up};
-ghost use Rattle.sector_disk.specs.Disk.{Image, MayLeave, written, settled};
+ghost use Rattle.sector_disk.specs.Disk.{Image, MayLeave};
 ghost use Rattle.sector_disk.specs.Moments.{Elapses};
 ghost use Rattle.journal.specs.Calls.{StopsLeave, BeginsAtMost, ReadsAtMost, Passes};
 ghost use Rattle.journal.specs.Clean.{IsClean};
 ghost use Rattle.journal.specs.Images.{Means};
-ghost use Rattle.journal.specs.Layout.{sectors_for, label_of};
+ghost use Rattle.journal.specs.Layout.{sectors_for};
 ghost use Rattle.journal.specs.Maps.{fresh};
-ghost use Rattle.journal.specs.Steps.{WritesOnly, IsAsSynced};
-ghost use Rattle.journal.specs.Store.{device_of, disk_of, blocks_of, closed_of, is_pending, StandsFor};
+ghost use Rattle.journal.specs.Store.{device_of, disk_of, blocks_of, closed_of, technique_of, is_pending, StandsFor};
+ghost use Rattle.journal.specs.declared.technique.Technique.TheVariants.{Journal};
 ghost use Rattle.recovery.specs.Formatted.{FormatLeaves, IsBlank, KeepsSlots, blank_blocks};
 ghost use Rattle.recovery.specs.Label.{is_size_for};
 ghost use Rattle.recovery.specs.Opened.{end_of};
-ghost use Rattle.recovery.specs.Steps.{IsUnlabelled, IsPrepared, IsMade, TakenAway, Sealed};
+ghost use Rattle.recovery.specs.Steps.{IsMade};
 ghost use Rattle.recovery.specs.declared.fault.OpenFault.TheVariants.{BadSize, Device};
 
 use crate::OpenFault;
+use crate::homes::Homes;
 use crate::label::fits;
-use crate::settling::settle;
-use journal::layout::{BlockCount, GATE, LABEL, MOST_BLOCKS, RECORD, home_sector, label};
-use journal::{Store, write_through};
+use crate::making::make;
+use crate::null_device::NullDevice;
+use crate::sources::Blanks;
+use journal::Store;
+use journal::layout::{BlockCount, MOST_BLOCKS};
 use sector_disk::{DeviceFault, SectorDevice};
 
-// Fills the homes with blanks.
-fn fill_homes<D: SectorDevice>(device: &mut D, blocks: BlockCount) -> Result<(), DeviceFault>
-    requires size { D.sector_count device.old ≡ sectors_for blocks.number }
-    ensures ok { IsTrue (D.keeps_sectors device.old)
-        → OnOk result ((k : ℕ) → 3 + 2 * blocks.number ≤ k → k < 3 + 4 * blocks.number → (D.disk device.new).content k ≡ replicate 512 32) }
-    ensures only { IsTrue (D.keeps_sectors device.old)
-        → WritesOnly (λ k. 3 + 2 * blocks.number ≤ k) (D.disk device.old) (D.disk device.new) }
-    ensures stops { IsTrue (D.keeps_sectors device.old)
-        → StopsLeave D.SectorDevice device.old device.new (IsAsSynced (λ k. 3 + 2 * blocks.number ≤ k) (D.disk device.old)) }
-    ensures passes { Passes D.SectorDevice device.old device.new result }
-    ensures begins { BeginsAtMost D.SectorDevice device.old device.new (2 * blocks.number) 0 }
-    ensures reads { ReadsAtMost D.SectorDevice device.old device.new 0 }
-{
-    let blank = [b' '; 512];
-    let first = home_sector(blocks, 0);
-    for k in first..first + 2 * blocks.number as u32 {
-        device.write(k, &blank)?;
-    }
-    Ok(())
-}
-
-/// Makes what is there stay, and takes a good label away, if one stands there: the first step of making an image of so many
-/// blocks.
-pub fn unlabel<D: SectorDevice>(device: &mut D, blocks: BlockCount) -> Result<(), DeviceFault>
-    requires size { D.sector_count device.old ≡ sectors_for blocks.number }
-    ensures ok { IsTrue (D.keeps_sectors device.old) → OnOk result (IsUnlabelled blocks.number (D.disk device.new)) }
-    ensures slots { IsTrue (D.keeps_sectors device.old)
-        → OnOk result (KeepsSlots blocks.number (D.disk device.old).content (D.disk device.new).content) }
-    ensures stops { IsTrue (D.keeps_sectors device.old)
-        → StopsLeave D.SectorDevice device.old device.new (TakenAway blocks.number (D.disk device.old)) }
-    ensures passes { Passes D.SectorDevice device.old device.new result }
-    ensures begins { BeginsAtMost D.SectorDevice device.old device.new 1 2 }
-    ensures reads { ReadsAtMost D.SectorDevice device.old device.new 1 }
-{
-    let mut found = [0; 512];
-    settle(device, &mut found)?;
-    if found == label(blocks.number) {
-        write_through(device, LABEL, &[0; 512])
-    } else {
-        Ok(())
-    }
-}
-
-/// Closes the gate and clears the record. Nothing is synced.
-pub fn fill_head<D: SectorDevice>(device: &mut D) -> Result<(), DeviceFault>
-    requires { 3 ≤ D.sector_count device.old }
-    ensures ok { IsTrue (D.keeps_sectors device.old)
-        → OnOk result (D.disk device.new ≡ written (written (D.disk device.old) 1 (replicate 512 0)) 2 (replicate 512 0)) }
-    ensures only { IsTrue (D.keeps_sectors device.old)
-        → WritesOnly (λ k. k ≢ 0) (D.disk device.old) (D.disk device.new) }
-    ensures stops { IsTrue (D.keeps_sectors device.old)
-        → StopsLeave D.SectorDevice device.old device.new (IsAsSynced (λ k. k ≢ 0) (D.disk device.old)) }
-    ensures passes { Passes D.SectorDevice device.old device.new result }
-    ensures begins { BeginsAtMost D.SectorDevice device.old device.new 2 0 }
-    ensures reads { ReadsAtMost D.SectorDevice device.old device.new 0 }
-{
-    device.write(GATE, &[0; 512])?;
-    device.write(RECORD, &[0; 512])
-}
-
-// Writes all of the blank image but its label.
-fn fill<D: SectorDevice>(device: &mut D, blocks: BlockCount) -> Result<(), DeviceFault>
-    requires size { D.sector_count device.old ≡ sectors_for blocks.number }
-    ensures ok { IsTrue (D.keeps_sectors device.old) → OnOk result (IsBlank blocks.number (D.disk device.new).content) }
-    ensures slots { IsTrue (D.keeps_sectors device.old)
-        → OnOk result (KeepsSlots blocks.number (D.disk device.old).content (D.disk device.new).content) }
-    ensures only { IsTrue (D.keeps_sectors device.old)
-        → WritesOnly (λ k. k ≢ 0) (D.disk device.old) (D.disk device.new) }
-    ensures stops { IsTrue (D.keeps_sectors device.old)
-        → StopsLeave D.SectorDevice device.old device.new (IsAsSynced (λ k. k ≢ 0) (D.disk device.old)) }
-    ensures passes { Passes D.SectorDevice device.old device.new result }
-    ensures begins { BeginsAtMost D.SectorDevice device.old device.new (2 * blocks.number + 2) 0 }
-    ensures reads { ReadsAtMost D.SectorDevice device.old device.new 0 }
-{
-    fill_head(device)?;
-    fill_homes(device, blocks)
-}
-
-// Makes all blank under no good label.
-fn prepare<D: SectorDevice>(device: &mut D, blocks: BlockCount) -> Result<(), DeviceFault>
-    requires size { D.sector_count device.old ≡ sectors_for blocks.number }
-    requires unlabelled { IsTrue (D.keeps_sectors device.old) → IsUnlabelled blocks.number (D.disk device.old) }
-    ensures ok { IsTrue (D.keeps_sectors device.old) → OnOk result (IsPrepared blocks.number (λ _. replicate 512 32) (D.disk device.new)) }
-    ensures slots { IsTrue (D.keeps_sectors device.old)
-        → OnOk result (KeepsSlots blocks.number (D.disk device.old).content (D.disk device.new).content) }
-    ensures stops { IsTrue (D.keeps_sectors device.old)
-        → StopsLeave D.SectorDevice device.old device.new (λ c. c 0 ≢ label_of blocks.number) }
-    ensures passes { Passes D.SectorDevice device.old device.new result }
-    ensures begins { BeginsAtMost D.SectorDevice device.old device.new (2 * blocks.number + 2) 1 }
-    ensures reads { ReadsAtMost D.SectorDevice device.old device.new 0 }
-{
-    fill(device, blocks)?;
-    device.sync()
-}
-
-/// Writes the label over an image whose other sectors are synced: the last step of making it.
-pub fn seal<D: SectorDevice>(device: &mut D, blocks: BlockCount) -> Result<(), DeviceFault>
-    requires size { D.sector_count device.old ≡ sectors_for blocks.number }
-    requires synced { IsTrue (D.keeps_sectors device.old) → (k : ℕ) → (D.disk device.old).unsynced k ≡ false }
-    ensures ok { IsTrue (D.keeps_sectors device.old)
-        → OnOk result (D.disk device.new ≡ settled (written (D.disk device.old) 0 (label_of blocks.number))) }
-    ensures stops { IsTrue (D.keeps_sectors device.old)
-        → StopsLeave D.SectorDevice device.old device.new (Sealed blocks.number (D.disk device.old).content) }
-    ensures passes { Passes D.SectorDevice device.old device.new result }
-    ensures begins { BeginsAtMost D.SectorDevice device.old device.new 1 1 }
-    ensures reads { ReadsAtMost D.SectorDevice device.old device.new 0 }
-{
-    write_through(device, LABEL, &label(blocks.number))
-}
-
-// Makes the image. A stop before the end leaves no good label, or what was there.
-fn make<D: SectorDevice>(device: &mut D, blocks: BlockCount) -> Result<(), DeviceFault>
+// Makes the blank image. A stop before the end leaves no good label, or what was there.
+fn make_blank<D: SectorDevice>(device: &mut D, blocks: BlockCount) -> Result<(), DeviceFault>
     requires size { D.sector_count device.old ≡ sectors_for blocks.number }
     ensures ok { IsTrue (D.keeps_sectors device.old)
         → OnOk result (IsMade blocks.number (λ _. replicate 512 32) (D.disk device.new)) }
@@ -146,16 +39,27 @@ fn make<D: SectorDevice>(device: &mut D, blocks: BlockCount) -> Result<(), Devic
     ensures begins { BeginsAtMost D.SectorDevice device.old device.new (2 * blocks.number + 4) 4 }
     ensures reads { ReadsAtMost D.SectorDevice device.old device.new 1 }
 {
-    unlabel(device, blocks)?;
-    prepare(device, blocks)?;
-    seal(device, blocks)
+    match make(
+        &mut Blanks,
+        &mut NullDevice::new(0),
+        &mut Homes,
+        device,
+        blocks,
+    ) {
+        Ok(()) => Ok(()),
+        Err(_) => Err(DeviceFault),
+    }
 }
 
-/// Makes an image of `blocks` blank blocks, 32 to 3,840, on a device of exactly `3 + 4 * blocks` sectors, and answers a
-/// store of them. An error hands the device back. Takes no memory.
+/// Makes an image of layout 2 of `blocks` blank blocks, 32 to 3,840, on a device of exactly `3 + 4 * blocks` sectors,
+/// and answers a store of them. An error hands the device back. Takes no memory.
 ///
-/// Gate and record become zeros, and the slots are left. The label is written last, and a good label that stood there is
-/// taken away first. So a stop leaves no good label, or the blank image, or the old image as it was.
+/// Gate and record become zeros, and the slots are left. The label is written last, and a good label that stood there
+/// is taken away first. So a stop leaves no good label, or the blank image, or the old image as it was.
+///
+/// It refuses a device of another size, or another number of blocks (BadSize, with no device call). Device comes where
+/// a call of the device failed.
+/// Rule: IMAGE, A format.
 pub fn format<D: SectorDevice>(mut device: D, blocks: u16) -> Result<Store<D>, (OpenFault, D)>
     ensures ok { IsTrue (D.keeps_sectors device)
         → IfOk result (λ store. StandsFor store (fresh (blank_blocks blocks))) }
@@ -164,6 +68,7 @@ pub fn format<D: SectorDevice>(mut device: D, blocks: u16) -> Result<Store<D>, (
     ensures slots { IsTrue (D.keeps_sectors device)
         → IfOk result (λ store. KeepsSlots blocks (D.disk device).content (disk_of store).content) }
     ensures blocks { IfOk result (λ store. blocks_of store ≡ blocks) }
+    ensures technique { IfOk result (λ store. technique_of store ≡ Journal) }
     ensures closed { IfOk result (λ store. closed_of store ≡ false) }
     ensures pending { IfOk result (λ store. (b : ℕ) → is_pending store b ≡ false) }
 
@@ -193,7 +98,7 @@ pub fn format<D: SectorDevice>(mut device: D, blocks: u16) -> Result<Store<D>, (
     if !fits(blocks, MOST_BLOCKS, device.sectors()) {
         return Err((OpenFault::BadSize, device));
     }
-    match make(&mut device, BlockCount { number: blocks }) {
+    match make_blank(&mut device, BlockCount { number: blocks }) {
         Ok(()) => Ok(Store::adopt(device, blocks)),
         Err(_) => Err((OpenFault::Device, device)),
     }

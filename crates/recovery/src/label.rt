@@ -10,7 +10,9 @@ use crate::OpenFault;
 use byteorder::{ByteOrder, LittleEndian};
 use journal::layout::FEWEST_BLOCKS;
 
-/// How many blocks an image of so many sectors has, where it has no more than `most`.
+/// How many blocks an image of layout 1 or 2 of so many sectors has, 32 or more, where these are no more than `most`.
+/// None where no such image has so many sectors.
+/// Rule: IMAGE, The bytes; IMAGE, Layout 1, and an upgrade.
 pub fn blocks_of_size(sectors: u32, most: u16) -> Option<u16>
     ensures count { IfSome result (λ n. n ≡ blocks_in sectors) }
     ensures some { OnSome result (is_size_within most sectors ≡ true) }
@@ -29,6 +31,7 @@ pub fn blocks_of_size(sectors: u32, most: u16) -> Option<u16>
 
 /// Whether a label is the good one of a layout, for an image of so many blocks, or else why not: the first of NoLabel,
 /// OtherVersion and WrongCount that holds.
+/// Rule: IMAGE, The bytes.
 pub fn check_label(label: &[u8; 512], version: u16, blocks: u16) -> Result<(), OpenFault>
     ensures exact { MatchResult result (λ _. label_refusal_by version blocks label.now ≡ None)
         (λ e. label_refusal_by version blocks label.now ≡ Some e) }

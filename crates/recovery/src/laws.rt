@@ -1,4 +1,5 @@
 //! Laws of the definitions.
+//! Rule: SEMANTICS, Laws.
 ghost use Rattle.std.specs.Prelude.{ℕ, List, length};
 ghost use Rattle.std.specs.List.{AllByRecursion};
 ghost use Rattle.sector_disk.specs.Disk.{Image};

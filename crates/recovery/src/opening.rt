@@ -9,7 +9,8 @@ ghost use Rattle.journal.specs.Clean.{IsClean};
 ghost use Rattle.journal.specs.Images.{meaning, Means};
 ghost use Rattle.journal.specs.Layout.{sectors_for};
 ghost use Rattle.journal.specs.Maps.{fresh};
-ghost use Rattle.journal.specs.Store.{device_of, disk_of, blocks_of, closed_of, is_pending, StandsFor};
+ghost use Rattle.journal.specs.Store.{device_of, disk_of, blocks_of, closed_of, technique_of, is_pending, StandsFor};
+ghost use Rattle.journal.specs.declared.technique.Technique.TheVariants.{Journal};
 ghost use Rattle.recovery.specs.Label.{is_size};
 ghost use Rattle.recovery.specs.Opened.{image_refusal, RecoveryLeaves, end_of, gate_after, writes_for, syncs_for, reads_for};
 ghost use Rattle.recovery.specs.declared.fault.OpenFault.{OpenFault};
@@ -22,14 +23,15 @@ use journal::Store;
 use journal::layout::{BlockCount, MOST_BLOCKS, VERSION};
 use sector_disk::SectorDevice;
 
-/// Opens an image after a stop, and answers a store of its blocks. What an open gate asks for is done first, so a stop
-/// within this call, however often, loses nothing. An open gate becomes zeros, and a closed one is left as it is. An error
-/// hands the device back. Takes no memory.
+/// Opens an image of layout 2 after a stop, and answers a store of its blocks. What an open gate asks for is done
+/// first, so a stop within this call, however often, loses nothing. An open gate becomes zeros, and a closed one is
+/// left as it is. An error hands the device back. Takes no memory.
 ///
-/// It refuses, in this order, a device of a size that no image has (BadSize, with no device call), one without the name
-/// and zeros of a label (NoLabel), a label of another version (OtherVersion) or of another number of blocks (WrongCount),
-/// and an open gate over a record whose digest isn't that of its bits and slots (Damaged). Device comes where a call of
-/// the device failed.
+/// It refuses, in this order, a device of a size that no image of layout 2 has (BadSize, with no device call), one
+/// without the name and zeros of a label (NoLabel), a label of another version (OtherVersion) or of another number of
+/// blocks (WrongCount), and an open gate over a record whose digest isn't that of its bits and slots (Damaged). Device
+/// comes where a call of the device failed.
+/// Rule: IMAGE, A recovery; IMAGE, The bytes.
 pub fn open<D: SectorDevice>(mut device: D) -> Result<Store<D>, (OpenFault, D)>
     // The store has the blocks that the image meant.
     ensures ok { IsTrue (D.keeps_sectors device)
@@ -39,6 +41,7 @@ pub fn open<D: SectorDevice>(mut device: D) -> Result<Store<D>, (OpenFault, D)>
     ensures gate { IsTrue (D.keeps_sectors device)
         → IfOk result (λ store. (disk_of store).content 1 ≡ gate_after ((D.disk device).content 1)) }
     ensures closed { IfOk result (λ store. closed_of store ≡ false) }
+    ensures technique { IfOk result (λ store. technique_of store ≡ Journal) }
     ensures pending { IfOk result (λ store. (b : ℕ) → is_pending store b ≡ false) }
     ensures size { IfOk result (λ store. D.sector_count device ≡ sectors_for (blocks_of store)) }
 

@@ -1,4 +1,4 @@
-// An image of either layout is recovered.
+//! An image of layout 1 or 2 is recovered.
 ghost use Rattle.std.specs.Prelude.{◌≡◌, ◌≢◌, ◌⊎◌, ◌≤◌, ◌+◌, ◌-◌, ◌*◌, ℕ, true, false, Some, None, IsTrue, OnOk, MatchResult};
 ghost use Rattle.sector_disk.specs.Disk.{MayLeave};
 ghost use Rattle.journal.specs.Calls.{StopsLeave, BeginsAtMost, ReadsAtMost, Proceeds};
@@ -14,8 +14,10 @@ use journal::layout::{BlockCount, GATE, RECORD, VERSION_1, gate_is_open};
 use journal::{apply, is_true_record};
 use sector_disk::{DeviceFault, SectorDevice};
 
-/// Reads the commit record of an image of so many blocks. One that isn't that of its slots is refused as damaged; by layout 1
-/// nothing tells it, and none is.
+/// Reads the commit record of an image of so many blocks, by the version of its label, into `bytes`. One that isn't
+/// that of its slots is refused (Damaged); by layout 1 nothing tells it, and none is. Device comes where a read failed.
+/// After an error `bytes` may be anything.
+/// Rule: IMAGE, The bytes; IMAGE, A recovery.
 pub fn read_record<D: SectorDevice>(
     device: &mut D,
     version: u16,
@@ -84,8 +86,8 @@ fn finish<D: SectorDevice>(
     }
 }
 
-/// Recovers an image of so many blocks, of the layout of this version. A label that isn't its own is refused, and so is a
-/// record that isn't that of its slots.
+/// Recovers an image of so many blocks, of the layout of this version. A label that isn't its own is refused, and so is
+/// a record that isn't that of its slots.
 pub(crate) fn recover<D: SectorDevice>(
     device: &mut D,
     version: u16,

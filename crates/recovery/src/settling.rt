@@ -1,9 +1,10 @@
 // The first steps on an image, whatever a stop left unsynced.
-ghost use Rattle.std.specs.Prelude.{◌≡◌, ◌≢◌, ◌⊎◌, ◌≤◌, ◌+◌, None, Some, IsTrue, OnOk, MatchResult};
+ghost use Rattle.std.specs.Prelude.{◌≡◌, ◌≢◌, ◌⊎◌, ◌<◌, ◌≤◌, ◌+◌, false, None, Some, IsTrue, OnOk, MatchResult};
 ghost use Rattle.sector_disk.specs.Disk.{MayLeave, settled};
 ghost use Rattle.journal.specs.Calls.{StopsLeave, BeginsAtMost, ReadsAtMost, Passes, Proceeds};
 ghost use Rattle.journal.specs.Layout.{label_by};
 ghost use Rattle.recovery.specs.Label.{label_refusal_by};
+ghost use Rattle.recovery.specs.Making.{KeepsUnits};
 ghost use Rattle.recovery.specs.Recovered.{Tells};
 ghost use Rattle.recovery.specs.declared.fault.OpenFault.{OpenFault};
 ghost use Rattle.recovery.specs.declared.fault.OpenFault.TheVariants.{Device};
@@ -18,13 +19,14 @@ pub(crate) fn settle<D: SectorDevice>(
     device: &mut D,
     found: &mut [u8; 512],
 ) -> Result<(), DeviceFault>
-    requires { 3 ≤ D.sector_count device.old }
+    requires { 0 < D.sector_count device.old }
     ensures ok { IsTrue (D.keeps_model device.old)
         → OnOk result (D.disk device.new ≡ settled (D.disk device.old)) }
     ensures label { IsTrue (D.keeps_model device.old)
         → OnOk result (found.new ≡ (D.disk device.old).content 0) }
     ensures stops { IsTrue (D.keeps_model device.old)
         → StopsLeave D.SectorDevice device.old device.new (MayLeave (D.disk device.old)) }
+    ensures units { KeepsUnits D.SectorDevice false device.old device.new }
     ensures passes { Passes D.SectorDevice device.old device.new result }
     ensures begins { BeginsAtMost D.SectorDevice device.old device.new 0 1 }
     ensures reads { ReadsAtMost D.SectorDevice device.old device.new 1 }

@@ -1,26 +1,28 @@
 // An image of layout 1 is recovered, and its blocks are put into an image of layout 2 on another device.
-ghost use Rattle.std.specs.Prelude.{◌≡◌, ◌≢◌, ◌⊎◌, ◌<◌, ◌≤◌, ◌+◌, ◌-◌, ◌*◌, ℕ, false, Some, None, IsTrue, OnOk, IfOk, IfErr, MatchResult};
+ghost use Rattle.std.specs.Prelude.{◌≡◌, ◌≢◌, ◌⊎◌, ◌<◌, ◌≤◌, ◌+◌, ◌-◌, ◌*◌, ℕ, true, Some, None, IsTrue, OnOk, IfOk, IfErr, MatchResult};
 ghost use Rattle.sector_disk.specs.Counting.{count_up};
-ghost use Rattle.sector_disk.specs.Disk.{Image, MayLeave, written};
+ghost use Rattle.sector_disk.specs.Disk.{Image, MayLeave};
 ghost use Rattle.journal.specs.Calls.{StopsLeave, BeginsAtMost, ReadsAtMost, Proceeds};
-ghost use Rattle.journal.specs.Images.{meaning, Means};
-ghost use Rattle.journal.specs.Layout.{most_blocks_1, sectors_for, label_of};
-ghost use Rattle.journal.specs.Steps.{WritesOnly, IsAsSynced};
+ghost use Rattle.journal.specs.Images.{home_of, blocks_below, meaning, Means};
+ghost use Rattle.journal.specs.Layout.{most_blocks_1, sectors_for};
 ghost use Rattle.recovery.specs.Formatted.{MakingLeaves, IsFilled, KeepsSlots};
+ghost use Rattle.recovery.specs.Making.{Carries};
 ghost use Rattle.recovery.specs.Opened.{gate_after, writes_for, syncs_for};
-ghost use Rattle.recovery.specs.Steps.{IsUnlabelled, IsPrepared, IsMade, TakenAway, CarriedLeaves, OnlyRead, WentWell, TellsFault};
+ghost use Rattle.recovery.specs.Steps.{IsMade, WentWell};
 ghost use Rattle.recovery.specs.Upgraded.{size_refusal, upgrade_refusal, OldLeaves, reads_for_1};
 ghost use Rattle.recovery.specs.declared.fault.OpenFault.{OpenFault};
 ghost use Rattle.recovery.specs.declared.fault.OpenFault.TheVariants.{BadSize, Device};
 ghost use Rattle.recovery.specs.declared.fault.UpgradeFault.{UpgradeFault};
 ghost use Rattle.recovery.specs.declared.fault.UpgradeFault.TheVariants.{Old, New};
 
-use crate::formatting::{fill_head, seal, unlabel};
+use crate::homes::Homes;
+use crate::journal_blocks::JournalBlocks;
 use crate::label::blocks_of_size;
+use crate::making::make;
 use crate::recovering::recover;
 use crate::{OpenFault, UpgradeFault};
-use journal::layout::{BlockCount, MOST_BLOCKS_1, VERSION_1, home_sector};
-use sector_disk::{DeviceFault, SectorDevice};
+use journal::layout::{BlockCount, MOST_BLOCKS_1, VERSION_1};
+use sector_disk::SectorDevice;
 
 // How many blocks both images have.
 fn blocks_of_both(old: u32, new: u32) -> Result<BlockCount, UpgradeFault>
@@ -39,160 +41,6 @@ fn blocks_of_both(old: u32, new: u32) -> Result<BlockCount, UpgradeFault>
     Ok(BlockCount { number })
 }
 
-// Copies a sector from one device to the same place of another.
-fn carry_sector<A: SectorDevice, B: SectorDevice>(
-    source: &mut A,
-    target: &mut B,
-    k: u32,
-) -> Result<(), UpgradeFault>
-    requires from { k < A.sector_count source.old }
-    requires to { k < B.sector_count target.old }
-    ensures ok { IsTrue (A.keeps_model source.old) → IsTrue (B.keeps_sectors target.old)
-        → OnOk result (B.disk target.new ≡ written (B.disk target.old) k ((A.disk source.old).content k)) }
-    ensures only { IsTrue (B.keeps_sectors target.old)
-        → WritesOnly (λ j. j ≡ k) (B.disk target.old) (B.disk target.new) }
-    ensures stops { IsTrue (B.keeps_sectors target.old)
-        → StopsLeave B.SectorDevice target.old target.new (IsAsSynced (λ j. j ≡ k) (B.disk target.old)) }
-    ensures faults { IfErr result (TellsFault A.SectorDevice B.SectorDevice source.old source.new target.old target.new) }
-    ensures well { OnOk result (WentWell A.SectorDevice B.SectorDevice source.old source.new target.old target.new) }
-    ensures source { OnlyRead A.SectorDevice source.old source.new }
-    ensures passes { Proceeds B.SectorDevice target.old target.new }
-    ensures begins { BeginsAtMost B.SectorDevice target.old target.new 1 0 }
-    ensures reads { ReadsAtMost A.SectorDevice source.old source.new 1 }
-    ensures target_reads { ReadsAtMost B.SectorDevice target.old target.new 0 }
-{
-    let mut bytes = [0; 512];
-    match source.read(k, &mut bytes) {
-        Ok(()) => match target.write(k, &bytes) {
-            Ok(()) => Ok(()),
-            Err(_) => Err(UpgradeFault::New(OpenFault::Device)),
-        },
-        Err(_) => Err(UpgradeFault::Old(OpenFault::Device)),
-    }
-}
-
-// Copies the homes.
-fn carry_homes<A: SectorDevice, B: SectorDevice>(
-    source: &mut A,
-    target: &mut B,
-    blocks: BlockCount,
-) -> Result<(), UpgradeFault>
-    requires from { A.sector_count source.old ≡ sectors_for blocks.number }
-    requires to { B.sector_count target.old ≡ sectors_for blocks.number }
-    ensures ok { IsTrue (A.keeps_model source.old) → IsTrue (B.keeps_sectors target.old)
-        → OnOk result ((k : ℕ) → 3 + 2 * blocks.number ≤ k → k < 3 + 4 * blocks.number
-        → (B.disk target.new).content k ≡ (A.disk source.old).content k) }
-    ensures only { IsTrue (B.keeps_sectors target.old)
-        → WritesOnly (λ k. 3 + 2 * blocks.number ≤ k) (B.disk target.old) (B.disk target.new) }
-    ensures stops { IsTrue (B.keeps_sectors target.old)
-        → StopsLeave B.SectorDevice target.old target.new (IsAsSynced (λ k. 3 + 2 * blocks.number ≤ k) (B.disk target.old)) }
-    ensures faults { IfErr result (TellsFault A.SectorDevice B.SectorDevice source.old source.new target.old target.new) }
-    ensures well { OnOk result (WentWell A.SectorDevice B.SectorDevice source.old source.new target.old target.new) }
-    ensures source { OnlyRead A.SectorDevice source.old source.new }
-    ensures passes { Proceeds B.SectorDevice target.old target.new }
-    ensures begins { BeginsAtMost B.SectorDevice target.old target.new (2 * blocks.number) 0 }
-    ensures reads { ReadsAtMost A.SectorDevice source.old source.new (2 * blocks.number) }
-    ensures target_reads { ReadsAtMost B.SectorDevice target.old target.new 0 }
-{
-    let first = home_sector(blocks, 0);
-    for k in first..first + 2 * blocks.number as u32 {
-        carry_sector(source, target, k)?;
-    }
-    Ok(())
-}
-
-// Writes all of the new image but its label.
-fn fill<A: SectorDevice, B: SectorDevice>(
-    source: &mut A,
-    target: &mut B,
-    blocks: BlockCount,
-) -> Result<(), UpgradeFault>
-    requires from { A.sector_count source.old ≡ sectors_for blocks.number }
-    requires to { B.sector_count target.old ≡ sectors_for blocks.number }
-    ensures ok { IsTrue (A.keeps_model source.old) → IsTrue (B.keeps_sectors target.old)
-        → OnOk result (IsFilled blocks.number (A.disk source.old).content (B.disk target.new).content) }
-    ensures slots { IsTrue (B.keeps_sectors target.old)
-        → OnOk result (KeepsSlots blocks.number (B.disk target.old).content (B.disk target.new).content) }
-    ensures only { IsTrue (B.keeps_sectors target.old)
-        → WritesOnly (λ k. k ≢ 0) (B.disk target.old) (B.disk target.new) }
-    ensures stops { IsTrue (B.keeps_sectors target.old)
-        → StopsLeave B.SectorDevice target.old target.new (IsAsSynced (λ k. k ≢ 0) (B.disk target.old)) }
-    ensures faults { IfErr result (TellsFault A.SectorDevice B.SectorDevice source.old source.new target.old target.new) }
-    ensures well { OnOk result (WentWell A.SectorDevice B.SectorDevice source.old source.new target.old target.new) }
-    ensures source { OnlyRead A.SectorDevice source.old source.new }
-    ensures passes { Proceeds B.SectorDevice target.old target.new }
-    ensures begins { BeginsAtMost B.SectorDevice target.old target.new (2 * blocks.number + 2) 0 }
-    ensures reads { ReadsAtMost A.SectorDevice source.old source.new (2 * blocks.number) }
-    ensures target_reads { ReadsAtMost B.SectorDevice target.old target.new 0 }
-{
-    match fill_head(target) {
-        Ok(()) => carry_homes(source, target, blocks),
-        Err(_) => Err(UpgradeFault::New(OpenFault::Device)),
-    }
-}
-
-// Fills the image under no good label.
-fn prepare<A: SectorDevice, B: SectorDevice>(
-    source: &mut A,
-    target: &mut B,
-    blocks: BlockCount,
-) -> Result<(), UpgradeFault>
-    requires from { A.sector_count source.old ≡ sectors_for blocks.number }
-    requires to { B.sector_count target.old ≡ sectors_for blocks.number }
-    requires unlabelled { IsTrue (B.keeps_sectors target.old) → IsUnlabelled blocks.number (B.disk target.old) }
-    ensures ok { IsTrue (A.keeps_model source.old) → IsTrue (B.keeps_sectors target.old)
-        → OnOk result (IsPrepared blocks.number (A.disk source.old).content (B.disk target.new)) }
-    ensures slots { IsTrue (B.keeps_sectors target.old)
-        → OnOk result (KeepsSlots blocks.number (B.disk target.old).content (B.disk target.new).content) }
-    ensures synced { IsTrue (B.keeps_sectors target.old)
-        → OnOk result ((k : ℕ) → (B.disk target.new).unsynced k ≡ false) }
-    ensures stops { IsTrue (B.keeps_sectors target.old)
-        → StopsLeave B.SectorDevice target.old target.new (λ c. c 0 ≢ label_of blocks.number) }
-    ensures faults { IfErr result (TellsFault A.SectorDevice B.SectorDevice source.old source.new target.old target.new) }
-    ensures well { OnOk result (WentWell A.SectorDevice B.SectorDevice source.old source.new target.old target.new) }
-    ensures source { OnlyRead A.SectorDevice source.old source.new }
-    ensures passes { Proceeds B.SectorDevice target.old target.new }
-    ensures begins { BeginsAtMost B.SectorDevice target.old target.new (2 * blocks.number + 2) 1 }
-    ensures reads { ReadsAtMost A.SectorDevice source.old source.new (2 * blocks.number) }
-    ensures target_reads { ReadsAtMost B.SectorDevice target.old target.new 0 }
-{
-    fill(source, target, blocks)?;
-    match target.sync() {
-        Ok(()) => Ok(()),
-        Err(_) => Err(UpgradeFault::New(OpenFault::Device)),
-    }
-}
-
-// Puts the image under a label, once it is whole.
-fn write_image<A: SectorDevice, B: SectorDevice>(
-    source: &mut A,
-    target: &mut B,
-    blocks: BlockCount,
-) -> Result<(), UpgradeFault>
-    requires from { A.sector_count source.old ≡ sectors_for blocks.number }
-    requires to { B.sector_count target.old ≡ sectors_for blocks.number }
-    requires unlabelled { IsTrue (B.keeps_sectors target.old) → IsUnlabelled blocks.number (B.disk target.old) }
-    ensures ok { IsTrue (A.keeps_model source.old) → IsTrue (B.keeps_sectors target.old)
-        → OnOk result (IsMade blocks.number (A.disk source.old).content (B.disk target.new)) }
-    ensures slots { IsTrue (B.keeps_sectors target.old)
-        → OnOk result (KeepsSlots blocks.number (B.disk target.old).content (B.disk target.new).content) }
-    ensures stops { IsTrue (A.keeps_model source.old) → IsTrue (B.keeps_sectors target.old)
-        → StopsLeave B.SectorDevice target.old target.new (CarriedLeaves blocks.number (A.disk source.old).content) }
-    ensures faults { IfErr result (TellsFault A.SectorDevice B.SectorDevice source.old source.new target.old target.new) }
-    ensures well { OnOk result (WentWell A.SectorDevice B.SectorDevice source.old source.new target.old target.new) }
-    ensures source { OnlyRead A.SectorDevice source.old source.new }
-    ensures passes { Proceeds B.SectorDevice target.old target.new }
-    ensures begins { BeginsAtMost B.SectorDevice target.old target.new (2 * blocks.number + 3) 2 }
-    ensures reads { ReadsAtMost A.SectorDevice source.old source.new (2 * blocks.number) }
-    ensures target_reads { ReadsAtMost B.SectorDevice target.old target.new 0 }
-{
-    prepare(source, target, blocks)?;
-    match seal(target, blocks) {
-        Ok(()) => Ok(()),
-        Err(_) => Err(UpgradeFault::New(OpenFault::Device)),
-    }
-}
-
 // Makes an image of the homes of another. A stop before the end leaves no good label, or what was there.
 fn carry<A: SectorDevice, B: SectorDevice>(
     source: &mut A,
@@ -207,27 +55,24 @@ fn carry<A: SectorDevice, B: SectorDevice>(
         → OnOk result (KeepsSlots blocks.number (B.disk target.old).content (B.disk target.new).content) }
     ensures stops { IsTrue (A.keeps_model source.old) → IsTrue (B.keeps_sectors target.old)
         → StopsLeave B.SectorDevice target.old target.new
-        (λ c. TakenAway blocks.number (B.disk target.old) c ⊎ CarriedLeaves blocks.number (A.disk source.old).content c) }
-    ensures faults { IfErr result (TellsFault A.SectorDevice B.SectorDevice source.old source.new target.old target.new) }
-    ensures well { OnOk result (WentWell A.SectorDevice B.SectorDevice source.old source.new target.old target.new) }
-    ensures source { OnlyRead A.SectorDevice source.old source.new }
-    ensures passes { Proceeds B.SectorDevice target.old target.new }
-    ensures begins { BeginsAtMost B.SectorDevice target.old target.new (2 * blocks.number + 4) 4 }
-    ensures reads { ReadsAtMost A.SectorDevice source.old source.new (2 * blocks.number) }
-    ensures target_reads { ReadsAtMost B.SectorDevice target.old target.new 1 }
+        (MakingLeaves blocks.number (blocks_below (home_of blocks.number (A.disk source.old).content) blocks.number) (B.disk target.old)) }
+    ensures carries { Carries A.SectorDevice B.SectorDevice true source.old source.new target.old target.new (2 * blocks.number + 4) 4 1 result }
+    ensures reads { IsTrue (A.keeps_model source.old) → ReadsAtMost A.SectorDevice source.old source.new (2 * blocks.number) }
 {
-    match unlabel(target, blocks) {
-        Ok(()) => write_image(source, target, blocks),
-        Err(_) => Err(UpgradeFault::New(OpenFault::Device)),
-    }
+    let mut homes = JournalBlocks {
+        blocks,
+        listing: None,
+    };
+    make(&mut homes, source, &mut Homes, target, blocks)
 }
 
 /// Makes an image of layout 2 of the blocks of one of layout 1, on another device of as many sectors. The old image is
 /// recovered first, and is written no further. The label of the new one is written last. Takes no memory.
 ///
-/// It refuses, in this order, an old device of a size that no image of layout 1 has (BadSize), a new one of another size
-/// (BadSize), and an old label as `open` does, by layout 1 (NoLabel, OtherVersion, WrongCount). Before these nothing is
-/// written. Device comes where a call of that device failed.
+/// It refuses, in this order, an old device of a size that no image of layout 1 has (BadSize), a new one of another
+/// size (BadSize), and an old label as `open` does, by layout 1 (NoLabel, OtherVersion, WrongCount). Before these
+/// nothing is written. Device comes where a call of that device failed.
+/// Rule: IMAGE, Layout 1, and an upgrade.
 pub fn upgrade<A: SectorDevice, B: SectorDevice>(
     old: &mut A,
     new: &mut B,

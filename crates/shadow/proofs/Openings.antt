@@ -4,9 +4,9 @@ use Rattle.std.specs.Prelude.{not}
 use Rattle.sector_disk.specs.Disk.{Image}
 use Rattle.recovery.specs.declared.fault.OpenFault.{OpenFault}
 use Rattle.recovery.specs.declared.fault.OpenFault.TheVariants.{BadSize, Damaged}
-use Rattle.shadow.specs.Images.{IsWhole}
+use Rattle.journal.specs.PageImages.{IsWhole}
 use Rattle.shadow.specs.Label.{is_known_size, label_refusal, refusal}
-use Rattle.shadow.specs.Layout.{sectors_for}
+use Rattle.journal.specs.PageLayout.{sectors_for}
 use Rattle.shadow.specs.Opened.{HasMeaning, Refuses}
 use Rattle.shadow.proofs.Labels.{count_is, good_passes}
 

@@ -1,31 +1,31 @@
 // A device is made an image of blank blocks.
 ghost use Rattle.std.specs.Prelude.{◌≡◌, ◌≢◌, ◌<◌, ◌≤◌, ◌+◌, ◌*◌, ◌%◌, ◌^◌, ◌++◌, ℕ, true, false, take, drop, IsTrue, OnOk, IfOk, IfErr, MatchBool, replicate};
 ghost use Rattle.sector_disk.specs.Counting.{count_up};
-ghost use Rattle.sector_disk.specs.Disk.{Image, MayLeave, written, settled};
+ghost use Rattle.sector_disk.specs.Disk.{Image, MayLeave, written};
 ghost use Rattle.sector_disk.specs.Moments.{Elapses};
 ghost use Rattle.journal.specs.Calls.{StopsLeave, BeginsAtMost, ReadsAtMost};
 ghost use Rattle.journal.specs.Layout.{most_blocks};
 ghost use Rattle.journal.specs.Maps.{fresh};
 ghost use Rattle.recovery.specs.Formatted.{blank_blocks};
 ghost use Rattle.recovery.specs.declared.fault.OpenFault.TheVariants.{BadSize, Device};
-ghost use Rattle.shadow.specs.Calls.{Passes};
-ghost use Rattle.shadow.specs.Formatted.{FormatLeaves, HasFirst, IsBlank, KeepsRest, IsUnlabelled, IsPrepared, IsMade, TakenAway, Sealed, InUnit, PastLabel, Spoils, placed};
-ghost use Rattle.shadow.specs.Images.{Means};
+ghost use Rattle.journal.specs.PageCalls.{Passes};
+ghost use Rattle.shadow.specs.Formatted.{FormatLeaves, HasFirst, IsBlank, KeepsRest, IsMade, PastLabel, Spoils, placed};
+ghost use Rattle.journal.specs.PageImages.{Means};
 ghost use Rattle.shadow.specs.Label.{is_size_for};
-ghost use Rattle.shadow.specs.Layout.{sectors_for, label_of, gate_at, record_at};
+ghost use Rattle.journal.specs.PageLayout.{sectors_for, label_of, gate_at, record_at};
 ghost use Rattle.shadow.specs.Opened.{end_of};
-ghost use Rattle.shadow.specs.Steps.{IsAsSynced};
-ghost use Rattle.shadow.specs.Store.{device_of, disk_of, blocks_of, closed_of, is_pending, StandsFor};
-ghost use Rattle.shadow.specs.Tags.{tag_of, xor_bytes, sum_below};
+ghost use Rattle.journal.specs.Store.{device_of, disk_of, blocks_of, closed_of, technique_of, is_pending, StandsFor};
+ghost use Rattle.journal.specs.Technique.{is_journal};
+ghost use Rattle.journal.specs.Tags.{tag_of, xor_bytes};
 
 use crate::label::fits;
-use crate::layout::{GATE, label, place_sector, record_sector, tag_sector, with_sum};
-use crate::pairs::{write_pair, write_sector, write_through};
-use crate::settling::settle;
-use crate::store::Store;
-use crate::tags::{add, tag_of};
-use journal::layout::{BlockCount, LABEL};
-use recovery::OpenFault;
+use crate::places::Places;
+use journal::Store;
+use journal::layout::BlockCount;
+use journal::pages::layout::{GATE, place_sector, record_sector, tag_sector};
+use journal::pages::tags::{add, tag_of};
+use journal::pages::{write_pair, write_sector};
+use recovery::{Blanks, NullDevice, OpenFault, make};
 use sector_disk::{DeviceFault, SectorDevice};
 
 // Writes a block and its tag to the place that begins with sector `k`.
@@ -70,9 +70,9 @@ fn write_places<D: SectorDevice>(
     write_sector(device, place_sector(b, true) + 2, &[0; 512])
 }
 
-/// Writes block `b`, a number below 3,840, to its first place, with its tag, and clears the tag of its second one. The tag is put
-/// into a sum.
-pub fn write_block<D: SectorDevice>(
+// Writes block `b`, a number below 3,840, to its first place, with its tag, and clears the tag of its second one. The tag is put
+// into a sum.
+pub(crate) fn write_block<D: SectorDevice>(
     device: &mut D,
     b: u16,
     bytes: &[u8; 1024],
@@ -97,38 +97,11 @@ pub fn write_block<D: SectorDevice>(
     Ok(())
 }
 
-// Fills the first places with blanks, and puts their tags into a sum.
-fn fill_places<D: SectorDevice>(
+// Closes the gate, clears the record that it doesn't name, and writes the other one.
+pub(crate) fn fill_head<D: SectorDevice>(
     device: &mut D,
-    blocks: BlockCount,
-    sum: &mut [u8; 32],
+    listing: &[u8; 512],
 ) -> Result<(), DeviceFault>
-    requires size { D.sector_count device.old ≡ sectors_for blocks.number }
-    requires empty { sum.old ≡ replicate 32 0 }
-    ensures places { IsTrue (D.keeps_model device.old) → OnOk result
-        ((b : ℕ) → b < blocks.number → HasFirst b (replicate 1024 32) (D.disk device.new).content) }
-    ensures rest { IsTrue (D.keeps_model device.old)
-        → OnOk result (KeepsRest (D.disk device.old).content (D.disk device.new).content) }
-    ensures sum { OnOk result (sum.new ≡ sum_below (λ b. tag_of b (replicate 1024 32)) blocks.number) }
-    ensures spoils { Spoils D.SectorDevice PastLabel device.old device.new }
-    ensures passes { Passes D.SectorDevice device.old device.new result }
-    ensures begins { BeginsAtMost D.SectorDevice device.old device.new (4 * blocks.number) 0 }
-    ensures reads { ReadsAtMost D.SectorDevice device.old device.new 0 }
-{
-    for b in 0..blocks.number {
-        write_block(device, b, &blanks(), sum)?;
-    }
-    Ok(())
-}
-
-fn blanks() -> [u8; 1024]
-    ensures { result ≡ replicate 1024 32 }
-{
-    [b' '; 1024]
-}
-
-/// Closes the gate, clears the record that it doesn't name, and writes the other one.
-pub fn fill_head<D: SectorDevice>(device: &mut D, listing: &[u8; 512]) -> Result<(), DeviceFault>
     requires { 32 ≤ D.sector_count device.old }
     ensures ok { IsTrue (D.keeps_model device.old) → OnOk result (D.disk device.new
         ≡ written (written (written (D.disk device.old) gate_at (replicate 512 0)) (record_at true) (replicate 512 0)) (record_at false) listing.now) }
@@ -154,103 +127,8 @@ fn fill_records<D: SectorDevice>(device: &mut D, listing: &[u8; 512]) -> Result<
     write_sector(device, record_sector(false), listing)
 }
 
-// Writes zeros over the label, and makes them stay. A stop may spoil the label's unit, and nothing else.
-fn clear_label<D: SectorDevice>(device: &mut D) -> Result<(), DeviceFault>
-    requires { 0 < D.sector_count device.old }
-    ensures ok { IsTrue (D.keeps_model device.old)
-        → OnOk result (D.disk device.new ≡ settled (written (D.disk device.old) 0 (replicate 512 0))) }
-    ensures stops { IsTrue (D.keeps_model device.old)
-        → StopsLeave D.SectorDevice device.old device.new (IsAsSynced (InUnit (D.disk device.old) 0) (D.disk device.old)) }
-    ensures passes { Passes D.SectorDevice device.old device.new result }
-    ensures begins { BeginsAtMost D.SectorDevice device.old device.new 1 1 }
-    ensures reads { ReadsAtMost D.SectorDevice device.old device.new 0 }
-{
-    device.write(LABEL, &[0; 512])?;
-    device.sync()
-}
-
-/// Makes what is there stay, and takes a good label of an image of so many blocks away, if one stands there.
-pub fn unlabel<D: SectorDevice>(device: &mut D, blocks: BlockCount) -> Result<(), DeviceFault>
-    requires size { D.sector_count device.old ≡ sectors_for blocks.number }
-    ensures ok { IsTrue (D.keeps_model device.old) → OnOk result (IsUnlabelled blocks.number (D.disk device.new)) }
-    ensures rest { IsTrue (D.keeps_model device.old)
-        → OnOk result (KeepsRest (D.disk device.old).content (D.disk device.new).content) }
-    ensures stops { IsTrue (D.keeps_model device.old)
-        → StopsLeave D.SectorDevice device.old device.new (TakenAway blocks.number (D.disk device.old)) }
-    ensures passes { Passes D.SectorDevice device.old device.new result }
-    ensures begins { BeginsAtMost D.SectorDevice device.old device.new 1 2 }
-    ensures reads { ReadsAtMost D.SectorDevice device.old device.new 1 }
-{
-    let mut found = [0; 512];
-    settle(device, &mut found)?;
-    if found == label(blocks.number) {
-        clear_label(device)
-    } else {
-        Ok(())
-    }
-}
-
-// Writes all of the blank image but its label, and gives the record that counts.
-fn fill<D: SectorDevice>(
-    device: &mut D,
-    blocks: BlockCount,
-    listing: &mut [u8; 512],
-) -> Result<(), DeviceFault>
-    requires size { D.sector_count device.old ≡ sectors_for blocks.number }
-    ensures ok { IsTrue (D.keeps_model device.old) → OnOk result (IsBlank blocks.number (D.disk device.new).content) }
-    ensures named { IsTrue (D.keeps_model device.old) → OnOk result ((D.disk device.new).content (record_at false) ≡ listing.new) }
-    ensures rest { IsTrue (D.keeps_model device.old)
-        → OnOk result (KeepsRest (D.disk device.old).content (D.disk device.new).content) }
-    ensures spoils { Spoils D.SectorDevice PastLabel device.old device.new }
-    ensures passes { Passes D.SectorDevice device.old device.new result }
-    ensures begins { BeginsAtMost D.SectorDevice device.old device.new (4 * blocks.number + 3) 0 }
-    ensures reads { ReadsAtMost D.SectorDevice device.old device.new 0 }
-{
-    let mut sum = [0; 32];
-    fill_places(device, blocks, &mut sum)?;
-    *listing = with_sum(&[0; 512], &sum);
-    fill_head(device, listing)
-}
-
-// Makes all blank under no good label.
-fn prepare<D: SectorDevice>(
-    device: &mut D,
-    blocks: BlockCount,
-    listing: &mut [u8; 512],
-) -> Result<(), DeviceFault>
-    requires size { D.sector_count device.old ≡ sectors_for blocks.number }
-    requires unlabelled { IsTrue (D.keeps_model device.old) → IsUnlabelled blocks.number (D.disk device.old) }
-    ensures ok { IsTrue (D.keeps_model device.old) → OnOk result (IsPrepared blocks.number (λ _. replicate 1024 32) (D.disk device.new)) }
-    ensures named { IsTrue (D.keeps_model device.old) → OnOk result ((D.disk device.new).content (record_at false) ≡ listing.new) }
-    ensures rest { IsTrue (D.keeps_model device.old)
-        → OnOk result (KeepsRest (D.disk device.old).content (D.disk device.new).content) }
-    ensures stops { IsTrue (D.keeps_model device.old)
-        → StopsLeave D.SectorDevice device.old device.new (λ c. c 0 ≢ label_of blocks.number) }
-    ensures passes { Passes D.SectorDevice device.old device.new result }
-    ensures begins { BeginsAtMost D.SectorDevice device.old device.new (4 * blocks.number + 3) 1 }
-    ensures reads { ReadsAtMost D.SectorDevice device.old device.new 0 }
-{
-    fill(device, blocks, listing)?;
-    device.sync()
-}
-
-/// Writes the label of an image of so many blocks over one whose other sectors are synced, and syncs.
-pub fn seal<D: SectorDevice>(device: &mut D, blocks: BlockCount) -> Result<(), DeviceFault>
-    requires size { D.sector_count device.old ≡ sectors_for blocks.number }
-    requires synced { IsTrue (D.keeps_model device.old) → (k : ℕ) → (D.disk device.old).unsynced k ≡ false }
-    ensures ok { IsTrue (D.keeps_model device.old)
-        → OnOk result (D.disk device.new ≡ settled (written (D.disk device.old) 0 (label_of blocks.number))) }
-    ensures stops { IsTrue (D.keeps_model device.old)
-        → StopsLeave D.SectorDevice device.old device.new (Sealed blocks.number (D.disk device.old).content) }
-    ensures passes { Passes D.SectorDevice device.old device.new result }
-    ensures begins { BeginsAtMost D.SectorDevice device.old device.new 1 1 }
-    ensures reads { ReadsAtMost D.SectorDevice device.old device.new 0 }
-{
-    write_through(device, LABEL, &label(blocks.number))
-}
-
-// Makes the image. A stop before the end leaves no good label, or what was there.
-fn make<D: SectorDevice>(
+// Makes the blank image, and gives its record. A stop before the end leaves no good label, or what was there.
+fn make_blank<D: SectorDevice>(
     device: &mut D,
     blocks: BlockCount,
     listing: &mut [u8; 512],
@@ -267,17 +145,32 @@ fn make<D: SectorDevice>(
     ensures begins { BeginsAtMost D.SectorDevice device.old device.new (4 * blocks.number + 5) 4 }
     ensures reads { ReadsAtMost D.SectorDevice device.old device.new 1 }
 {
-    unlabel(device, blocks)?;
-    prepare(device, blocks, listing)?;
-    seal(device, blocks)
+    let mut places = Places::new();
+    match make(
+        &mut Blanks,
+        &mut NullDevice::new(0),
+        &mut places,
+        device,
+        blocks,
+    ) {
+        Ok(()) => {
+            *listing = places.listing;
+            Ok(())
+        }
+        Err(_) => Err(DeviceFault),
+    }
 }
 
-/// Makes an image of `blocks` blank blocks, 32 to 3,840, on a device of exactly `32 + 16 * blocks` sectors, and answers a
-/// store of them. An error hands the device back. Takes no memory.
+/// Makes an image of layout 3 of `blocks` blank blocks, 32 to 3,840, on a device of exactly `32 + 16 * blocks` sectors,
+/// and answers a store of them. An error hands the device back. Takes no memory.
 ///
-/// The label is written last, and a good label that stood there is taken away first. So a stop leaves no good label, or the
-/// blank image, or the old image as it was, but for the other sectors in the label's unit, of which an image says nothing.
-/// The second places keep their bytes, and lose their tags.
+/// The label is written last, and a good label that stood there is taken away first. So a stop leaves no good label, or
+/// the blank image, or the old image as it was, but for the other sectors in the label's unit, of which an image says
+/// nothing. The second places keep their bytes, and lose their tags.
+///
+/// It refuses a device of another size, or another number of blocks (BadSize, with no device call). Device comes where
+/// a call of the device failed.
+/// Rule: IMAGE, Layout 3, A format.
 pub fn format<D: SectorDevice>(mut device: D, blocks: u16) -> Result<Store<D>, (OpenFault, D)>
     ensures ok { IsTrue (D.keeps_model device)
         → IfOk result (λ store. StandsFor store (fresh (blank_blocks blocks))) }
@@ -287,6 +180,7 @@ pub fn format<D: SectorDevice>(mut device: D, blocks: u16) -> Result<Store<D>, (
     ensures label { IsTrue (D.keeps_model device) → IfOk result (λ store. (disk_of store).content 0 ≡ label_of blocks) }
     ensures synced { IsTrue (D.keeps_model device) → IfOk result (λ store. (k : ℕ) → (disk_of store).unsynced k ≡ false) }
     ensures blocks { IfOk result (λ store. blocks_of store ≡ blocks) }
+    ensures technique { IfOk result (λ store. is_journal (technique_of store) ≡ false) }
     ensures closed { IfOk result (λ store. closed_of store ≡ false) }
     ensures pending { IfOk result (λ store. (b : ℕ) → is_pending store b ≡ false) }
 
@@ -317,8 +211,8 @@ pub fn format<D: SectorDevice>(mut device: D, blocks: u16) -> Result<Store<D>, (
         return Err((OpenFault::BadSize, device));
     }
     let mut listing = [0; 512];
-    match make(&mut device, BlockCount { number: blocks }, &mut listing) {
-        Ok(()) => Ok(Store::adopt(device, blocks, false, &listing)),
+    match make_blank(&mut device, BlockCount { number: blocks }, &mut listing) {
+        Ok(()) => Ok(Store::adopt_pages(device, blocks, false, &listing)),
         Err(_) => Err((OpenFault::Device, device)),
     }
 }

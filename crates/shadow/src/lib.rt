@@ -1,25 +1,19 @@
-//! Blocks of 1,024 bytes in two places each, saved all at once by a gate that names one of two records.
+//! Images of layout 3 are made, looked at, opened after a stop, and made of images of other layouts.
 #![tactic(auto)]
 
 mod carrying;
 mod checking;
-mod exchanges;
 mod formatting;
 mod label;
 pub mod laws;
-pub mod layout;
 mod opening;
-mod pairs;
-mod saving;
+mod places;
 mod settling;
-mod store;
-pub mod tags;
 mod upgrading;
 
 pub use checking::read_record;
-pub use exchanges::read_tag;
-pub use formatting::{fill_head, format, seal, unlabel, write_block};
+pub use formatting::format;
 pub use label::{blocks_of_new, is_known_size, read_count};
 pub use opening::{Found, look, open};
-pub use store::{Store, StoreFault};
+pub use places::Places;
 pub use upgrading::upgrade;

@@ -9,17 +9,18 @@ ghost use Rattle.journal.specs.Maps.{fresh};
 ghost use Rattle.recovery.specs.Recovered.{Tells};
 ghost use Rattle.recovery.specs.declared.fault.OpenFault.{OpenFault};
 ghost use Rattle.recovery.specs.declared.fault.OpenFault.TheVariants.{BadSize, Device, Damaged};
-ghost use Rattle.shadow.specs.Clean.{IsClean};
-ghost use Rattle.shadow.specs.Images.{record_of, meaning, IsWhole, Means};
+ghost use Rattle.journal.specs.PageClean.{IsClean};
+ghost use Rattle.journal.specs.PageImages.{record_of, meaning, IsWhole, Means};
 ghost use Rattle.shadow.specs.Label.{is_known_size, blocks_in, label_refusal};
-ghost use Rattle.shadow.specs.Layout.{sectors_for, label_of, gate_at};
+ghost use Rattle.journal.specs.PageLayout.{sectors_for, label_of, gate_at};
 ghost use Rattle.shadow.specs.Opened.{HasMeaning, Refuses, end_of};
-ghost use Rattle.shadow.specs.Store.{device_of, disk_of, blocks_of, closed_of, is_pending, StandsFor};
+ghost use Rattle.journal.specs.Store.{device_of, disk_of, blocks_of, closed_of, technique_of, is_pending, StandsFor};
+ghost use Rattle.journal.specs.Technique.{is_journal};
 
 use crate::checking::{is_whole, read_record};
 use crate::label::{is_known_size, read_count};
 use crate::settling::settle;
-use crate::store::Store;
+use journal::Store;
 use recovery::OpenFault;
 use sector_disk::SectorDevice;
 
@@ -59,8 +60,10 @@ fn start<D: SectorDevice>(device: &mut D) -> Result<u16, OpenFault>
     read_count(&label, device.sectors())
 }
 
-/// Reads the gate of an image with a good label, the record that it names, and each block that counts. An image that is damaged
-/// is refused (Damaged); Device comes where a read failed. Nothing is written, and nothing synced.
+/// Reads the gate of an image of layout 3 of so many blocks with a good label, the record that it names, and each block
+/// that counts. An image that is damaged is refused (Damaged); Device comes where a read failed. Nothing is written,
+/// and nothing synced.
+/// Rule: IMAGE, Layout 3; IMAGE, Layout 3, An opening.
 pub fn look<D: SectorDevice>(device: &mut D, blocks: u16) -> Result<Found, OpenFault>
     requires few { blocks ≤ most_blocks }
     requires size { D.sector_count device.old ≡ sectors_for blocks }
@@ -121,13 +124,15 @@ fn survey<D: SectorDevice>(device: &mut D) -> Result<Found, OpenFault>
     look(device, blocks)
 }
 
-/// Opens an image after a stop, and answers a store of its blocks. One sync makes what is there stay, and nothing is written:
-/// so a stop within this call leaves what a stop before it could leave. An error hands the device back. Takes no memory.
+/// Opens an image of layout 3 after a stop, and answers a store of its blocks. One sync makes what is there stay, and
+/// nothing is written: so a stop within this call leaves what a stop before it could leave. An error hands the device
+/// back. Takes no memory.
 ///
-/// It refuses, in this order, a device of a size that no image of any layout has (BadSize, with no device call), one without
-/// the name and zeros of a label (NoLabel), a label of another version (OtherVersion), one of a number of blocks that isn't
-/// that of the size (WrongCount), and an image of which a block isn't the one that was saved, or the record's sum isn't that
-/// of the blocks (Damaged). Device comes where a call of the device failed.
+/// It refuses, in this order, a device of a size that no image of any layout has (BadSize, with no device call), one
+/// without the name and zeros of a label (NoLabel), a label of another version (OtherVersion), one of a number of
+/// blocks that isn't that of the size (WrongCount), and an image of which a block isn't the one that was saved, or the
+/// record's sum isn't that of the blocks (Damaged). Device comes where a call of the device failed.
+/// Rule: IMAGE, Layout 3, An opening; IMAGE, Layout 3.
 pub fn open<D: SectorDevice>(mut device: D) -> Result<Store<D>, (OpenFault, D)>
     // The store has the blocks that the image meant, and the disk is as it was, and synced.
     ensures ok { IsTrue (D.keeps_model device)
@@ -136,6 +141,7 @@ pub fn open<D: SectorDevice>(mut device: D) -> Result<Store<D>, (OpenFault, D)>
     // Its device is one that a store may be made over.
     ensures clean { IsTrue (D.keeps_model device) → IfOk result (λ store. IsClean (blocks_of store)
         (gate_open ((disk_of store).content gate_at)) (record_of (disk_of store).content) (disk_of store)) }
+    ensures technique { IfOk result (λ store. is_journal (technique_of store) ≡ false) }
     ensures closed { IfOk result (λ store. closed_of store ≡ false) }
     ensures pending { IfOk result (λ store. (b : ℕ) → is_pending store b ≡ false) }
     ensures size { IfOk result (λ store. D.sector_count device ≡ sectors_for (blocks_of store)) }
@@ -177,7 +183,7 @@ pub fn open<D: SectorDevice>(mut device: D) -> Result<Store<D>, (OpenFault, D)>
         return Err((OpenFault::BadSize, device));
     }
     match survey(&mut device) {
-        Ok(found) => Ok(Store::adopt(device, found.number, found.is_open, &found.listing)),
+        Ok(found) => Ok(Store::adopt_pages(device, found.number, found.is_open, &found.listing)),
         Err(fault) => Err((fault, device)),
     }
 }

@@ -14,10 +14,10 @@ ghost use Rattle.recovery.specs.declared.fault.OpenFault.{OpenFault};
 ghost use Rattle.recovery.specs.declared.fault.OpenFault.TheVariants.{BadSize, Device};
 ghost use Rattle.recovery.specs.declared.fault.UpgradeFault.{UpgradeFault};
 ghost use Rattle.recovery.specs.declared.fault.UpgradeFault.TheVariants.{Old, New};
-ghost use Rattle.shadow.specs.Calls.{Proceeds};
+ghost use Rattle.journal.specs.PageCalls.{Proceeds};
 ghost use Rattle.shadow.specs.Formatted.{MakingLeaves, KeepsRest, IsFilled};
-ghost use Rattle.shadow.specs.Images.{Means};
-ghost use Rattle.shadow.specs.Layout.{sectors_for, label_of};
+ghost use Rattle.journal.specs.PageImages.{Means};
+ghost use Rattle.journal.specs.PageLayout.{sectors_for, label_of};
 ghost use Rattle.shadow.specs.Upgraded.{known_blocks, older_version, most_by, older_label_refusal, older_refusal, upgrade_size_refusal, upgrade_refusal, listing_of, reads_to_list};
 
 use crate::carrying::carry;
@@ -166,16 +166,18 @@ fn find<D: SectorDevice>(
     read_listing(device, version, blocks, listing)
 }
 
-/// Makes an image of layout 3 of the blocks that one of layout 1 or 2 means, on another device of exactly `32 + 16 * blocks`
-/// sectors. The old image is synced once and read: nothing is written there. A save that was under way there is in the new image
-/// as if it were finished. The label of the new one is written last, and a good label that stood there is taken away first. Takes no
-/// memory.
+/// Makes an image of layout 3, on another device of exactly `32 + 16 * blocks` sectors, of the blocks that one of
+/// layout 1 or 2 means. The old image is synced once and read: nothing is written there. A save that was under way
+/// there is in the new image as if it were finished. The label of the new one is written last, and a good label that
+/// stood there is taken away first. Takes no memory.
 ///
-/// It refuses, in this order, an old device of a size that no image of any layout has (BadSize), a new one that isn't of the size
-/// for as many blocks (BadSize), both with no call of either device; and an old image without the name and zeros of a label
-/// (NoLabel), with a label of a version that is neither 1 nor 2 (OtherVersion), of a number of blocks that isn't that of the size,
-/// or of a size that no image of its layout has (WrongCount), and one of layout 2 with an open gate over a record that isn't that
-/// of its slots (Damaged), with no call of the new device. Device comes where a call of that device failed.
+/// It refuses, in this order, an old device of a size that no image of any layout has (BadSize), a new one that isn't
+/// of the size for as many blocks (BadSize), both with no call of either device; and an old image without the name and
+/// zeros of a label (NoLabel), with a label of a version that is neither 1 nor 2 (OtherVersion), of a number of blocks
+/// that isn't that of the size, or of a size that no image of its layout has (WrongCount), and one of layout 2 with an
+/// open gate over a record that isn't that of its slots (Damaged), with no call of the new device. Device comes where a
+/// call of that device failed.
+/// Rule: IMAGE, Layout 3, An upgrade.
 pub fn upgrade<A: SectorDevice, B: SectorDevice>(
     old: &mut A,
     new: &mut B,

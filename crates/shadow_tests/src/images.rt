@@ -2,10 +2,11 @@
 ghost use Rattle.std.specs.Prelude.{◌<◌};
 ghost use Rattle.journal.specs.Layout.{most_blocks};
 
+use journal::Store;
+use journal::pages::layout::{current_sector, sum, tag, tag_sector, with_sum};
+use journal::pages::tags::{add, tag_of};
 use sector_disk::{Coarse, Fused, MemoryDisk, SectorDevice};
-use shadow::layout::{current_sector, sum, tag, tag_sector, with_sum};
-use shadow::tags::{add, tag_of};
-use shadow::{Store, open};
+use shadow::open;
 use std::alloc::{AllocError, Global};
 use std::test::Fail;
 

@@ -1,8 +1,8 @@
 // A save on a disk whose sectors lie in units of eight: what it writes, and what a stop leaves of it.
 use crate::assertions::{Assert, assert_same};
 use crate::images::{blank, hex, opened, sector, spill, told};
+use journal::Store;
 use sector_disk::{Coarse, Fate, Fused, MemoryDisk, SectorDevice};
-use shadow::Store;
 use std::alloc::Global;
 use std::process::Abort;
 use std::test::Fail;

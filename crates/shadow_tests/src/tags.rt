@@ -1,7 +1,7 @@
 // Tags by a second implementation of SHA-256.
 use crate::assertions::{Assert, assert_same};
 use crate::images::hex;
-use shadow::tags::{add, exchange, tag_of};
+use journal::pages::tags::{add, exchange, tag_of};
 use std::test::Fail;
 
 #[test]

@@ -9,11 +9,11 @@ use Rattle.sector_disk.specs.Disk.{Image}
 use Rattle.recovery.specs.Opened.{first_of}
 use Rattle.recovery.specs.declared.fault.OpenFault.{OpenFault}
 use Rattle.recovery.specs.declared.fault.OpenFault.TheVariants.{Damaged}
-use Rattle.shadow.specs.Images.{current_of, current_tag, record_of, IsWholeUnder}
+use Rattle.journal.specs.PageImages.{current_of, current_tag, record_of, IsWholeUnder}
 use Rattle.shadow.specs.Label.{blocks_in, refusal}
-use Rattle.shadow.specs.Layout.{sum_in}
+use Rattle.journal.specs.PageLayout.{sum_in}
 use Rattle.shadow.specs.Opened.{Refuses}
-use Rattle.shadow.specs.Tags.{tag_of, sum_below}
+use Rattle.journal.specs.Tags.{tag_of, sum_below}
 use Rattle.stores.specs.Damage.{are_tagged, is_whole, is_whole_under}
 use Rattle.stores.specs.Opened.{newer_refusal}
 

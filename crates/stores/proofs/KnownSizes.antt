@@ -1,43 +1,20 @@
 -- How many sectors images of each layout have.
 use Rattle.std.proofs.Common.{◌≡◌, ◌≤◌, ℕ, Bool, true, false, refl, sym, ◌∙◌, ap, arith}
 use Rattle.std.specs.Prelude.{◌||◌, ◌&&◌, ◌==◌, nat_le, if◌then◌else◌}
-use Rattle.std.proofs.lemmas.Bool.{eq-eqb}
 use Rattle.std.proofs.lemmas.Bool.Decides.{nat_tests}
 use Rattle.journal.specs.Layout as older_layout
-use Rattle.journal.specs.Layout.{fewest_blocks, most_blocks}
 use Rattle.recovery.specs.Label as older
 use Rattle.shadow.specs.Label as newer
 use Rattle.shadow.specs.Label.{is_known_size}
-use Rattle.shadow.specs.Layout as newer_layout
+use Rattle.journal.specs.PageLayout as newer_layout
 use Rattle.shadow.specs.Upgraded.{known_blocks}
-
-pub older_sectors : (sectors : ℕ) → older.is_size sectors ≡ true → sectors ≡ older_layout.sectors_for (older.blocks_in sectors)
-older_sectors sectors is = grind (arith, nat_tests, is)
+use Rattle.journal.proofs.Sizes.{older_count}
 
 newer_sectors : (sectors : ℕ) → newer.is_size sectors ≡ true → sectors ≡ newer_layout.sectors_for (newer.blocks_in sectors)
 newer_sectors sectors is = grind (arith, nat_tests, is)
 
-pub older_count : (n sectors : ℕ) → sectors ≡ older_layout.sectors_for n → older.blocks_in sectors ≡ n
-older_count n sectors size = omega (arith, size)
-
 pub newer_count : (n sectors : ℕ) → sectors ≡ newer_layout.sectors_for n → newer.blocks_in sectors ≡ n
 newer_count n sectors size = omega (arith, size)
-
--- the size of an image of n blocks by layout 2, and by layout 3
-pub size_older : (n sectors : ℕ) → fewest_blocks ≤ n → n ≤ most_blocks → sectors ≡ older_layout.sectors_for n → older.is_size sectors ≡ true
-size_older n sectors many few size =
-    ap (λ m. (nat_le 32 m && nat_le m 3840) && (sectors == older_layout.sectors_for m)) (older_count n sectors size)
-    ∙ (λ i. (le_test 32 n many i && le_test n 3840 few i) && eq-eqb sectors (older_layout.sectors_for n) size i)
-  where
-    le_test : (a b : ℕ) → a ≤ b → nat_le a b ≡ true
-    le_test a b le = grind (arith, nat_tests)
-
-pub size_newer : (n sectors : ℕ) → sectors ≡ newer_layout.sectors_for n → older.is_size sectors ≡ false
-size_newer n sectors size = pick (older.is_size sectors) refl
-  where
-    pick : (b : Bool) → older.is_size sectors ≡ b → older.is_size sectors ≡ false
-    pick true is = absurd (omega (arith, older_sectors sectors is, size))
-    pick false isnt = isnt
 
 first_true : (a b : Bool) → b ≡ false → (a || b) ≡ true → a ≡ true
 first_true true b isnt known = refl

@@ -1,8 +1,6 @@
-pub mod Choices
 pub mod Damage
 pub mod Opened
 pub mod OwnMaps
+pub mod Resting
+pub mod Results
 pub mod KnownSizes
-pub mod Stores
-pub mod Suited
-pub mod Told

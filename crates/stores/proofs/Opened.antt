@@ -11,16 +11,18 @@ use Rattle.recovery.specs.Label as older_label
 use Rattle.recovery.specs.Opened as older
 use Rattle.recovery.specs.declared.fault.OpenFault.{OpenFault}
 use Rattle.recovery.specs.declared.fault.OpenFault.TheVariants.{BadSize}
-use Rattle.shadow.specs.Images as newer_images
+use Rattle.journal.specs.PageImages as newer_images
 use Rattle.shadow.specs.Label as newer_label
 use Rattle.shadow.specs.Label.{is_known_size}
-use Rattle.shadow.specs.Layout as newer_layout
+use Rattle.journal.specs.PageLayout as newer_layout
 use Rattle.shadow.specs.Opened as newer
-use Rattle.stores.specs.Images.{HasMeaning, Means, meaning}
+use Rattle.journal.specs.BySize.{Means}
+use Rattle.stores.specs.Images.{HasMeaning, meaning}
 use Rattle.stores.specs.Opened.{OpeningLeaves, image_refusal, newer_refusal, reads_for, syncs_for, writes_for}
-use Rattle.stores.proofs.Choices.{at_true, at_false, from_true, from_false}
+use Rattle.journal.proofs.Choices.{at_true, at_false, from_true, from_false}
 use Rattle.stores.proofs.Damage.{none_told, refusal_told}
-use Rattle.stores.proofs.KnownSizes.{older_count, newer_count, older_known}
+use Rattle.journal.proofs.Sizes.{older_count}
+use Rattle.stores.proofs.KnownSizes.{newer_count, older_known}
 
 module _ (sectors : ℕ) (image : Image) where
   abbrev OlderMeaning : Type 0

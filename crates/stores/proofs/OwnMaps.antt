@@ -3,23 +3,16 @@ use Rattle.std.proofs.Common.{◌≡◌, ℕ, zero, suc, ◌<◌, List, [], ◌�
 use Rattle.std.specs.Prelude.{if◌then◌else◌, slice_index_or}
 use Rattle.sector_disk.specs.Disk.{MayLeave}
 use Rattle.sector_disk.specs.declared.device.SectorDevice.{Ghosts}
-use Rattle.journal.specs.declared.store.Store.{Store as OlderStore}
-use Rattle.journal.specs.Images.{blocks_below, slot_of, home_of}
+use Rattle.journal.specs.Images.{blocks_below}
 use Rattle.journal.specs.Maps.{Maps}
-use Rattle.journal.specs.Store as older
+use Rattle.journal.specs.Store.{StandsFor, blocks_of, closed_of, device_of, disk_of, is_pending, technique_of}
+use Rattle.journal.specs.Suits.{suits}
+use Rattle.journal.specs.Technique.{saved_of, spilled_of}
+use Rattle.journal.specs.declared.store.Store.{Store}
 use Rattle.journal.proofs.Blocks.{at_below, length-below}
-use Rattle.journal.proofs.Meaning as older_meaning
-use Rattle.shadow.specs.declared.store.Store.{Store as NewerStore}
-use Rattle.shadow.specs.Images.{current_of, free_of}
-use Rattle.shadow.specs.Store as newer
-use Rattle.shadow.proofs.Meaning as newer_meaning
-use Rattle.shadow.proofs.Stops.{before_gate}
-use Rattle.stores.specs.Store.{StandsFor, device_of}
-use Rattle.stores.specs.declared.store.Store.{Store}
-use Rattle.stores.specs.declared.store.Store.TheVariants.{Journaled, Shadowed}
-use Rattle.stores.specs.Suits.{suits}
-use Rattle.stores.proofs.Stores.{journaled, newer_size, older_size, shadowed}
-use Rattle.stores.proofs.Suited.{suits_newer, suits_older}
+use Rattle.journal.proofs.Stores.{has_means}
+use Rattle.journal.proofs.Suited.{suits_keeps}
+use Rattle.journal.proofs.Techniques.{sound_left}
 
 -- f at 0, 1 and so on: n values
 abbrev pub values : {A : Type 0} → (ℕ → A) → ℕ → List A
@@ -36,71 +29,32 @@ at_values f none (suc n) zero below = refl
 at_values f none (suc n) (suc b) below = at_values (λ k. f (suc k)) none n b (omega (arith, below))
 
 module _ {D : Type 0} {G : Ghosts D} where
-  -- its homes, the slots of its pending blocks, and whether it is closed
-  abbrev older_maps : OlderStore D G → Maps
-  older_maps store =
-      let image = (older.disk_of store).content in
-      let n = older.blocks_of store in
-      record {
-        saved = blocks_below (home_of n image) n;
-        pending = values (λ b. if older.is_pending store b then Some (slot_of image b) else None) n;
-        closed = older.closed_of store;
-      }
-
-  -- its current places, the free places of its pending blocks, and whether it is closed
-  abbrev newer_maps : NewerStore D G → Maps
-  newer_maps store =
-      let image = (newer.disk_of store).content in
-      let n = newer.blocks_of store in
-      record {
-        saved = blocks_below (current_of store.listing image) n;
-        pending = values (λ b. if newer.is_pending store b then Some (free_of store.listing image b) else None) n;
-        closed = newer.closed_of store;
-      }
-
-  -- the maps that are kept in it
+  -- the maps that are kept in a store: the saved blocks, what was spilled, and whether it is closed
   abbrev pub own_maps : Store D G → Maps
-  own_maps (Journaled store) = older_maps store
-  own_maps (Shadowed store) = newer_maps store
+  own_maps store =
+      let image = (disk_of store).content in
+      let n = blocks_of store in
+      record {
+        saved = blocks_below (saved_of (technique_of store) n image) n;
+        pending = values (λ b. if is_pending store b then Some (spilled_of (technique_of store) image b) else None) n;
+        closed = closed_of store;
+      }
 
   module _ (present : (d : D) → IsTrue (G.keeps_model d) → MayLeave (G.disk d) (G.disk d).content)
       (keeps_both : (d : D) → IsTrue (G.keeps_sectors d) → IsTrue (G.keeps_model d)) where
-    older_stands : (store : OlderStore D G) → IsTrue (G.keeps_sectors (older.device_of store)) → older.StandsFor store (older_maps store)
-    older_stands store keeps =
-        let n = older.blocks_of store in
-        let homes = home_of n (older.disk_of store).content in
-        let size = length-below homes n in
+    pub stands_for_own : (store : Store D G) → IsTrue (suits G (device_of store)) → StandsFor store (own_maps store)
+    stands_for_own store keeps =
+        let n = blocks_of store in
+        let saved = saved_of (technique_of store) n (disk_of store).content in
+        let size = length-below saved n in
         record {
           model = keeps;
           closed = refl;
           size = size;
           pending_size = length-values _ n;
-          saved = λ now b below. at_below homes n b below;
+          saved = λ now b below. at_below saved n b below;
           pending = λ now b below. at_values _ None n b below;
-          left = λ now c may. older_meaning.means_sized n homes (blocks_below homes n) c store.blocks.many store.blocks.few size (λ b below. at_below homes n b below)
-              (older_meaning.sound_means n (older.disk_of store) (present (older.device_of store) (keeps_both (older.device_of store) keeps)) (store.sound keeps now)
+          left = λ now c may. has_means store saved (blocks_below saved n) c size (λ b below. at_below saved n b below)
+              (sound_left (technique_of store) n (disk_of store) (present (device_of store) (suits_keeps G keeps_both (device_of store) keeps)) (store.sound keeps now)
               (λ k. ⊥) (λ k none. absurd none) c (λ k _ synced. may k synced));
         }
-
-    newer_stands : (store : NewerStore D G) → IsTrue (G.keeps_model (newer.device_of store)) → newer.StandsFor store (newer_maps store)
-    newer_stands store model =
-        let n = newer.blocks_of store in
-        let d = newer.disk_of store in
-        let current = current_of store.listing d.content in
-        let size = length-below current n in
-        record {
-          keeps = model;
-          closed = refl;
-          size = size;
-          pending_size = length-values _ n;
-          saved = λ now b below. at_below current n b below;
-          pending = λ now b below. at_values _ None n b below;
-          left = λ now c may. newer_meaning.means_sized n current (blocks_below current n) c store.many store.few size (λ b below. at_below current n b below)
-              (before_gate n store.listing store.is_open d (present (newer.device_of store) model) (store.sound model now) (λ k. ⊥) (λ k none. absurd none) c (λ k _ synced. may k synced));
-        }
-
-    pub stands_for_own : (store : Store D G) → IsTrue (suits G (device_of store)) → StandsFor store (own_maps store)
-    stands_for_own (Journaled store) keeps =
-        journaled (older_maps store) store (older_stands store (suits_older G (older.device_of store) (older_size store) keeps))
-    stands_for_own (Shadowed store) keeps =
-        shadowed (newer_maps store) store (newer_stands store (suits_newer G (newer.device_of store) (newer_size store) keeps))

@@ -2,9 +2,9 @@
 use Rattle.std.specs.Prelude.{ℕ, zero, suc, ◌&&◌, Bool, true, List, nat_eq}
 use Rattle.std.specs.Cmp.Lexicographic.{pointwise}
 use Rattle.sector_disk.specs.Disk.{Image}
-use Rattle.shadow.specs.Images.{current_of, current_tag, record_of}
-use Rattle.shadow.specs.Layout.{sum_in}
-use Rattle.shadow.specs.Tags.{tag_of, sum_below}
+use Rattle.journal.specs.PageImages.{current_of, current_tag, record_of}
+use Rattle.journal.specs.PageLayout.{sum_in}
+use Rattle.journal.specs.Tags.{tag_of, sum_below}
 
 -- whether under this record the tag of each of the first n blocks is that of its bytes
 abbrev pub are_tagged : List ℕ → Image → ℕ → Bool

@@ -4,15 +4,11 @@ use Rattle.sector_disk.specs.Disk.{Image}
 use Rattle.journal.specs.Chain as older
 use Rattle.journal.specs.Images as older_images
 use Rattle.recovery.specs.Label as older_label
-use Rattle.shadow.specs.Images as newer_images
+use Rattle.journal.specs.PageImages as newer_images
 use Rattle.shadow.specs.Label as newer_label
 use Rattle.shadow.specs.Opened as newer
 
 -- How many sectors there are tells the layout: images of layout 2 have an odd number, and those of layout 3 an even one.
-
--- An image with so many sectors means these blocks.
-abbrev pub Means : ℕ → List (List ℕ) → Image → Type 0
-Means sectors blocks image = MatchBool (older_label.is_size sectors) (older_images.Means blocks image) (newer_images.Means blocks image)
 
 -- the blocks of an image with so many sectors
 abbrev pub meaning : ℕ → Image → List (List ℕ)

@@ -1,6 +1,4 @@
-pub mod Costs
 pub mod Damage
 pub mod Images
 pub mod Opened
-pub mod Store
-pub mod Suits
+pub mod Resting

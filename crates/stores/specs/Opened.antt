@@ -1,5 +1,5 @@
 -- Which images are opened, what an opening may leave, and how many calls it makes.
-use Rattle.std.specs.Prelude.{ℕ, ◌+◌, ◌*◌, if◌then◌else◌, Result, Ok, Err, Option, Some, None, MatchBool}
+use Rattle.std.specs.Prelude.{ℕ, ◌+◌, ◌*◌, if◌then◌else◌, Result, Option, Some, None, MatchBool}
 use Rattle.sector_disk.specs.Disk.{Disk, Image, MayLeave}
 use Rattle.sector_disk.specs.declared.device.SectorDevice.{Ghosts}
 use Rattle.recovery.specs.Label as older_label
@@ -9,8 +9,7 @@ use Rattle.recovery.specs.declared.fault.OpenFault.{OpenFault}
 use Rattle.recovery.specs.declared.fault.OpenFault.TheVariants.{Damaged}
 use Rattle.shadow.specs.Label as newer_label
 use Rattle.stores.specs.Damage.{is_whole}
-use Rattle.stores.specs.Store.{device_of}
-use Rattle.stores.specs.declared.store.Store.{Store}
+use Rattle.journal.specs.declared.store.Store.{Store}
 
 -- the refusal of an image of layout 3 with so many sectors: that of its size or label, and then that of damage
 abbrev pub newer_refusal : ℕ → Image → Option OpenFault
@@ -42,5 +41,4 @@ reads_for sectors image =
 
 -- the device, in a store or handed back
 abbrev pub end_of : {D : Type 0} {G : Ghosts D} → Result (Store D G) (OpenFault × D) → D
-end_of (Ok store) = device_of store
-end_of (Err refused) = refused.1
+end_of result = older.end_of result

@@ -1,11 +1,12 @@
 //! Laws of the definitions.
+//! Rule: SEMANTICS, Laws.
 ghost use Rattle.std.specs.Prelude.{◌≡◌, false, IsTrue};
 ghost use Rattle.journal.specs.Maps.{Maps};
 ghost use Rattle.recovery.specs.Label.{is_size};
-ghost use Rattle.stores.specs.Store.{device_of, StandsFor};
-ghost use Rattle.stores.specs.Suits.{suits};
+ghost use Rattle.journal.specs.Store.{device_of, StandsFor};
+ghost use Rattle.journal.specs.Suits.{suits};
 
-use crate::Store;
+use journal::Store;
 use sector_disk::{Coarse, SectorDevice};
 
 /// Does nothing. Its contract is a law: over each device that suits it a store stands for some maps.

@@ -1,11 +1,12 @@
-//! A store of blocks on a device, by the layout of its image.
+//! A store of blocks on a device is opened by the layout of its image.
 #![tactic(auto)]
 
 pub mod laws;
 mod opening;
+mod resuming;
 mod sizes;
-mod store;
 
+pub use journal::Store;
 pub use opening::open;
+pub use resuming::{named, resume};
 pub use sizes::blocks_of_size;
-pub use store::Store;

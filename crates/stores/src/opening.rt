@@ -5,27 +5,30 @@ ghost use Rattle.sector_disk.specs.Disk.{Image, MayLeave};
 ghost use Rattle.sector_disk.specs.Moments.{Elapses};
 ghost use Rattle.journal.specs.Calls.{StopsLeave, BeginsAtMost, ReadsAtMost};
 ghost use Rattle.journal.specs.Maps.{fresh};
-ghost use Rattle.recovery.specs.Label.{is_size};
 ghost use Rattle.recovery.specs.declared.fault.OpenFault.TheVariants.{BadSize, Device};
 ghost use Rattle.shadow.specs.Label.{is_known_size};
 ghost use Rattle.shadow.specs.Upgraded.{known_blocks};
-ghost use Rattle.stores.specs.Images.{HasMeaning, Means, meaning};
+ghost use Rattle.journal.specs.BySize.{Means};
+ghost use Rattle.stores.specs.Images.{HasMeaning, meaning};
 ghost use Rattle.stores.specs.Opened.{image_refusal, OpeningLeaves, end_of, writes_for, syncs_for, reads_for};
-ghost use Rattle.stores.specs.Suits.{suits};
-ghost use Rattle.stores.specs.Store.{device_of, disk_of, blocks_of, sectors_of, closed_of, is_pending, StandsFor};
+ghost use Rattle.journal.specs.Suits.{suits};
+ghost use Rattle.journal.specs.Store.{device_of, disk_of, blocks_of, sectors_of, closed_of, is_pending, StandsFor};
 
-use crate::Store;
-use journal::layout::MOST_BLOCKS;
-use recovery::{OpenFault, blocks_of_size};
+use crate::sizes::is_older;
+use journal::Store;
+use recovery::OpenFault;
 use sector_disk::SectorDevice;
 
-/// Opens an image of either layout after a stop, and answers a store of its blocks. How many sectors the device has tells the
-/// layout. Of layout 2 what an open gate asks for is done first; of layout 3 all blocks are looked at, and nothing is written. A
-/// stop within this call, however often, loses nothing. An error hands the device back. Takes no memory.
+/// Opens an image of either layout after a stop, and answers a store of its blocks. How many sectors the device has
+/// tells the layout. Of layout 2 what an open gate asks for is done first; of layout 3 all blocks are looked at, and
+/// nothing is written. A stop within this call, however often, loses nothing. An error hands the device back. Takes no
+/// memory.
 ///
-/// It refuses, in this order, a device of a size that no image has (BadSize, with no device call), one without the name and
-/// zeros of a label (NoLabel), a label of another version than that of images of this size (OtherVersion) or of another number
-/// of blocks (WrongCount), and a damaged image (Damaged). Device comes where a call of the device failed.
+/// It refuses, in this order, a device of a size that no image has (BadSize, with no device call), one without the name
+/// and zeros of a label (NoLabel), a label of another version than that of images of this size (OtherVersion) or of
+/// another number of blocks (WrongCount), and a damaged image (Damaged). Device comes where a call of the device
+/// failed.
+/// Rule: IMAGE, A recovery; IMAGE, Layout 3, An opening; DECISIONS, The device and the image.
 pub fn open<D: SectorDevice>(device: D) -> Result<Store<D>, (OpenFault, D)>
     // The store has the blocks that the image meant.
     ensures ok { IsTrue (suits D.SectorDevice device) → IfOk result (λ store.
@@ -72,21 +75,8 @@ pub fn open<D: SectorDevice>(device: D) -> Result<Store<D>, (OpenFault, D)>
         → ReadsAtMost D.SectorDevice device (end_of result) (reads_for (D.sector_count device) (D.disk device).content) }
 {
     if is_older(&device) {
-        match recovery::open(device) {
-            Ok(store) => Ok(Store::Journaled(store)),
-            Err(refused) => Err(refused),
-        }
+        recovery::open(device)
     } else {
-        match shadow::open(device) {
-            Ok(store) => Ok(Store::Shadowed(store)),
-            Err(newer) => Err(newer),
-        }
+        shadow::open(device)
     }
-}
-
-// Whether the device has as many sectors as some image of layout 2.
-fn is_older<D: SectorDevice>(device: &D) -> bool
-    ensures { result ≡ is_size (D.sector_count device.now) }
-{
-    blocks_of_size(device.sectors(), MOST_BLOCKS).is_some()
 }

@@ -3,7 +3,7 @@ use Rattle.std.proofs.Common.{◌≡◌, true, false, IsTrue, Bool}
 use Rattle.std.specs.Prelude.{if◌then◌else◌}
 use Rattle.sector_disk.specs.declared.device.SectorDevice.{Ghosts}
 use Rattle.recovery.specs.Label.{is_size}
-use Rattle.stores.specs.Suits.{suits}
+use Rattle.journal.specs.Suits.{suits}
 
 either : (b : Bool) {x y : Bool} → IsTrue x → IsTrue y → IsTrue (if b then x else y)
 either true x y = x

@@ -5,4 +5,6 @@
 mod openings;
 pub mod premises;
 #[cfg(test)]
+mod resting;
+#[cfg(test)]
 mod saves;

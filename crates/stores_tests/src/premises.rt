@@ -1,7 +1,7 @@
 //! Laws: the premises on devices and files are met.
 ghost use Rattle.std.specs.Prelude.{◌≡◌, false, IsTrue};
 ghost use Rattle.recovery.specs.Label.{is_size};
-ghost use Rattle.stores.specs.Suits.{suits};
+ghost use Rattle.journal.specs.Suits.{suits};
 
 use sector_disk::{MemoryDisk, MemoryFile, PagedFile, Recorded, SectorDevice, SectorFile};
 

@@ -10,28 +10,28 @@ pub(crate) fn made(alloc: Global, newer: bool) -> Result<Store<MemoryDisk>, Fail
     if newer {
         let disk = MemoryDisk::new(alloc, 544)?;
         match shadow::format(disk, 32) {
-            Ok(store) => Ok(Store::from(store)),
+            Ok(store) => Ok(store),
             Err(_) => Err("not made")?,
         }
     } else {
         let disk = MemoryDisk::new(alloc, 131)?;
         match recovery::format(disk, 32) {
-            Ok(store) => Ok(Store::from(store)),
+            Ok(store) => Ok(store),
             Err(_) => Err("not made")?,
         }
     }
 }
 
-// Spills block 5 full of this byte.
-fn spill<D: SectorDevice>(store: &mut Store<D>, byte: u8) -> Result<(), StoreFault> {
+/// Spills block 5 full of this byte.
+pub(crate) fn spill<D: SectorDevice>(store: &mut Store<D>, byte: u8) -> Result<(), StoreFault> {
     if store.blocks() <= 5 {
         return Ok(());
     }
     store.spill(5, &[byte; 1024])
 }
 
-// The first byte of block 5.
-fn first_byte<D: SectorDevice>(store: &mut Store<D>) -> Result<u8, Fail> {
+/// The first byte of block 5.
+pub(crate) fn first_byte<D: SectorDevice>(store: &mut Store<D>) -> Result<u8, Fail> {
     let mut bytes = [0; 1024];
     if store.blocks() <= 5 {
         return Err("few blocks")?;

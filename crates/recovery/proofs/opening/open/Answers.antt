@@ -1,4 +1,4 @@
-use Rattle.std.proofs.Common.{◌≡◌, ◌∙◌, inl, inr, ⊎_elim, true, sym, subst, arith, IsTrue}
+use Rattle.std.proofs.Common.{◌≡◌, ◌∙◌, inl, inr, ⊎_elim, true, sym, subst, arith, IsTrue, ap}
 use Rattle.sector_disk.specs.Disk.{Image}
 use Rattle.journal.specs.Calls.{BeginsAtMost, ReadsAtMost}
 use Rattle.journal.specs.Chain.{HasMeaning}
@@ -6,6 +6,8 @@ use Rattle.journal.specs.Images.{block_of, meaning}
 use Rattle.journal.specs.Maps.{fresh}
 use Rattle.journal.specs.Store.{StandsFor}
 use Rattle.journal.proofs.Blocks.{same_below}
+use Rattle.journal.specs.Technique.{is_journal}
+use Rattle.journal.proofs.Stores.{left_journal}
 use Rattle.recovery.specs.Opened.{RecoveryLeaves, writes_for, syncs_for, reads_for}
 use Rattle.recovery.specs.Label.{blocks_in, is_size}
 use Rattle.recovery.proofs.Recoveries.{whole_by, same_refusal, never_refused, recovers_now, recovers_by, reads_2}
@@ -23,7 +25,7 @@ returns-in-Ok-clause-ok g c = λ keeps.
     (subst (λ blocks. StandsFor c.adopt.result (fresh blocks)) same (c.adopt.ensures.state honest))
 
 pub returns-in-Ok-clause-after : goal.returns-in-Ok-clause-after
-returns-in-Ok-clause-after g c = λ keeps x may. (returns-in-Ok-clause-ok g c keeps).left c.adopt.ensures.closed x may
+returns-in-Ok-clause-after g c = λ keeps x may. left_journal c.adopt.result _ (returns-in-Ok-clause-ok g c keeps) c.adopt.ensures.closed x may (ap is_journal c.adopt.ensures.technique)
 
 pub returns-in_default-clause-stops : goal.returns-in_default-clause-stops
 returns-in_default-clause-stops g c = λ keeps n size x since.

@@ -1,4 +1,4 @@
-use Rattle.std.proofs.Common.{◌≡◌, ◌∙◌, inl, inr, ⊎_elim, Some, None, true, sym, subst, IsTrue}
+use Rattle.std.proofs.Common.{◌≡◌, ◌∙◌, inl, inr, ⊎_elim, None, true, sym, subst, IsTrue}
 use Rattle.std.specs.Prelude.{◌==◌}
 use Rattle.sector_disk.specs.Disk.{Disk, MayLeave, MayLeaveEither}
 use Rattle.sector_disk.proofs.Moments.{leaves_then}

@@ -1,27 +1,33 @@
-use Rattle.std.proofs.Common.{◌⊎◌, inl, inr, sym, subst, IsTrue}
-use Rattle.sector_disk.proofs.Moments.{leaves_then}
-use Rattle.journal.proofs.Calls.{proceeds, proceeds_then}
-use Rattle.recovery.specs.Steps.{TakenAway, CarriedLeaves}
+use Rattle.std.proofs.Common.{None, arith, subst}
+use Rattle.std.proofs.lemmas.Result.{on_ok_weaker}
+use Rattle.journal.specs.Calls.{ReadsAtMost}
+use Rattle.journal.specs.Images.{home_of, blocks_below}
+use Rattle.recovery.specs.Found.{given_in}
+use Rattle.recovery.proofs.HomesMade.{halves_made, homes_given, making_homes, given_reads}
+use Rattle.recovery.proofs.Makings.{both_ok}
 use Rattle.recovery.proofs.upgrading.carry.Goals as goal
 
-pub returns-in-Ok-clause-stops : goal.returns-in-Ok-clause-stops
-returns-in-Ok-clause-stops g c = λ source target.
-    let B = g.B.SectorDevice in
+pub returns-clause-ok : goal.returns-clause-ok
+returns-clause-ok g c = λ source keeps.
     let n = c.args.blocks.number in
-    let d = B.disk c.args.target.now in
-    let bytes = (g.A.SectorDevice.disk c.args.source.now).content in
-    let mid = c.unlabel.new.device in
-    let honest : IsTrue (B.keeps_sectors mid) = subst IsTrue (sym c.unlabel.ensures.passes.units) target in
-    leaves_then B.time B.left_since c.args.target.now mid c.write_image.new.target
-    (TakenAway n d) (CarriedLeaves n bytes) (λ x. TakenAway n d x ⊎ CarriedLeaves n bytes x)
-    c.unlabel.ensures.passes.time c.write_image.ensures.passes.time (c.unlabel.ensures.stops target) (c.write_image.ensures.stops source honest)
-    (λ x was. inl was) (λ x is. inr is)
+    let image = (g.A.SectorDevice.disk c.args.source.now).content in
+    both_ok c.make.result
+    (λ made noted. halves_made n image (g.B.SectorDevice.disk c.make.new.new) noted.1 made)
+    (c.make.ensures.made source keeps) (c.make.ensures.noted source)
 
-pub returns-in-Err-clause-stops : goal.returns-in-Err-clause-stops
-returns-in-Err-clause-stops g c = λ source target x since. inl (c.unlabel.ensures.stops target x since)
+pub returns-clause-slots : goal.returns-clause-slots
+returns-clause-slots g c = λ keeps.
+    on_ok_weaker c.make.result (λ same k high low. same k (high, low)) (c.make.ensures.left keeps)
 
-pub returns-in-Ok-clause-passes : goal.returns-in-Ok-clause-passes
-returns-in-Ok-clause-passes g c =
-    let B = g.B.SectorDevice in
-    proceeds_then B c.args.target.now c.unlabel.new.device c.write_image.new.target g.met.B.SectorDevice.widens
-    (proceeds B c.args.target.now c.unlabel.new.device c.unlabel.ensures.passes) c.write_image.ensures.passes
+pub returns-clause-stops : goal.returns-clause-stops
+returns-clause-stops g c = λ source keeps x since.
+    let new = c.args.target.now in
+    let n = c.args.blocks.number in
+    let image = (g.A.SectorDevice.disk c.args.source.now).content in
+    making_homes n c.args.blocks.many c.args.blocks.few (given_in n None image) (blocks_below (home_of n image) n) (homes_given n image) (g.B.SectorDevice.disk new)
+    (λ k. g.met.B.SectorDevice.by_sectors new k keeps) x (c.make.ensures.stops source keeps x since)
+
+pub returns-clause-reads : goal.returns-clause-reads
+returns-clause-reads g c = λ source.
+    let n = c.args.blocks.number in
+    subst (λ reads. ReadsAtMost g.A.SectorDevice c.args.source.now c.make.new.old reads) (given_reads n n (omega arith)) (c.make.ensures.reads source)

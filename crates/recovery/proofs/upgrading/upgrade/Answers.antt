@@ -1,4 +1,4 @@
-use Rattle.std.proofs.Common.{◌≡◌, ◌+◌, ◌*◌, sym, subst, arith, IsTrue, ◌⊎◌, ◌∙◌, ap, inl, inr, ⊎_elim, None}
+use Rattle.std.proofs.Common.{◌≡◌, ◌+◌, ◌*◌, sym, subst, arith, IsTrue, ◌∙◌, ap, inl, inr, ⊎_elim, None}
 use Rattle.std.proofs.lemmas.Result.{on_ok_weaker}
 use Rattle.sector_disk.specs.Disk.{MayLeave}
 use Rattle.sector_disk.proofs.Moments.{leaves_then}
@@ -8,11 +8,11 @@ use Rattle.journal.proofs.Calls.{proceeds_then}
 use Rattle.recovery.specs.declared.fault.UpgradeFault.TheVariants.{Old}
 use Rattle.recovery.specs.Label.{blocks_in}
 use Rattle.recovery.specs.Opened.{writes_for, syncs_for}
-use Rattle.recovery.specs.Formatted.{MakingLeaves}
+use Rattle.recovery.specs.Formatted as formatted
 use Rattle.recovery.specs.Upgraded.{OldLeaves, reads_for_1, of_old, size_refusal}
 use Rattle.recovery.proofs.Formats.{half_now, making}
 use Rattle.recovery.proofs.Recoveries.{reads_1}
-use Rattle.recovery.proofs.Upgrades.{old_now, old_by, old_recovered, recovered_homes, carried_means, after_means, upgrade_refused, matched}
+use Rattle.recovery.proofs.Upgrades.{old_now, old_by, old_recovered, recovered_homes, recovered_blocks, after_means, upgrade_refused, matched}
 use Rattle.recovery.proofs.upgrading.upgrade.Goals as goal
 
 pub returns-in_err-blocks-clause-old_stops : goal.returns-in_err-blocks-clause-old_stops
@@ -40,9 +40,9 @@ returns-in-Ok-clause-old_stops g c = λ keeps n size.
     subst (λ k. (x : _) → A.left_since c.carry.new.source (A.time c.args.old.now) x → OldLeaves k d x) one
     (leaves_then A.time A.left_since c.args.old.now mid c.carry.new.source
     (OldLeaves m d) (MayLeave (A.disk mid)) (OldLeaves m d)
-    c.recover.ensures.passes.time c.carry.ensures.source.passes.time
+    c.recover.ensures.passes.time c.carry.ensures.carries.source.passes.time
     (λ x since. old_by m d (g.met.A.SectorDevice.present c.args.old.now (g.met.A.SectorDevice.keeps_both _ keeps)) c.in_ok-blocks.blocks.many c.in_ok-blocks.ensures.few x (c.recover.ensures.stops keeps x since))
-    (c.carry.ensures.source.stops honest)
+    (c.carry.ensures.carries.source.stops honest)
     (λ x is. is)
     (old_recovered m d (g.met.A.SectorDevice.present c.args.old.now (g.met.A.SectorDevice.keeps_both _ keeps))
     (record { many = c.in_ok-blocks.blocks.many; few = c.in_ok-blocks.ensures.few; label = c.in-Ok.ensures.label keeps })
@@ -57,9 +57,8 @@ returns-in-Ok-clause-new_stops g c = λ source keeps n size x since.
     let one : m ≡ n = omega (arith, size, c.in_ok-blocks.ensures.new, c.sectors-2.ensures) in
     let honest : IsTrue (A.keeps_model c.recover.new.device) = subst IsTrue (sym c.recover.ensures.passes.model) (g.met.A.SectorDevice.keeps_both _ source) in
     let recovered = (c.in-Ok.ensures.ok source).recovered in
-    subst (λ k. MakingLeaves k (meaning k d.content) (B.disk c.args.new.now) x) one
-    (carried_means m c.in_ok-blocks.blocks.many c.in_ok-blocks.blocks.few (A.disk c.recover.new.device).content (meaning m d.content)
-    (recovered_homes m d (A.disk c.recover.new.device) recovered) (B.disk c.args.new.now) x
+    subst (λ k. formatted.MakingLeaves k (meaning k d.content) (B.disk c.args.new.now) x) one
+    (subst (λ l. formatted.MakingLeaves m l (B.disk c.args.new.now) x) (recovered_blocks m d (A.disk c.recover.new.device) recovered)
     (c.carry.ensures.stops honest keeps x since))
 
 pub returns-in-Ok-clause-after : goal.returns-in-Ok-clause-after
@@ -70,7 +69,7 @@ returns-in-Ok-clause-after g c = λ source keeps.
     let d = A.disk c.args.old.now in
     let now = c.carry.new.target in
     let honest : IsTrue (A.keeps_model c.recover.new.device) = subst IsTrue (sym c.recover.ensures.passes.model) (g.met.A.SectorDevice.keeps_both _ source) in
-    let still : IsTrue (B.keeps_sectors now) = subst IsTrue (sym c.carry.ensures.passes.units) keeps in
+    let still : IsTrue (B.keeps_sectors now) = subst IsTrue (sym c.carry.ensures.carries.passes.units) keeps in
     let recovered = (c.in-Ok.ensures.ok source).recovered in
     on_ok_weaker c.carry.result
     (λ made n size x may.
@@ -83,7 +82,7 @@ returns-in-Ok-clause-after g c = λ source keeps.
 pub returns-in-Ok-clause-old_passes : goal.returns-in-Ok-clause-old_passes
 returns-in-Ok-clause-old_passes g c =
     proceeds_then g.A.SectorDevice c.args.old.now c.recover.new.device c.carry.new.source g.met.A.SectorDevice.widens
-    c.recover.ensures.passes c.carry.ensures.source.passes
+    c.recover.ensures.passes c.carry.ensures.carries.source.passes
 
 pub returns-in-Ok-clause-old_reads : goal.returns-in-Ok-clause-old_reads
 returns-in-Ok-clause-old_reads g c = λ keeps n size.
@@ -91,7 +90,7 @@ returns-in-Ok-clause-old_reads g c = λ keeps n size.
     let old = c.args.old.now in
     let one : c.in_ok-blocks.blocks.number ≡ n = omega (arith, size, c.in_ok-blocks.ensures.old, c.sectors.ensures) in
     subst (λ k. ReadsAtMost A old c.carry.new.source (reads_for_1 k (A.disk old).content + 2 * k)) one
-    (omega (arith, reads_1 c.in_ok-blocks.blocks.number (A.disk old).content, c.recover.ensures.reads keeps, c.carry.ensures.reads))
+    (omega (arith, reads_1 c.in_ok-blocks.blocks.number (A.disk old).content, c.recover.ensures.reads keeps, c.carry.ensures.reads (subst IsTrue (sym c.recover.ensures.passes.model) (g.met.A.SectorDevice.keeps_both _ keeps))))
 
 pub returns-in-Err-clause-old_reads : goal.returns-in-Err-clause-old_reads
 returns-in-Err-clause-old_reads g c = λ keeps n size.
@@ -131,7 +130,7 @@ returns-in-Ok-clause-exact g c = λ keeps.
     matched c.carry.result _ _ _
     (upgrade_refused sectors others n ((g.A.SectorDevice.disk c.args.old.now).content 0) none count ∙ ap of_old (c.in-Ok.ensures.exact keeps))
     (λ e told. ⊎_elim (λ old. inl old.0) (λ new. inr (inl new.0)) told)
-    c.carry.ensures.faults
+    c.carry.ensures.carries.faults
 
 pub returns-in-Ok-clause-old_begins : goal.returns-in-Ok-clause-old_begins
 returns-in-Ok-clause-old_begins g c = λ keeps n size.
@@ -139,6 +138,6 @@ returns-in-Ok-clause-old_begins g c = λ keeps n size.
     let image = (A.disk c.args.old.now).content in
     let one : c.in_ok-blocks.blocks.number ≡ n = omega (arith, size, c.in_ok-blocks.ensures.old, c.sectors.ensures) in
     let first = c.recover.ensures.begins keeps in
-    let then = c.carry.ensures.source.begins in
+    let then = c.carry.ensures.carries.source.begins in
     subst (λ k. BeginsAtMost A c.args.old.now c.carry.new.source (writes_for k image) (syncs_for image)) one
     (record { few_writes = omega (arith, first.few_writes, then.few_writes); few_syncs = omega (arith, first.few_syncs, then.few_syncs) })

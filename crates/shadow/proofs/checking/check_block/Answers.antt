@@ -1,7 +1,7 @@
-use Rattle.std.proofs.Common.{◌≡◌, refl, sym, subst, rules, IsTrue}
+use Rattle.std.proofs.Common.{refl, sym, subst, rules, IsTrue}
 use Rattle.sector_disk.specs.Disk.{Disk, MayLeave}
 use Rattle.sector_disk.proofs.Moments.{leaves_then}
-use Rattle.shadow.proofs.Calls.{passes_then, passes_ok, passes_err}
+use Rattle.journal.proofs.PageCalls.{passes_then, passes_ok, passes_err}
 use Rattle.shadow.proofs.checking.check_block.Goals as goal
 
 pub returns-in_err-made-clause-passes : goal.returns-in_err-made-clause-passes

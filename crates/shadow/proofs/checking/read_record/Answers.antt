@@ -1,4 +1,4 @@
-use Rattle.shadow.proofs.Calls.{passes_by, passes_err, passes_ok, passes_then}
+use Rattle.journal.proofs.PageCalls.{passes_by, passes_err, passes_ok, passes_then}
 use Rattle.sector_disk.specs.Disk.{Disk}
 use Rattle.std.proofs.Common.{refl, ap, rules}
 use Rattle.shadow.proofs.checking.read_record.Goals as goal

@@ -1,20 +1,22 @@
 use Rattle.std.proofs.Common.{⊎_elim, refl, sym, ◌∙◌, ap, subst, IsTrue}
-use Rattle.sector_disk.specs.Disk.{Disk, settled}
+use Rattle.sector_disk.specs.Disk.{Disk}
 use Rattle.journal.specs.Layout.{gate_open}
 use Rattle.journal.specs.Maps.{fresh}
-use Rattle.shadow.specs.Clean.{IsClean}
-use Rattle.shadow.specs.Images.{meaning, record_of}
-use Rattle.shadow.specs.Layout.{gate_at}
+use Rattle.journal.specs.PageClean.{IsClean}
+use Rattle.journal.specs.PageImages.{meaning, record_of}
+use Rattle.journal.specs.PageLayout.{gate_at}
 use Rattle.shadow.specs.Opened.{HasMeaning}
-use Rattle.shadow.specs.Store.{StandsFor, blocks_of}
+use Rattle.journal.specs.Store.{StandsFor, blocks_of}
+use Rattle.journal.specs.Technique.{is_journal}
+use Rattle.journal.proofs.Stores.{left_pages}
 use Rattle.shadow.proofs.Openings.{never_refused}
 use Rattle.shadow.proofs.opening.open.Goals as goal
 
 pub returns-then-not-is_known_size-clause-stops : goal.returns-then-not-is_known_size-clause-stops
 returns-then-not-is_known_size-clause-stops g c = λ keeps x since. g.met.D.SectorDevice.only_now c.args.device x since
 
-pub adopt-requires-clause-clean : goal.adopt-requires-clause-clean
-adopt-requires-clause-clean g c = λ keeps.
+pub adopt_pages-requires-clause-clean : goal.adopt_pages-requires-clause-clean
+adopt_pages-requires-clause-clean g c = λ keeps.
     let found = c.in-Ok.ensures in
     let model : IsTrue (g.D.SectorDevice.keeps_model c.args.device) = subst IsTrue c.survey.ensures.passes.model keeps in
     subst (λ (d : Disk). IsClean c.in-Ok.found.number c.in-Ok.found.is_open c.in-Ok.found.listing d) (sym (found.ok model)) (record {
@@ -31,23 +33,23 @@ returns-in-Ok-clause-ok g c = λ keeps.
     let new = c.survey.new.device in
     let same = c.in-Ok.ensures.ok keeps in
     let after : IsTrue (D.keeps_model new) = subst IsTrue (sym c.survey.ensures.passes.model) keeps in
-    subst (λ m. StandsFor c.adopt.result (fresh (meaning m (D.disk c.args.device).content))) (sym c.adopt.ensures.blocks)
-    (subst (λ (d : Disk). StandsFor c.adopt.result (fresh (meaning c.in-Ok.found.number d.content))) same (c.adopt.ensures.state after))
+    subst (λ m. StandsFor c.adopt_pages.result (fresh (meaning m (D.disk c.args.device).content))) (sym c.adopt_pages.ensures.blocks)
+    (subst (λ (d : Disk). StandsFor c.adopt_pages.result (fresh (meaning c.in-Ok.found.number d.content))) same (c.adopt_pages.ensures.state after))
 
 pub returns-in-Ok-clause-after : goal.returns-in-Ok-clause-after
-returns-in-Ok-clause-after g c = λ keeps x may. (returns-in-Ok-clause-ok g c keeps).left c.adopt.ensures.closed x may
+returns-in-Ok-clause-after g c = λ keeps x may. left_pages c.adopt_pages.result _ (returns-in-Ok-clause-ok g c keeps) c.adopt_pages.ensures.closed x may (ap is_journal c.adopt_pages.ensures.technique)
 
 pub returns-in-Ok-clause-meaning : goal.returns-in-Ok-clause-meaning
 returns-in-Ok-clause-meaning g c = λ keeps.
-    subst (λ n. HasMeaning n (g.D.SectorDevice.disk c.args.device).content) (sym c.adopt.ensures.blocks) (c.in-Ok.ensures.meaning keeps)
+    subst (λ n. HasMeaning n (g.D.SectorDevice.disk c.args.device).content) (sym c.adopt_pages.ensures.blocks) (c.in-Ok.ensures.meaning keeps)
 
 pub returns-in-Ok-clause-clean : goal.returns-in-Ok-clause-clean
 returns-in-Ok-clause-clean g c = λ keeps.
     let D = g.D.SectorDevice in
     let means = returns-in-Ok-clause-meaning g c keeps in
-    let n = blocks_of c.adopt.result in
+    let n = blocks_of c.adopt_pages.result in
     subst (λ (d : Disk). IsClean n (gate_open (d.content gate_at)) (record_of d.content) d)
-    (sym (ap D.disk c.adopt.ensures.device ∙ c.in-Ok.ensures.ok keeps)) (record {
+    (sym (ap D.disk c.adopt_pages.ensures.device ∙ c.in-Ok.ensures.ok keeps)) (record {
       label = means.label;
       gate = refl;
       named = refl;

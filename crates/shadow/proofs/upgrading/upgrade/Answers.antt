@@ -8,11 +8,11 @@ use Rattle.journal.proofs.Calls as journal
 use Rattle.recovery.specs.Upgraded.{of_old}
 use Rattle.recovery.specs.declared.fault.UpgradeFault.TheVariants.{Old}
 use Rattle.shadow.specs.Formatted.{MakingLeaves, IsFilled}
-use Rattle.shadow.specs.Images.{Means}
-use Rattle.shadow.specs.Layout.{label_of}
+use Rattle.journal.specs.PageImages.{Means}
+use Rattle.journal.specs.PageLayout.{label_of}
 use Rattle.shadow.specs.Upgraded.{known_blocks, older_refusal, upgrade_refusal, found_of, found_blocks, reads_to_list}
-use Rattle.shadow.proofs.Calls.{keeps_by}
 use Rattle.shadow.proofs.Formats.{half_now, making}
+use Rattle.shadow.proofs.Makings.{with_units}
 use Rattle.shadow.proofs.Upgrades.{are_found, made_stays, taken_blocks, taken_bytes, settled_left, upgrade_refused, anyway}
 use Rattle.shadow.proofs.upgrading.upgrade.Goals as goal
 
@@ -50,7 +50,7 @@ returns-in-Ok-clause-after g c = λ source keeps.
     let listing = c.find.new.listing in
     let from = (A.disk mid).content in
     let honest : IsTrue (A.keeps_model mid) = subst IsTrue (sym c.find.ensures.passes.model) source in
-    let still = keeps_by B c.args.new.now now keeps c.carry.ensures.passes in
+    let still : IsTrue (B.keeps_model now) = subst IsTrue (sym c.carry.ensures.carries.passes.model) keeps in
     on_ok_weaker c.carry.result
     (λ made n size x may.
     let one : m ≡ n = omega (arith, size, c.in_ok-blocks.ensures.new, c.sectors-2.ensures) in
@@ -64,7 +64,7 @@ pub returns-in-Ok-clause-opens : goal.returns-in-Ok-clause-opens
 returns-in-Ok-clause-opens g c = λ source keeps.
     let B = g.B.SectorDevice in
     let now = c.carry.new.target in
-    let still = keeps_by B c.args.new.now now keeps c.carry.ensures.passes in
+    let still : IsTrue (B.keeps_model now) = subst IsTrue (sym c.carry.ensures.carries.passes.model) keeps in
     on_ok_weaker c.carry.result
     (λ left n size. left n size (B.disk now).content (g.met.B.SectorDevice.present now still))
     (returns-in-Ok-clause-after g c source keeps)
@@ -103,7 +103,7 @@ returns-in-Ok-clause-synced g c = λ source keeps.
 pub returns-in-Ok-clause-old_disk : goal.returns-in-Ok-clause-old_disk
 returns-in-Ok-clause-old_disk g c = λ source.
     let honest : IsTrue (g.A.SectorDevice.keeps_model c.find.new.device) = subst IsTrue (sym c.find.ensures.passes.model) source in
-    anyway c.carry.result _ (c.carry.ensures.source.disk honest ∙ c.in-Ok.ensures.ok source)
+    anyway c.carry.result _ (c.carry.ensures.carries.source.disk honest ∙ c.in-Ok.ensures.ok source)
 
 pub returns-in_err-blocks-clause-old_stops : goal.returns-in_err-blocks-clause-old_stops
 returns-in_err-blocks-clause-old_stops g c = λ keeps x since. g.met.A.SectorDevice.only_now c.args.old.now x since
@@ -117,14 +117,14 @@ returns-in-Ok-clause-old_stops g c = λ keeps.
     let honest : IsTrue (A.keeps_model mid) = subst IsTrue (sym c.find.ensures.passes.model) keeps in
     leaves_then A.time A.left_since old mid c.carry.new.source
     (MayLeave d) (MayLeave (A.disk mid)) (MayLeave d)
-    c.find.ensures.passes.time c.carry.ensures.source.passes.time (c.find.ensures.stops keeps) (c.carry.ensures.source.stops honest)
+    c.find.ensures.passes.time c.carry.ensures.carries.source.passes.time (c.find.ensures.stops keeps) (c.carry.ensures.carries.source.stops honest)
     (λ x may. may)
     (settled_left d (A.disk mid) (g.met.A.SectorDevice.present old keeps) (c.in-Ok.ensures.ok keeps))
 
 pub returns-in-Ok-clause-old_passes : goal.returns-in-Ok-clause-old_passes
 returns-in-Ok-clause-old_passes g c =
     journal.proceeds_then g.A.SectorDevice c.args.old.now c.find.new.device c.carry.new.source g.met.A.SectorDevice.widens
-    c.find.ensures.passes c.carry.ensures.source.passes
+    c.find.ensures.passes c.carry.ensures.carries.source.passes
 
 pub returns-in-Ok-clause-exact : goal.returns-in-Ok-clause-exact
 returns-in-Ok-clause-exact g c = λ source.
@@ -151,7 +151,7 @@ returns-in-Ok-clause-old_reads g c = λ keeps.
     let old = c.args.old.now in
     let one : c.in_ok-blocks.blocks.number ≡ known_blocks (A.sector_count old) = sym c.in_ok-blocks.ensures.old ∙ ap known_blocks c.sectors.ensures in
     subst (λ k. ReadsAtMost A old c.carry.new.source (reads_to_list k (A.disk old).content + 2 * k + 1)) one
-    (omega (arith, c.find.ensures.reads keeps, c.carry.ensures.reads))
+    (omega (arith, c.find.ensures.reads keeps, c.carry.ensures.reads (subst IsTrue (sym c.find.ensures.passes.model) keeps)))
 
 pub returns-in-Err-clause-old_reads : goal.returns-in-Err-clause-old_reads
 returns-in-Err-clause-old_reads g c = λ keeps.
@@ -160,3 +160,7 @@ returns-in-Err-clause-old_reads g c = λ keeps.
     let one : c.in_ok-blocks.blocks.number ≡ known_blocks (A.sector_count old) = sym c.in_ok-blocks.ensures.old ∙ ap known_blocks c.sectors.ensures in
     subst (λ k. ReadsAtMost A old c.find.new.device (reads_to_list k (A.disk old).content + 2 * k + 1)) one
     (omega (arith, c.find.ensures.reads keeps))
+
+pub returns-in-Ok-clause-new_passes : goal.returns-in-Ok-clause-new_passes
+returns-in-Ok-clause-new_passes g c =
+    with_units g.B.SectorDevice c.args.new.now c.carry.new.target c.carry.ensures.carries.passes c.carry.ensures.carries.units

@@ -1,6 +1,6 @@
 use Rattle.std.proofs.Common.{IsTrue, refl, subst, sym}
 use Rattle.sector_disk.specs.contracts.coarse.CoarseSectorDevice.TheImpl.{ghosts}
-use Rattle.stores.proofs.Suited.{newer_suits}
+use Rattle.journal.proofs.Suited.{newer_suits}
 use Rattle.stores.proofs.laws.eights.Goals as goal
 
 pub returns : goal.returns

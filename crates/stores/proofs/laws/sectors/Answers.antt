@@ -1,4 +1,4 @@
-use Rattle.stores.proofs.Suited.{sectors_suit}
+use Rattle.journal.proofs.Suited.{sectors_suit}
 use Rattle.stores.proofs.laws.sectors.Goals as goal
 
 pub returns : goal.returns

@@ -1,5 +1,5 @@
 use Rattle.std.proofs.Common.{IsTrue, refl, subst, sym}
-use Rattle.stores.proofs.Suited.{newer_suits}
+use Rattle.journal.proofs.Suited.{newer_suits}
 use Rattle.stores_tests.proofs.premises.files_in_pages.Goals as goal
 
 pub returns : goal.returns

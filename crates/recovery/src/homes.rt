@@ -1,0 +1,93 @@
+// Images of layout 2 are laid with each block in its home.
+ghost use Rattle.std.specs.Prelude.{◌≡◌, ◌≢◌, ◌<◌, ◌≤◌, ◌+◌, ℕ, true, List, IsTrue, OnOk, replicate};
+ghost use Rattle.std.proofs.Common.{rules};
+ghost use Rattle.sector_disk.specs.Disk.{Image, written};
+ghost use Rattle.journal.specs.Calls.{StopsLeave, BeginsAtMost, ReadsAtMost, Passes};
+ghost use Rattle.journal.specs.Layout.{sectors_for, label_of};
+ghost use Rattle.journal.specs.Steps.{InSlots, WritesOnly, IsAsSynced};
+ghost use Rattle.recovery.specs.Homes.{HasHomesBelow, HasHomesOf, homes_apart, slots_apart};
+ghost use Rattle.recovery.specs.Making.{labels_told};
+
+use crate::targets::Target;
+use journal::layout::{BlockCount, GATE, RECORD, home_sector, label};
+use journal::write_pair;
+use sector_disk::{DeviceFault, SectorDevice};
+
+/// Layout 2: blocks in their homes, under a closed gate and a record of zeros. The slots are left as they are.
+#[derive(Clone, Copy)]
+pub struct Homes;
+
+impl Target for Homes {
+    ghost by_sectors = { true };
+
+    ghost sectors_for = { sectors_for };
+
+    ghost label_of = { label_of };
+
+    ghost block_writes = { 2 };
+
+    ghost first_writes = { 2 };
+
+    ghost last_writes = { 0 };
+
+    ghost is_left = { InSlots };
+
+    ghost has_laid = { λ target. HasHomesBelow };
+
+    ghost has_filled = { λ target. HasHomesOf };
+
+    ghost has_label = { λ n. Prim.search rules };
+
+    ghost label_told = { λ n. labels_told 2 n };
+
+    ghost left_apart = { slots_apart };
+
+    ghost filled_apart = { λ target. homes_apart };
+
+    fn label(&self, blocks: BlockCount) -> [u8; 512] {
+        label(blocks.number)
+    }
+
+    fn begin<D: SectorDevice>(
+        &mut self,
+        device: &mut D,
+        _blocks: BlockCount,
+    ) -> Result<(), DeviceFault> {
+        fill_head(device)
+    }
+
+    fn lay_block<D: SectorDevice>(
+        &mut self,
+        device: &mut D,
+        blocks: BlockCount,
+        b: u16,
+        bytes: &[u8; 1024],
+    ) -> Result<(), DeviceFault> {
+        write_pair(device, home_sector(blocks, b), bytes)
+    }
+
+    fn finish<D: SectorDevice>(
+        &mut self,
+        _device: &mut D,
+        _blocks: BlockCount,
+    ) -> Result<(), DeviceFault> {
+        Ok(())
+    }
+}
+
+// Closes the gate and clears the record. Nothing is synced.
+fn fill_head<D: SectorDevice>(device: &mut D) -> Result<(), DeviceFault>
+    requires { 3 ≤ D.sector_count device.old }
+    ensures ok { IsTrue (D.keeps_sectors device.old)
+        → OnOk result (D.disk device.new ≡ written (written (D.disk device.old) 1 (replicate 512 0)) 2 (replicate 512 0)) }
+    ensures only { IsTrue (D.keeps_sectors device.old)
+        → WritesOnly (λ k. k ≢ 0) (D.disk device.old) (D.disk device.new) }
+    ensures stops { IsTrue (D.keeps_sectors device.old)
+        → StopsLeave D.SectorDevice device.old device.new (IsAsSynced (λ k. k ≢ 0) (D.disk device.old)) }
+    ensures passes { Passes D.SectorDevice device.old device.new result }
+    ensures begins { BeginsAtMost D.SectorDevice device.old device.new 2 0 }
+    ensures reads { ReadsAtMost D.SectorDevice device.old device.new 0 }
+{
+    device.write(GATE, &[0; 512])?;
+    device.write(RECORD, &[0; 512])
+}
