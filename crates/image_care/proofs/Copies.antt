@@ -1,76 +1,30 @@
 -- What a copy holds, and what a stop of its making leaves.
-use Rattle.std.proofs.Common.{◌≡◌, ◌≢◌, ◌⊎◌, inl, inr, ⊎_elim, ℕ, ◌+◌, ◌*◌, ◌-◌, ◌<◌, ◌≤◌, Bool, true, false, cond, List, [], ◌++◌, length, replicate, Option, Some, None, refl, sym, ◌∙◌, ap, subst, arith}
+use Rattle.std.proofs.Common.{◌≡◌, ◌≢◌, ⊎_elim, ℕ, ◌-◌, ◌<◌, ◌≤◌, Bool, true, false, cond, List, [], ◌++◌, length, replicate, Option, Some, None, refl, sym, ◌∙◌, ap, arith, take-append-drop}
 use Rattle.std.specs.Prelude.{◌&&◌, not}
-use Rattle.std.proofs.lemmas.Bool.{cases_eq, cases_lt}
+use Rattle.std.proofs.lemmas.Bool.{cases_lt}
 use Rattle.std.proofs.lemmas.List.{length-append, length-replicate, get_or_append_left, get_or-append_right, get_or-replicate, append-nil}
-use Rattle.sector_disk.specs.Disk.{Disk, Image, MayLeave, written, settled}
-use Rattle.sector_disk.proofs.Moments.{sector_other}
+use Rattle.sector_disk.specs.Disk.{Disk, Image, MayLeave}
 use Rattle.journal.specs.Images.{slot_of, home_of, block_of, blocks_below, meaning, is_true_record, is_damaged, Means}
-use Rattle.journal.specs.Layout.{fewest_blocks, most_blocks, sectors_for, label_of, gate_open, listed, home_at, InPair}
+use Rattle.journal.specs.Layout.{fewest_blocks, most_blocks, sectors_for, label_of, gate_open, listed}
 use Rattle.journal.specs.Maps.{block_in}
-use Rattle.journal.specs.Steps.{WritesOnly, IsAsSynced}
 use Rattle.journal.proofs.Blocks.{same_below, at_below, length-below}
-use Rattle.journal.proofs.Meaning.{pair_same}
-use Rattle.recovery.specs.Formatted.{MakingLeaves, blank_blocks}
+use Rattle.recovery.specs.Formatted.{blank_blocks}
 use Rattle.recovery.specs.Label.{blocks_in, is_size, label_refusal}
 use Rattle.recovery.specs.Opened.{damage_refusal, first_of, image_refusal}
-use Rattle.recovery.specs.Steps.{Sealed}
+use Rattle.recovery.specs.Homes.{HasHomesOf}
+use Rattle.recovery.specs.Making.{IsMade}
+use Rattle.recovery.proofs.HomesMade.{AreBytes, given_below, given_above}
 use Rattle.recovery.specs.Upgraded.{of_old}
 use Rattle.recovery.specs.declared.fault.OpenFault.TheVariants.{BadSize}
 use Rattle.recovery.specs.declared.fault.UpgradeFault.{UpgradeFault}
 use Rattle.recovery.specs.declared.fault.UpgradeFault.TheVariants.{Old}
-use Rattle.recovery.proofs.Formats.{unlabelled, filled_means}
+use Rattle.recovery.proofs.Formats.{filled_means}
 use Rattle.recovery.proofs.Recoveries.{not_damaged}
-use Rattle.image_care.specs.Carried.{carried_blocks, HasCarried, IsReady, IsWhole, WrittenLeaves, true_record_in}
+use Rattle.image_care.specs.Carried.{carried_blocks, IsWhole, true_record_in}
 use Rattle.image_care.specs.Copied.{grown, HoldsBlocks, copy_size_refusal, copy_refusal, salvaged_block, salvaged_blocks}
-use Rattle.image_care.specs.Examined.{found_in, record_in}
+use Rattle.recovery.specs.Found.{found_in, given_in}
+use Rattle.image_care.specs.Examined.{record_in}
 use Rattle.image_care.proofs.Examinations.{found_block}
-
--- One more block is carried.
-module _ (m b : ℕ) where
-  apart : (a : ℕ) → a < b → (k : ℕ) → (k ≡ home_at m a) ⊎ (k ≡ home_at m a + 1) → ¬ InPair (home_at m b) k
-  apart a below k at in_pair = ⊎_elim
-      (λ here. ⊎_elim (λ one. absurd (omega (arith, below, here, one))) (λ one. absurd (omega (arith, below, here, one))) in_pair)
-      (λ here. ⊎_elim (λ one. absurd (omega (arith, below, here, one))) (λ one. absurd (omega (arith, below, here, one))) in_pair)
-      at
-
-  pub carried_more : (found : ℕ → List ℕ) (mid new : Disk) → WritesOnly (InPair (home_at m b)) mid new → home_of m new.content b ≡ found b
-      → ((a : ℕ) → a < b → home_of m mid.content a ≡ found a) → (a : ℕ) → a < b + 1 → home_of m new.content a ≡ found a
-  carried_more found mid new only here before a below = ⊎_elim
-      (λ same. subst (λ i. home_of m new.content i ≡ found i) (sym same) here)
-      (λ other.
-      let lower : a < b = omega arith in
-      pair_same mid.content new.content (home_at m a)
-      (only.content (home_at m a) (apart a lower (home_at m a) (inl refl)))
-      (only.content (home_at m a + 1) (apart a lower (home_at m a + 1) (inr refl)))
-      ∙ before a lower)
-      (cases_eq a b)
-
-  in_homes : (k : ℕ) → InPair (home_at m b) k → 3 + 2 * m ≤ k
-  in_homes k = ⊎_elim (λ one. omega arith) (λ one. omega arith)
-
-  pub homes_only : (old mid new : Disk) → WritesOnly (λ k. 3 + 2 * m ≤ k) old mid → WritesOnly (InPair (home_at m b)) mid new → WritesOnly (λ k. 3 + 2 * m ≤ k) old new
-  homes_only old mid new one two = record {
-    content = λ k out. two.content k (λ at. out (in_homes k at)) ∙ one.content k out;
-    synced = λ k. two.synced k ∙ one.synced k;
-    unsynced = λ k out. two.unsynced k (λ at. out (in_homes k at)) ∙ one.unsynced k out;
-  }
-
-  pub homes_left : (old mid : Disk) (c : Image) → WritesOnly (λ k. 3 + 2 * m ≤ k) old mid → IsAsSynced (InPair (home_at m b)) mid c → IsAsSynced (λ k. 3 + 2 * m ≤ k) old c
-  homes_left old mid c one is k out clear = is k (λ at. out (in_homes k at)) (one.unsynced k out ∙ clear) ∙ one.synced k
-
--- The blanks above leave the carried blocks.
-pub rest_filled : (n m : ℕ) (found : ℕ → List ℕ) (mid new : Disk) → ((b : ℕ) → b < n → home_of m mid.content b ≡ found b)
-    → WritesOnly (λ k. 3 + 2 * m + 2 * n ≤ k) mid new → ((k : ℕ) → 3 + 2 * m + 2 * n ≤ k → k < 3 + 4 * m → new.content k ≡ replicate 512 32)
-    → HasCarried n m found new.content
-rest_filled n m found mid new before only blank = record {
-  found = λ b below.
-      pair_same mid.content new.content (home_at m b)
-      (only.content (home_at m b) (λ high. absurd (omega (arith, below, high))))
-      (only.content (home_at m b + 1) (λ high. absurd (omega (arith, below, high))))
-      ∙ before b below;
-  blank = blank;
-}
 
 -- The grown blocks are as many as the image has, and stand in its homes.
 module _ (n m : ℕ) (within : n ≤ m) (bytes : ℕ → List ℕ) where
@@ -89,22 +43,6 @@ module _ (n m : ℕ) (within : n ≤ m) (bytes : ℕ → List ℕ) where
       get_or-append_right (blocks_below bytes n) (blank_blocks (m - length (blocks_below bytes n))) n b [] (length-below bytes n) above
       ∙ get_or-replicate (m - length (blocks_below bytes n)) (b - n) (replicate 1024 32) [] (omega (arith, above, below, length-below bytes n))
 
-  pub grown_homes : (image : Image) → HasCarried n m bytes image → (b : ℕ) → b < m → home_of m image b ≡ block_in (grown m (blocks_below bytes n)) b
-  grown_homes image has b below = ⊎_elim
-      (λ low. has.found b low ∙ sym (lower b low))
-      (λ high. (λ t. has.blank (home_at m b) (omega (arith, high)) (omega (arith, below)) t ++ has.blank (home_at m b + 1) (omega (arith, high)) (omega (arith, below)) t)
-      ∙ sym (upper b high below))
-      (cases_lt b n)
-
--- Gate and record are zeros before the homes are written.
-pub filled_of : (n m : ℕ) → n ≤ m → (bytes : ℕ → List ℕ) (mid new : Disk) → mid.content 1 ≡ replicate 512 0 → mid.content 2 ≡ replicate 512 0
-    → WritesOnly (λ k. 3 + 2 * m ≤ k) mid new → HasCarried n m bytes new.content → HoldsBlocks m (grown m (blocks_below bytes n)) new.content
-filled_of n m within bytes mid new gate clear only has = record {
-  gate = only.content 1 (λ high. absurd (omega (arith, high))) ∙ gate;
-  listed = only.content 2 (λ high. absurd (omega (arith, high))) ∙ clear;
-  homes = grown_homes n m within bytes new.content has;
-}
-
 -- An image that holds blocks means them, once it has its label.
 module _ (n : ℕ) (many : fewest_blocks ≤ n) (few : n ≤ most_blocks) (blocks : List (List ℕ)) (long : length blocks ≡ n) where
   pub held_means : (image : Image) → HoldsBlocks n blocks image → (c : Image) → c 0 ≡ label_of n → ((k : ℕ) → k ≢ 0 → c k ≡ image k) → Means blocks c
@@ -112,32 +50,37 @@ module _ (n : ℕ) (many : fewest_blocks ≤ n) (few : n ≤ most_blocks) (block
       (record { gate = held.gate; listed = held.listed; homes = λ k high low. refl })
       blocks (long, λ b below. sym (held.homes b below))
 
-  pub sealed_leaves : (disk : Disk) → IsReady n blocks disk → (c : Image) → Sealed n disk.content c → WrittenLeaves n blocks c
-  sealed_leaves disk ready c = ⊎_elim (λ bad. inl bad) (λ good. inr (held_means disk.content ready.held c good.0 good.1))
-
   pub whole_means : (disk : Disk) → MayLeave disk disk.content → IsWhole n blocks disk → (c : Image) → MayLeave disk c → Means blocks c
   whole_means disk present whole c may =
       let same : (k : ℕ) → c k ≡ disk.content k = λ k. may k (whole.synced k) ∙ sym (present k (whole.synced k)) in
       held_means disk.content whole.held c (same 0 ∙ whole.label) (λ k other. same k)
 
-pub written_leaves : (n : ℕ) (blocks : List (List ℕ)) (disk : Disk) (c : Image) → WrittenLeaves n blocks c → MakingLeaves n blocks disk c
-written_leaves n blocks disk c = ⊎_elim (λ bad. inl (unlabelled n c bad)) (λ means. inr (inl means))
+-- What is given of an image, and blanks above it, are the grown blocks.
+module _ (n m : ℕ) (within : n ≤ m) (listing : Option (List ℕ)) (image : Image) where
+  abbrev grown_blocks : List (List ℕ)
+  grown_blocks = carried_blocks n m listing image
 
--- The label is put over what is ready.
-pub whole_of : (n : ℕ) (blocks : List (List ℕ)) (disk : Disk) → IsReady n blocks disk → IsWhole n blocks (settled (written disk 0 (label_of n)))
-whole_of n blocks disk ready = record {
-  held = record {
-    gate = ready.held.gate;
-    listed = ready.held.listed;
-    homes = λ b below.
-        pair_same disk.content (written disk 0 (label_of n)).content (home_at n b)
-        (sector_other disk.content 0 (home_at n b) (label_of n) (omega arith))
-        (sector_other disk.content 0 (home_at n b + 1) (label_of n) (omega arith))
-        ∙ ready.held.homes b below;
-  };
-  label = refl;
-  synced = λ k. refl;
-}
+  pub are_carried : AreBytes m (given_in n listing image) grown_blocks
+  are_carried = (
+    length-grown n m within (found_in n listing image),
+    λ b below. ⊎_elim
+        (λ low. lower n m within (found_in n listing image) b low ∙ sym (given_below n listing image b low))
+        (λ high. upper n m within (found_in n listing image) b high below ∙ sym (given_above n listing image b high))
+        (cases_lt b n),
+  )
+
+  pub whole_of : (disk : Disk) → IsMade (label_of m) (HasHomesOf m (given_in n listing image)) disk → IsWhole m grown_blocks disk
+  whole_of disk made = record {
+    held = record {
+      gate = made.filled.gate;
+      listed = made.filled.listed;
+      homes = λ b below.
+          (λ t. (made.filled.homes b below).first t ++ (made.filled.homes b below).second t)
+          ∙ take-append-drop 512 (given_in n listing image b) ∙ sym (are_carried.1 b below);
+    };
+    label = made.labelled;
+    synced = made.synced;
+  }
 
 -- What is found by the record is what the image means.
 pub copied : (n : ℕ) (image : Image) → blocks_below (found_in n (record_in image) image) n ≡ meaning n image

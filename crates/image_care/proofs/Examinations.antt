@@ -6,8 +6,9 @@ use Rattle.std.proofs.lemmas.List.{append-nil}
 use Rattle.std.proofs.lemmas.List.Folds.{concat-append}
 use Rattle.sector_disk.specs.Disk.{Image}
 use Rattle.journal.specs.Layout.{gate_open, listed}
-use Rattle.journal.specs.Images.{slot_of, home_of, block_of, blocks_below, meaning}
-use Rattle.image_care.specs.Examined.{record_in, found_in, joined_below}
+use Rattle.journal.specs.Images.{slot_of, home_of, block_of, blocks_below}
+use Rattle.recovery.specs.Found.{found_in}
+use Rattle.image_care.specs.Examined.{record_in, joined_below}
 
 -- Each block is found where it stands.
 pub found_block : (n : ℕ) (image : Image) (b : ℕ) → found_in n (record_in image) image b ≡ block_of n image b
@@ -30,7 +31,3 @@ joined_blocks bytes (suc n) =
     ap (λ l. l ++ bytes n) (joined_blocks bytes n)
     ∙ ap (λ l. concat (blocks_below bytes n) ++ l) (sym (append-nil (bytes n)))
     ∙ sym (concat-append (blocks_below bytes n) (bytes n ∷ []))
-
--- What is found, one block after another, is what the image means.
-pub found_meaning : (n : ℕ) (image : Image) → joined_below (found_in n (record_in image) image) n ≡ concat (meaning n image)
-found_meaning n image = ap (λ bytes. joined_below bytes n) (λ t b. found_block n image b t) ∙ joined_blocks (block_of n image) n

@@ -6,19 +6,17 @@ ghost use Rattle.journal.specs.Calls.{StopsLeave, BeginsAtMost, ReadsAtMost, Pro
 ghost use Rattle.journal.specs.Images.{meaning, Means};
 ghost use Rattle.journal.specs.Layout.{sectors_for};
 ghost use Rattle.recovery.specs.Formatted.{MakingLeaves, KeepsSlots};
-ghost use Rattle.recovery.specs.Label.{label_refusal};
-ghost use Rattle.recovery.specs.Opened.{first_of, damage_refusal};
 ghost use Rattle.recovery.specs.Steps.{OnlyRead, WentWell};
 ghost use Rattle.recovery.specs.declared.fault.OpenFault.{OpenFault};
 ghost use Rattle.recovery.specs.declared.fault.OpenFault.TheVariants.{BadSize, Device};
 ghost use Rattle.recovery.specs.declared.fault.UpgradeFault.{UpgradeFault};
 ghost use Rattle.recovery.specs.declared.fault.UpgradeFault.TheVariants.{Old, New};
 ghost use Rattle.image_care.specs.Copied.{grown, HoldsBlocks, copy_size_refusal, copy_refusal};
-ghost use Rattle.image_care.specs.Examined.{record_in, reads_to_list};
+ghost use Rattle.image_care.specs.Examined.{reads_to_list};
 
 use crate::carrying::carry;
-use crate::listing::{read_label, read_listing};
-use journal::layout::{BlockCount, MOST_BLOCKS, VERSION};
+use crate::listing::find;
+use journal::layout::{BlockCount, MOST_BLOCKS};
 use recovery::{OpenFault, UpgradeFault, blocks_of_size};
 use sector_disk::SectorDevice;
 
@@ -51,34 +49,15 @@ fn sizes_of(old: u32, new: u32) -> Result<Sizes, UpgradeFault>
     })
 }
 
-// Reads the label of an image, and the record of the save that is under way.
-fn find<D: SectorDevice>(device: &mut D, blocks: BlockCount) -> Result<Option<[u8; 512]>, OpenFault>
-    requires size { D.sector_count device.old ≡ sectors_for blocks.number }
-    ensures ok { IsTrue (D.keeps_model device.old)
-        → IfOk result (λ listing. listing ≡ record_in (D.disk device.old).content) }
-    ensures exact { IsTrue (D.keeps_model device.old) → MatchResult result
-        (λ _. first_of (label_refusal blocks.number ((D.disk device.old).content 0)) (damage_refusal blocks.number (D.disk device.old).content) ≡ None)
-        (λ e. (e ≡ Device)
-        ⊎ (first_of (label_refusal blocks.number ((D.disk device.old).content 0)) (damage_refusal blocks.number (D.disk device.old).content) ≡ Some e)) }
-    ensures sized { IfErr result (λ e. e ≢ BadSize) }
-    ensures device { IfErr result (λ e. e ≡ Device → D.failures device.new ≡ count_up (D.failures device.old)) }
-    ensures refused { IfErr result (λ e. e ≢ Device → D.failures device.new ≡ D.failures device.old) }
-    ensures well { OnOk result (D.failures device.new ≡ D.failures device.old) }
-    ensures only_read { OnlyRead D.SectorDevice device.old device.new }
-    ensures reads { IsTrue (D.keeps_model device.old)
-        → ReadsAtMost D.SectorDevice device.old device.new (reads_to_list blocks.number (D.disk device.old).content + 1) }
-{
-    read_label(device, VERSION, blocks.number)?;
-    read_listing(device, blocks)
-}
-
-/// Makes an image of layout 2 of the blocks that another one means, on another device of as many sectors or more: the blocks
-/// above the old ones are blank. The old image is only read: nothing is written, and nothing synced. A save that was under way
-/// there is in the new image as if it were finished. The label of the new one is written last. Takes no memory.
+/// Makes an image of layout 2 of the blocks that another one means, on another device of as many sectors or more: the
+/// blocks above the old ones are blank. The old image is only read: nothing is written, and nothing synced. A save that
+/// was under way there is in the new image as if it were finished. The label of the new one is written last. Takes no
+/// memory.
 ///
-/// It refuses, in this order, an old device of a size that no image has (BadSize), a new one of such a size or a smaller one
-/// (BadSize), both with no call of either device; and an old image as `open` does (NoLabel, OtherVersion, WrongCount, Damaged),
-/// with no call of the new device. Device comes where a call of that device failed.
+/// It refuses, in this order, an old device of a size that no image of layout 2 has (BadSize), a new one of such a size
+/// or a smaller one (BadSize), both with no call of either device; and an old image as `open` does (NoLabel,
+/// OtherVersion, WrongCount, Damaged), with no call of the new device. Device comes where a call of that device failed.
+/// Rule: MANUAL, forth83 copy OLD NEW [--blocks N]; IMAGE, For another writer; IMAGE, A format.
 pub fn copy<A: SectorDevice, B: SectorDevice>(old: &mut A, new: &mut B) -> Result<(), UpgradeFault>
     // Each refusal tells the first test that fails. The sizes are tested over any device.
     ensures exact { IsTrue (A.keeps_model old.old) → MatchResult result

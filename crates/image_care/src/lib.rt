@@ -1,17 +1,24 @@
-//! Images are examined and copied by reads alone, and what can be had of a damaged one is salvaged.
+//! Images are looked at, read and copied by reads alone, and what can be had of a damaged one is salvaged.
 #![tactic(auto)]
 
+mod all_blocks;
 mod blocks;
 mod carrying;
 mod copying;
 mod examining;
 mod listing;
+mod looking;
 mod one_block;
+pub mod pages;
 mod reading_files;
 mod salvaging;
+mod view;
 
+pub use all_blocks::{ReadFault, read_blocks};
 pub use copying::copy;
 pub use examining::{Examined, examine};
+pub use looking::look;
 pub use one_block::read_block;
 pub use reading_files::{ReadOnlyFile, ReadingFiles};
 pub use salvaging::salvage;
+pub use view::{Listing, View};

@@ -74,8 +74,9 @@ impl HostFile for ReadOnlyFile {
     }
 }
 
-/// The files of this system, to be read alone. Each is locked as long as it is open, beside others that only read it: programs
-/// that ask for the lock and would write are kept out. None is made.
+/// The files of this system, to be read alone. Each is locked as long as it is open, beside others that only read it:
+/// programs that ask for the lock and would write are kept out. None is made.
+/// Rule: MANUAL, All commands; DECISIONS, Lines and the program.
 #[derive(Drop)]
 pub struct ReadingFiles<'a, R> {
     rt: &'a R,

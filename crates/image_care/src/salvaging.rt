@@ -59,16 +59,17 @@ fn find_true<D: SectorDevice>(
     }
 }
 
-/// Makes an image of layout 2 of what can be had of a damaged one, on another device of as many sectors. Neither the label of
-/// the old image nor a record whose digest isn't true stops it. A block is taken from its slot where the gate is open over a
-/// record whose digest is true and that lists the block; else from its home. The old image is only read: nothing is written,
-/// and nothing synced. The label of the new one is written last. Takes no memory.
+/// Makes an image of layout 2 of what can be had of a damaged one, on another device of as many sectors. Neither the
+/// label of the old image nor a record whose digest isn't true stops it. A block is taken from its slot where the gate
+/// is open over a record whose digest is true and that lists the block; else from its home. The old image is only read:
+/// nothing is written, and nothing synced. The label of the new one is written last. Takes no memory.
 ///
-/// This is no recovery. Of an image that an opening takes it makes a copy; but of a save that was under way in a damaged one
-/// some blocks may be old and some new.
+/// This is no recovery. Of an image that an opening takes it makes a copy; but of a save that was under way in a
+/// damaged one some blocks may be old and some new.
 ///
-/// It refuses an old device of a size that no image has (BadSize), and then a new one of another size (BadSize), both with no
-/// call of either device. Device comes where a call of that device failed.
+/// It refuses an old device of a size that no image of layout 2 has (BadSize), and then a new one of another size
+/// (BadSize), both with no call of either device. Device comes where a call of that device failed.
+/// Rule: MANUAL, forth83 salvage OLD NEW [--blocks N]; IMAGE, The bytes; IMAGE, A format.
 pub fn salvage<A: SectorDevice, B: SectorDevice>(
     old: &mut A,
     new: &mut B,

@@ -3,7 +3,8 @@ use Rattle.sha2.specs.Hashers.{Holds256}
 use Rattle.sector_disk.specs.Disk.{MayLeave}
 use Rattle.sector_disk.specs.declared.device.DeviceFault.{DeviceFault}
 use Rattle.journal.specs.Calls.{StopsLeave, BeginsAtMost, ReadsAtMost, Passes}
-use Rattle.image_care.specs.Examined.{found_in, joined_below}
+use Rattle.image_care.specs.View.{found_by}
+use Rattle.image_care.specs.Examined.{joined_below}
 use Rattle.image_care.proofs.blocks.add_blocks.Given as goal
 
 abbrev pub invariant-loop-b : goal.invariant-loop-b
@@ -13,7 +14,7 @@ invariant-loop-b g l =
     let now = l.device in
     record {
       added : IsTrue (D.keeps_model old) → (m : List ℕ) → Holds256 l.initial.hasher m
-          → Holds256 l.hasher (m ++ joined_below (found_in l.blocks.number l.listing (D.disk old).content) l.b);
+          → Holds256 l.hasher (m ++ joined_below (found_by l.view (D.disk old).content) l.b);
       disk : IsTrue (D.keeps_model old) → D.disk now ≡ D.disk old;
       stops : IsTrue (D.keeps_model old) → StopsLeave D old now (MayLeave (D.disk old));
       begins : BeginsAtMost D old now 0 0;

@@ -9,7 +9,8 @@ use Rattle.recovery.proofs.Formats.{half_now, making}
 use Rattle.recovery.proofs.Upgrades.{only_read_then}
 use Rattle.image_care.specs.Carried.{carried_blocks}
 use Rattle.image_care.specs.Copied.{grown, HoldsBlocks, copy_refusal}
-use Rattle.image_care.specs.Examined.{found_in, reads_to_list}
+use Rattle.recovery.specs.Found.{found_in}
+use Rattle.image_care.specs.Examined.{reads_to_list}
 use Rattle.image_care.proofs.Copies.{carried_copy, copy_refused, length-grown, whole_means}
 use Rattle.image_care.proofs.copying.copy.Goals as goal
 
@@ -47,7 +48,7 @@ returns-in-Ok-clause-after g c = λ source keeps.
     let mid = c.find.new.device in
     let now = c.carry.new.target in
     let honest : IsTrue (A.keeps_model mid) = subst IsTrue (sym c.find.ensures.only_read.passes.model) source in
-    let still : IsTrue (B.keeps_sectors now) = subst IsTrue (sym c.carry.ensures.passes.units) keeps in
+    let still : IsTrue (B.keeps_sectors now) = subst IsTrue (sym c.carry.ensures.carries.passes.units) keeps in
     on_ok_weaker c.carry.result
     (λ whole n m from to x may.
     let one : a ≡ n = omega (arith, from, c.in_ok-sizes.ensures.old, c.sectors.ensures) in
@@ -102,7 +103,7 @@ returns-in-Err-clause-exact g c = λ source.
 pub returns-in-Ok-clause-old_stops : goal.returns-in-Ok-clause-old_stops
 returns-in-Ok-clause-old_stops g c =
     only_read_then g.A.SectorDevice c.args.old.now c.find.new.device c.carry.new.source g.met.A.SectorDevice.widens
-    c.find.ensures.only_read c.carry.ensures.source
+    c.find.ensures.only_read c.carry.ensures.carries.source
 
 pub returns-in-Ok-clause-old_reads : goal.returns-in-Ok-clause-old_reads
 returns-in-Ok-clause-old_reads g c = λ keeps n size.
@@ -110,7 +111,7 @@ returns-in-Ok-clause-old_reads g c = λ keeps n size.
     let old = c.args.old.now in
     let one : c.in_ok-sizes.sizes.old.number ≡ n = omega (arith, size, c.in_ok-sizes.ensures.old, c.sectors.ensures) in
     subst (λ k. ReadsAtMost A old c.carry.new.source (reads_to_list k (A.disk old).content + 2 * k + 1)) one
-    (omega (arith, c.find.ensures.reads keeps, c.carry.ensures.reads))
+    (omega (arith, c.find.ensures.reads keeps, c.carry.ensures.reads (subst IsTrue (sym c.find.ensures.only_read.passes.model) keeps)))
 
 pub returns-in-Err-clause-old_reads : goal.returns-in-Err-clause-old_reads
 returns-in-Err-clause-old_reads g c = λ keeps n size.

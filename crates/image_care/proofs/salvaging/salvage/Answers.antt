@@ -6,7 +6,8 @@ use Rattle.recovery.specs.Formatted.{MakingLeaves}
 use Rattle.recovery.proofs.Formats.{half_now, making}
 use Rattle.image_care.specs.Carried.{carried_blocks}
 use Rattle.image_care.specs.Copied.{HoldsBlocks, salvaged_blocks}
-use Rattle.image_care.specs.Examined.{found_in, reads_to_list}
+use Rattle.recovery.specs.Found.{found_in}
+use Rattle.image_care.specs.Examined.{reads_to_list}
 use Rattle.image_care.proofs.Copies.{carried_salvage, salvaged_meaning, length-grown, whole_means}
 use Rattle.image_care.proofs.salvaging.salvage.Goals as goal
 
@@ -41,7 +42,7 @@ returns-in-Ok-clause-after g c = λ source keeps.
     let mid = c.find_true.new.device in
     let now = c.carry.new.target in
     let honest : IsTrue (A.keeps_model mid) = subst IsTrue (sym c.find_true.ensures.only_read.passes.model) source in
-    let still : IsTrue (B.keeps_sectors now) = subst IsTrue (sym c.carry.ensures.passes.units) keeps in
+    let still : IsTrue (B.keeps_sectors now) = subst IsTrue (sym c.carry.ensures.carries.passes.units) keeps in
     on_ok_weaker c.carry.result
     (λ whole n to x may.
     let one : a ≡ n = omega (arith, to, c.in_ok-blocks.ensures.new, c.sectors-2.ensures) in
@@ -61,7 +62,7 @@ returns-in-Ok-clause-undamaged g c = λ source keeps.
     let mid = c.find_true.new.device in
     let now = c.carry.new.target in
     let honest : IsTrue (A.keeps_model mid) = subst IsTrue (sym c.find_true.ensures.only_read.passes.model) source in
-    let still : IsTrue (B.keeps_sectors now) = subst IsTrue (sym c.carry.ensures.passes.units) keeps in
+    let still : IsTrue (B.keeps_sectors now) = subst IsTrue (sym c.carry.ensures.carries.passes.units) keeps in
     on_ok_weaker c.carry.result
     (λ whole n to clear x may.
     let one : a ≡ n = omega (arith, to, c.in_ok-blocks.ensures.new, c.sectors-2.ensures) in
@@ -95,7 +96,7 @@ returns-in-Ok-clause-old_reads g c = λ keeps n size.
     let old = c.args.old.now in
     let one : c.in_ok-blocks.blocks.number ≡ n = omega (arith, size, c.in_ok-blocks.ensures.old, c.sectors.ensures) in
     subst (λ k. ReadsAtMost A old c.carry.new.source (reads_to_list k (A.disk old).content + 2 * k)) one
-    (omega (arith, c.find_true.ensures.reads keeps, c.carry.ensures.reads))
+    (omega (arith, c.find_true.ensures.reads keeps, c.carry.ensures.reads (subst IsTrue (sym c.find_true.ensures.only_read.passes.model) keeps)))
 
 pub returns-in-Err-clause-old_reads : goal.returns-in-Err-clause-old_reads
 returns-in-Err-clause-old_reads g c = λ keeps n size.

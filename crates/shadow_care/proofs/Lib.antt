@@ -1,3 +1,0 @@
-pub mod Carryings
-pub mod Copies
-pub mod Findings

@@ -1,3 +1,0 @@
-pub mod Carried
-pub mod Copied
-pub mod Standing
