@@ -30,6 +30,7 @@ pub struct Assigned {
 /// The assigned buffers, at most four, the most recently used first. That first one is the current buffer.
 ///
 /// No two of them have the same block or the same slot. Contracts see the list and the current buffer's block.
+/// Rule: LANGUAGE, Blocks; DECISIONS, The leaf crates.
 #[derive(Drop)]
 pub struct Buffers {
     slots: LruCache<u16, Slot>,
@@ -49,9 +50,7 @@ impl Model for Buffers {
 }
 
 impl Buffers {
-    /// Four buffers, none of them assigned.
-    ///
-    /// Fails only where memory for the list is refused.
+    /// Four buffers, none of them assigned. `NoMemory` where memory for the list is refused.
     pub fn new(alloc: Global) -> Result<Buffers, NoMemory>
         ensures { IfOk result (λ buffers. buffers ≡ none_assigned) }
     {
@@ -62,7 +61,7 @@ impl Buffers {
         })
     }
 
-    /// The slot of the block's buffer, which becomes the most recently used and the current one.
+    /// The slot, 0 to 3, of the block's buffer, which becomes the most recently used and the current one.
     ///
     /// None, and nothing changes, where the block has no buffer.
     #[inline]
@@ -77,7 +76,7 @@ impl Buffers {
         slot
     }
 
-    /// The slot of the block's buffer, or None where it has none. The order of use stays as it is.
+    /// The slot, 0 to 3, of the block's buffer, or None where it has none. The order of use stays as it is.
     #[inline]
     pub fn peek(&self, block: u16) -> Option<Slot>
         ensures slot { result ≡ slot_of self.now block }
@@ -87,7 +86,8 @@ impl Buffers {
         self.slots.peek(&block).copied()
     }
 
-    /// The least recently used buffer, where all four are assigned: the next new block takes its slot.
+    /// The least recently used buffer, where all four are assigned: the next new block takes its slot. None where fewer
+    /// are.
     pub fn oldest(&self) -> Option<Assigned>
         ensures oldest { result ≡ oldest self.now }
         ensures below { IfSome result (λ oldest. oldest.slot < 4) }
@@ -104,11 +104,11 @@ impl Buffers {
         })
     }
 
-    /// Assigns a buffer to a block that has none, and gives its slot: that of the least recently used buffer where
-    /// all four are assigned, whose block then has none, and else the number of those that are assigned.
+    /// Assigns a buffer to a block that has none, and gives its slot, 0 to 3: that of the least recently used buffer
+    /// where all four are assigned, whose block then has none, and else the number of those that are assigned.
     ///
-    /// The buffer is the most recently used and the current one, and isn't updated. Where memory is refused nothing
-    /// changes.
+    /// The buffer is the most recently used and the current one, and isn't updated. `NoMemory` where memory is refused;
+    /// nothing changes then.
     pub fn place(&mut self, block: u16) -> Result<Slot, NoMemory>
         requires { assigned self.old.list block ≡ None }
         ensures slot { IfOk result (λ slot. slot ≡ slot_for self.old) }
@@ -148,7 +148,7 @@ impl Buffers {
         true
     }
 
-    /// The updated buffers, the most recently used first.
+    /// The updated buffers, at most four, the most recently used first.
     pub fn updated(&self) -> ArrayVec<Assigned, 4>
         ensures updated { result.items ≡ updated_ones self.now }
         ensures below { All (λ updated. updated.slot < 4) result.items }

@@ -8,9 +8,9 @@ use Rattle.block_buffers.specs.Buffers.{slot_of}
 use Rattle.block_words.specs.declared.buffered_blocks.BlockFault.{BlockFault}
 use Rattle.block_words.specs.declared.buffered_blocks.BlockFault.TheVariants.{NoBlock, NoBuffer, Device, Closed, Memory}
 use Rattle.block_words.specs.declared.buffered_blocks.Blocks.{Blocks}
-use Rattle.stores.specs.declared.store.Store.{Store}
+use Rattle.journal.specs.declared.store.Store.{Store}
 use Rattle.block_words.specs.Promises.{TellsFailures, AsksFor}
-use Rattle.stores.specs.Store.{device_of, blocks_of}
+use Rattle.journal.specs.Store.{device_of, blocks_of}
 use Rattle.block_words.proofs.Lists.{none_past}
 
 abbrev the_gift : {A : Type 0} → A → Result A BlockFault

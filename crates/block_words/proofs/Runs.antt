@@ -8,7 +8,7 @@ use Rattle.sector_disk.proofs.Moments.{leaves_then}
 use Rattle.sector_disk.specs.declared.device.SectorDevice.{Ghosts}
 use Rattle.journal.specs.declared.store.StoreFault.{StoreFault}
 use Rattle.journal.specs.declared.store.StoreFault.TheVariants.{Device as DeviceRefuses, Closed as IsClosed}
-use Rattle.stores.specs.Images.{Means}
+use Rattle.journal.specs.BySize.{Means}
 use Rattle.data_space.specs.Space.{buffer_at, buffer_bytes, with_bytes}
 use Rattle.journal.specs.Maps.{Maps, contents, shut}
 use Rattle.block_buffers.specs.declared.buffers.Assigned.{Assigned}
@@ -20,8 +20,8 @@ use Rattle.block_words.specs.Rooms.{spilled_if, room_made, is_updated, room_wear
 use Rattle.block_words.specs.Faults.{of_store}
 use Rattle.block_words.specs.Calls.{state, ended, failures_after, WordRuns, WearsAtMost, CallKeeps, CallLeaves, CallRuns}
 use Rattle.block_words.proofs.Worn.{none_more, wear_assoc, wears_none, wears_then}
-use Rattle.stores.specs.declared.store.Store.{Store}
-use Rattle.stores.specs.Store.{MeansBy, StandsFor, device_of, closed_of}
+use Rattle.journal.specs.declared.store.Store.{Store}
+use Rattle.journal.specs.Store.{MeansBy, StandsFor, device_of, closed_of}
 
 abbrev pub room_answers : Bool → List Answer → List Answer
 room_answers true rest = Well ∷ rest

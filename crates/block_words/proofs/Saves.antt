@@ -7,14 +7,15 @@ use Rattle.sector_disk.specs.Disk.{Image}
 use Rattle.sector_disk.specs.Moments.{LeavesOnly}
 use Rattle.sector_disk.proofs.Moments.{elapses_then, leaves_then}
 use Rattle.sector_disk.specs.declared.device.SectorDevice.{Ghosts}
-use Rattle.stores.specs.declared.store.Store.{Store}
+use Rattle.journal.specs.declared.store.Store.{Store}
 use Rattle.journal.specs.Calls.{BeginsAtMost, ReadsAtMost}
-use Rattle.stores.specs.Images.{Means}
+use Rattle.journal.specs.BySize.{Means}
 use Rattle.journal.specs.Layout.{count_below}
 use Rattle.recovery.specs.Label.{is_size}
 use Rattle.journal.specs.Maps.{Maps, contents, latest, spilled, committed, shut, any_pending}
-use Rattle.stores.specs.Costs.{each_reads, each_writes, more_writes, save_syncs}
-use Rattle.stores.specs.Store.{Continues, MeansBy, StandsFor, KeepsSaved, SavesAllOrNone, is_pending, pending_count, DeviceBegins, DeviceReads, device_of, closed_of, blocks_of, by_older}
+use Rattle.journal.specs.Costs.{each_reads, each_writes, more_writes, save_syncs}
+use Rattle.journal.specs.Store.{Continues, MeansBy, StandsFor, KeepsSaved, SavesAllOrNone, is_pending, pending_count, DeviceBegins, DeviceReads, device_of, disk_of, technique_of, closed_of, blocks_of, by_older}
+use Rattle.journal.specs.Technique.{spilled_of}
 use Rattle.block_words.specs.Parts.{ChangesAllOrNone}
 use Rattle.block_words.specs.Uses.{is_among, is_changed, changed_count}
 use Rattle.data_space.specs.Space.{buffer_bytes}
@@ -194,7 +195,7 @@ some_pending {D} {G} store m stands is_open counted = pick (any_pending m.pendin
     pick : (t : Bool) → any_pending m.pending ≡ t → any_pending m.pending ≡ true
     pick true is = is
     pick false is = absurd (counted (count_below_none (is_pending store) (blocks_of store)
-        (λ b below. not_listed (is_pending store b) (contents m b) (sym (none_at m.pending is b) ∙ stands.pending is_open b below))))
+        (λ b below. not_listed (is_pending store b) (spilled_of (technique_of store) (disk_of store).content b) (sym (none_at m.pending is b) ∙ stands.pending is_open b below))))
 
 pub device_fault : (f : StoreFault) → (f ≡ Shut → ⊥) → f ≡ Broken
 device_fault Broken other = refl

@@ -4,10 +4,10 @@ use Rattle.std.proofs.lemmas.List.{append-nil}
 use Rattle.sector_disk.specs.Disk.{Image, MayLeave}
 use Rattle.sector_disk.specs.Moments.{Elapses}
 use Rattle.sector_disk.specs.declared.device.SectorDevice.{Ghosts}
-use Rattle.stores.specs.declared.store.Store.{Store}
-use Rattle.stores.specs.Images.{Means}
+use Rattle.journal.specs.declared.store.Store.{Store}
+use Rattle.journal.specs.BySize.{Means}
 use Rattle.journal.specs.Maps.{Maps}
-use Rattle.stores.specs.Store.{Continues, device_of}
+use Rattle.journal.specs.Store.{Continues, device_of}
 use Rattle.block_buffers.specs.Buffers.{Buffers}
 use Rattle.block_words.specs.declared.buffered_blocks.BlockFault.{BlockFault}
 use Rattle.block_words.specs.Words.{Save, Wear, add_wear, Blocks, BlockOutcome}

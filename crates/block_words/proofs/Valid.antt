@@ -5,13 +5,13 @@ use Rattle.std.proofs.lemmas.Bool.{eqb-true}
 use Rattle.std.proofs.lemmas.Bool.Decides.{nat_tests}
 use Rattle.std.proofs.lemmas.List.Filters.{length-filter_both}
 use Rattle.sector_disk.specs.declared.device.SectorDevice.{Ghosts}
-use Rattle.stores.specs.declared.store.Store.{Store}
+use Rattle.journal.specs.declared.store.Store.{Store}
 use Rattle.journal.specs.Layout.{count_below}
 use Rattle.block_buffers.specs.declared.buffers.Assigned.{Assigned}
 use Rattle.block_buffers.specs.Buffers.{Buffers, none_assigned, updated_ones, IsApart, AreApart, IsValid}
 use Rattle.block_words.specs.Uses.{is_among, is_changed, changed_count}
 use Rattle.block_words.specs.Rooms.{within}
-use Rattle.stores.specs.Store.{blocks_of}
+use Rattle.journal.specs.Store.{blocks_of}
 use Rattle.block_words.proofs.Lists.{within_first, within_rest, within_filter}
 
 pub valid_none : IsValid none_assigned

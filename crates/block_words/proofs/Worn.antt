@@ -2,16 +2,17 @@
 use Rattle.std.proofs.Common.{◌≡◌, ℕ, zero, suc, ◌+◌, ◌*◌, ◌<◌, ◌≤◌, Bool, true, false, cond, List, [], ◌∷◌, length, Option, Some, None, refl, sym, ◌∙◌, ap, subst, arith}
 use Rattle.std.specs.Prelude.{slice_index_or, if◌then◌else◌}
 use Rattle.sector_disk.specs.declared.device.SectorDevice.{Ghosts}
-use Rattle.stores.specs.declared.store.Store.{Store}
+use Rattle.journal.specs.declared.store.Store.{Store}
 use Rattle.journal.specs.Layout.{count_below}
-use Rattle.journal.specs.Maps.{Maps, any_pending, contents}
-use Rattle.stores.specs.Store.{StandsFor, is_pending, pending_count, closed_of}
+use Rattle.journal.specs.Maps.{Maps, any_pending}
+use Rattle.journal.specs.Store.{StandsFor, is_pending, pending_count, closed_of, disk_of, technique_of}
+use Rattle.journal.specs.Technique.{spilled_of}
 use Rattle.block_buffers.specs.declared.buffers.Assigned.{Assigned}
 use Rattle.block_words.specs.Words.{Wear, no_wear, add_wear, spill_wear, commit_wear, pending_number}
 use Rattle.block_words.specs.Calls.{WearsAtMost, reads_of, writes_of}
 use Rattle.journal.specs.Calls.{BeginsAtMost, ReadsAtMost}
 use Rattle.recovery.specs.Label.{is_size}
-use Rattle.stores.specs.Costs.{each_reads, each_writes, more_writes, save_syncs}
+use Rattle.journal.specs.Costs.{each_reads, each_writes, more_writes, save_syncs}
 
 pub none_more : (w : Wear) → add_wear w no_wear ≡ w
 none_more w =
@@ -124,7 +125,7 @@ pending_counted (x ∷ p) q slot h =
 -- an open store has as many blocks pending as its maps
 pub pending_same : {D : Type 0} {G : Ghosts D} (store : Store D G) (m : Maps) → StandsFor store m → closed_of store ≡ false → pending_number m.pending ≡ pending_count store
 pending_same {D} {G} store m stands is_open =
-    pending_counted m.pending (is_pending store) (λ b. contents m b)
+    pending_counted m.pending (is_pending store) (λ b. spilled_of (technique_of store) (disk_of store).content b)
     (λ b below. stands.pending is_open b (subst (λ n. b < n) stands.pending_size below))
     ∙ ap (λ n. count_below (is_pending store) n) stands.pending_size
 

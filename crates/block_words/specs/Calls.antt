@@ -4,16 +4,16 @@ use Rattle.sector_disk.specs.Counting.{count_up}
 use Rattle.sector_disk.specs.Disk.{MayLeave}
 use Rattle.sector_disk.specs.Moments.{LeavesOnly}
 use Rattle.sector_disk.specs.declared.device.SectorDevice.{Ghosts}
-use Rattle.stores.specs.declared.store.Store.{Store}
+use Rattle.journal.specs.declared.store.Store.{Store}
 use Rattle.journal.specs.Calls.{BeginsAtMost, ReadsAtMost}
-use Rattle.stores.specs.Images.{Means}
+use Rattle.journal.specs.BySize.{Means}
 use Rattle.journal.specs.Maps.{Maps}
-use Rattle.stores.specs.Store.{StandsFor, device_of}
+use Rattle.journal.specs.Store.{StandsFor, device_of}
 use Rattle.block_buffers.specs.Buffers.{Buffers}
 use Rattle.block_words.specs.declared.buffered_blocks.BlockFault.{BlockFault}
 use Rattle.block_words.specs.declared.buffered_blocks.BlockFault.TheVariants.{Device}
 use Rattle.recovery.specs.Label.{is_size}
-use Rattle.stores.specs.Costs.{each_reads, each_writes, more_writes, save_syncs}
+use Rattle.journal.specs.Costs.{each_reads, each_writes, more_writes, save_syncs}
 use Rattle.block_words.specs.Words.{Answer, Save, Wear, add_wear, Blocks, BlockOutcome, Gives, Fails}
 use Rattle.block_words.specs.Kept.{KeptFrom, last_map}
 

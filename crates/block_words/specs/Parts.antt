@@ -2,10 +2,10 @@
 use Rattle.std.specs.Prelude.{◌≡◌, ◌⊎◌, ◌<◌, ◌≤◌, ℕ, false, List, length, None}
 use Rattle.sector_disk.specs.Disk.{Image, MayLeave}
 use Rattle.sector_disk.specs.declared.device.SectorDevice.{Ghosts}
-use Rattle.stores.specs.declared.store.Store.{Store}
+use Rattle.journal.specs.declared.store.Store.{Store}
 use Rattle.journal.specs.Calls.{StopsLeave}
 use Rattle.journal.specs.Maps.{Maps}
-use Rattle.stores.specs.Store.{MeansBy, StandsFor, blocks_of, device_of}
+use Rattle.journal.specs.Store.{MeansBy, StandsFor, blocks_of, device_of}
 use Rattle.block_buffers.specs.Buffers.{Buffers, slot_of, updated_ones, IsValid}
 use Rattle.block_words.specs.declared.buffered_blocks.Blocks.{Blocks}
 use Rattle.block_words.specs.Words.{next_map}

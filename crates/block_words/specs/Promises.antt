@@ -1,9 +1,9 @@
 -- What the calls of the block words have in common, over any device.
 use Rattle.std.specs.Prelude.{◌≡◌, ◌⊎◌, ◌↔◌, ◌≤◌, ◌+◌, ◌*◌, ℕ, true, false, List, [], length, Result, IsOk, IsErr, IfErr, OnOk, IsErrOf, IsSome}
 use Rattle.sector_disk.specs.declared.device.SectorDevice.{Ghosts}
-use Rattle.stores.specs.declared.store.Store.{Store}
-use Rattle.stores.specs.Costs.{each_reads, each_writes, more_writes, save_syncs}
-use Rattle.stores.specs.Store.{Continues, DeviceBegins, DeviceReads, KeepsSaved, blocks_of, by_older, is_pending, pending_count, device_of, closed_of}
+use Rattle.journal.specs.declared.store.Store.{Store}
+use Rattle.journal.specs.Costs.{each_reads, each_writes, more_writes, save_syncs}
+use Rattle.journal.specs.Store.{Continues, DeviceBegins, DeviceReads, KeepsSaved, blocks_of, by_older, is_pending, pending_count, device_of, closed_of}
 use Rattle.block_buffers.specs.Buffers.{Buffers, slot_of, updated_ones}
 use Rattle.block_words.specs.declared.buffered_blocks.BlockFault.{BlockFault}
 use Rattle.block_words.specs.declared.buffered_blocks.BlockFault.TheVariants.{NoBlock, NoBuffer, Device, Closed}

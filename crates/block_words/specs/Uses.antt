@@ -1,9 +1,9 @@
 -- What a use of a block does to the buffers, and how many blocks a save has to write. All this is known over any device.
-use Rattle.std.specs.Prelude.{◌≡◌, ℕ, ◌==◌, ◌&&◌, ◌||◌, ◌<◌, Bool, false, List, [], ◌∷◌, Option, Some, None, unwrap_or, replicate, Result, Ok, Err}
+use Rattle.std.specs.Prelude.{◌≡◌, ℕ, ◌==◌, ◌&&◌, ◌||◌, ◌<◌, Bool, true, false, List, [], ◌∷◌, Option, Some, None, unwrap_or, replicate, Result, Ok, Err}
 use Rattle.sector_disk.specs.declared.device.SectorDevice.{Ghosts}
-use Rattle.stores.specs.declared.store.Store.{Store}
+use Rattle.journal.specs.declared.store.Store.{Store}
 use Rattle.journal.specs.Layout.{count_below}
-use Rattle.stores.specs.Store.{blocks_of, is_pending, text_of}
+use Rattle.journal.specs.Store.{blocks_of, is_pending, text_of}
 use Rattle.data_space.specs.Space.{buffer_at, buffer_bytes, with_bytes}
 use Rattle.block_buffers.specs.declared.buffers.Assigned.{Assigned}
 use Rattle.block_buffers.specs.Buffers.{Buffers, assigned, slot_of, touched, oldest, slot_for, placed, updated_ones}
@@ -58,6 +58,15 @@ with_bytes_left (Err fault) bytes = Err fault
 abbrev pub IsPlace : TextPlace → Type 0
 IsPlace (InBuffer slot) = slot < 4
 IsPlace InStore = Unit {0}
+
+-- where a text is at hand without a call of the device: in this slot, else in the store, where that keeps it
+abbrev pub in_store : (kept : Bool) → Option TextPlace
+in_store true = Some InStore
+in_store false = None
+
+abbrev pub at_hand : Option ℕ → (kept : Bool) → Option TextPlace
+at_hand (Some slot) kept = Some (InBuffer slot)
+at_hand None kept = in_store kept
 
 module _ {D : Type 0} {G : Ghosts D} where
   -- the text at a place

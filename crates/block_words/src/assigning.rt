@@ -1,7 +1,7 @@
 // A buffer for a block that has none.
 ghost use Rattle.std.specs.Prelude.{◌≡◌, ◌⊎◌, ◌<◌, ◌↔◌, [], None, true, false, replicate, List, ℕ, OnOk, OnErr, IfOk, IfErr, IsErrOf, MatchResult};
 ghost use Rattle.journal.specs.Maps.{Maps, shut};
-ghost use Rattle.stores.specs.Store.{device_of, blocks_of, closed_of, StandsFor, Continues, DeviceFailed, DeviceWentWell, DeviceBegins, DeviceReads, KeepsSaved};
+ghost use Rattle.journal.specs.Store.{device_of, blocks_of, closed_of, StandsFor, Continues, DeviceFailed, DeviceWentWell, DeviceBegins, DeviceReads, KeepsSaved};
 ghost use Rattle.data_space.specs.Space.{buffer_at, with_bytes};
 ghost use Rattle.block_buffers.specs.Buffers.{oldest, assigned, slot_for, placed, IsValid};
 ghost use Rattle.block_words.specs.Words.{assign, block, buffer};

@@ -2,11 +2,11 @@
 ghost use Rattle.std.specs.Prelude.{◌≡◌, ◌↔◌, List, [], ℕ, true, Some, None, Ok, length, is_ok, IfOk, IfErr, OnOk, OnErr, IsErrOf, IsSome, IfSome, MatchResult};
 ghost use Rattle.std.proofs.Props.{props};
 ghost use Rattle.journal.specs.Maps.{Maps};
-ghost use Rattle.stores.specs.Store.{blocks_of, closed_of, kept_of, StandsFor, DeviceBegins, DeviceReads, KeepsSaved, SamePending};
+ghost use Rattle.journal.specs.Store.{blocks_of, closed_of, kept_of, is_text_of, StandsFor, DeviceBegins, DeviceReads, KeepsSaved, SamePending};
 ghost use Rattle.data_space.specs.Space.{buffer_at, buffer_bytes};
 ghost use Rattle.block_buffers.specs.Buffers.{slot_of, none_assigned, unmarked, after_mark, IsValid};
 ghost use Rattle.block_words.specs.Words.{block, buffer, update, save_buffers, flush, source, next_map};
-ghost use Rattle.block_words.specs.Uses.{used, slot_used, replaced, blanked, with_bytes_left, IsPlace, text_at, text_found, PendingOnceReplaced};
+ghost use Rattle.block_words.specs.Uses.{used, slot_used, replaced, blanked, with_bytes_left, IsPlace, text_at, text_found, at_hand, in_store, PendingOnceReplaced};
 ghost use Rattle.block_words.specs.Rooms.{within};
 ghost use Rattle.block_words.specs.Validity.{AreApart-prop, SlotsBelow-prop};
 ghost use Rattle.block_words.specs.Calls.{CallRuns, save_begun};
@@ -62,9 +62,10 @@ impl From<StoreFault> for BlockFault {
 /// taken by the first `block` or `buffer` of a block that has none, and by no other call.
 ///
 /// Contracts speak of the store and of the list of buffers, which is valid at any time (`laws::buffers_are_valid`).
-/// Where the device keeps the disk model, `CallRuns` says that a call is a run of its word, what a stop at any moment of
-/// it leaves, and that the device began no more calls of each kind than the word counts; all other clauses hold over any
-/// device.
+/// Where the device keeps the disk model, `CallRuns` says that a call is a run of its word, what a stop at any moment
+/// of it leaves, and that the device began no more calls of each kind than the word counts; all other clauses hold over
+/// any device.
+/// Rule: LANGUAGE, Blocks; LANGUAGE, Memory.
 #[derive(Drop)]
 pub struct Blocks<D: SectorDevice> {
     store: Store<D>,
@@ -95,6 +96,7 @@ impl<D: SectorDevice> Blocks<D> {
     }
 
     /// `UPDATE`: marks the current buffer as updated. `NoBuffer` where there is none. Makes no device call.
+    /// Rule: Forth-83 Standard, UPDATE; LANGUAGE, Blocks.
     pub fn update(&mut self) -> Result<(), BlockFault>
         ensures runs { (m : Maps) (space : List ℕ) → StandsFor (store_of self.old) m
             → CallRuns D.SectorDevice update result [] m
@@ -112,13 +114,15 @@ impl<D: SectorDevice> Blocks<D> {
         }
     }
 
-    /// `BLOCK`: the address of the buffer of block `u`, which becomes the current one. A block without a buffer is read into one.
+    /// `BLOCK`: the address of the buffer of block `u`, which becomes the current one. A block without a buffer is read
+    /// into one.
     ///
     /// For the fifth block the least recently used buffer is taken, and spilled first if it is updated.
     ///
     /// `NoBlock` from the number of blocks on; `Closed` where the block has no buffer and a fault has closed the store.
     /// At `Device` a failed read has changed nothing, and a failed spill has closed the store. At `Memory` the spill
     /// before it stands. At any fault, buffers, marks and bytes are as they were.
+    /// Rule: Forth-83 Standard, BLOCK; LANGUAGE, Blocks.
     pub fn block(&mut self, space: &mut DataSpace, u: u16) -> Result<u16, BlockFault>
         ensures runs { (m : Maps) → StandsFor (store_of self.old) m
             → CallRuns D.SectorDevice (block u) result [] m
@@ -148,7 +152,8 @@ impl<D: SectorDevice> Blocks<D> {
     }
 
     /// `BUFFER`: as `block`, but a block without a buffer isn't read: its buffer is filled with blanks (this project's
-    /// profile of Forth-83). A buffer that is there isn't changed.
+    /// profile of Forth-83). A buffer that is there isn't changed. Faults come as at `block`, but for those of a read.
+    /// Rule: Forth-83 Standard, BUFFER; LANGUAGE, All words, Blocks.
     pub fn buffer(&mut self, space: &mut DataSpace, u: u16) -> Result<u16, BlockFault>
         ensures runs { (m : Maps) → StandsFor (store_of self.old) m
             → CallRuns D.SectorDevice (buffer u) result [] m
@@ -176,11 +181,12 @@ impl<D: SectorDevice> Blocks<D> {
         }
     }
 
-    /// Reads the text of block `u` as it stands: its buffer's bytes, or else what was spilled last, or else what is
-    /// saved. Neither the buffers nor their order change, and the block gets none.
+    /// Reads the 1,024 bytes of the text of block `u` as it stands: its buffer's bytes, or else what was spilled last,
+    /// or else what is saved. Neither the buffers nor their order change, and the block gets none.
     ///
     /// `NoBlock` from the number of blocks on; `Closed` where the block has no buffer and a fault has closed the store;
     /// a failed read (`Device`) changes nothing.
+    /// Rule: LANGUAGE, The input stream, and how words are taken; LANGUAGE, Blocks.
     pub fn source(
         &mut self,
         space: &DataSpace,
@@ -213,8 +219,9 @@ impl<D: SectorDevice> Blocks<D> {
         }
     }
 
-    /// Finds the text of block `u` as `source` does, and copies nothing: `text` lends it. The store keeps the text that it
-    /// read last, so a block that is read word by word is read from the device once. Faults are those of `source`.
+    /// Finds the text of block `u` as `source` does, and copies nothing: `text` lends it. The store keeps the text that
+    /// it read last, so a block that is read word by word is read from the device once. Faults are those of `source`.
+    /// Rule: DECISIONS, The device and the image; LANGUAGE, The input stream, and how words are taken.
     pub fn find_text(&mut self, u: u16) -> Result<TextPlace, BlockFault>
         ensures runs { (m : Maps) (space : List ℕ) → StandsFor (store_of self.old) m
             → CallRuns D.SectorDevice (source u) (text_found result (store_of self.new) space) [] m
@@ -249,6 +256,7 @@ impl<D: SectorDevice> Blocks<D> {
     }
 
     /// The 1,024 bytes of the text at a place that `find_text` gave last.
+    /// Rule: DECISIONS, The device and the image.
     pub fn text<'a>(&'a self, space: &'a DataSpace, place: TextPlace) -> &'a [u8]
         requires { IsPlace place }
         ensures text { result.now ≡ text_at place (store_of self.now) space.now }
@@ -260,12 +268,37 @@ impl<D: SectorDevice> Blocks<D> {
         }
     }
 
+    /// Where the text of block `u` is at hand without a call of the device: in its buffer, or as the text that the
+    /// store read last. None where neither has it.
+    /// Rule: DECISIONS, Compiler, machine and the definitions.
+    pub fn text_at_hand(&self, u: u16) -> Option<TextPlace>
+        ensures found { result ≡ at_hand (slot_of (buffers_of self.now) u) (is_text_of (kept_of (store_of self.now)) u) }
+        ensures below { IfSome result (λ place. IsPlace place) }
+    {
+        match self.buffers.peek(u) {
+            Some(slot) => Some(TextPlace::InBuffer(slot)),
+            None => self.text_in_store(u),
+        }
+    }
+
+    fn text_in_store(&self, u: u16) -> Option<TextPlace>
+        ensures found { result ≡ in_store (is_text_of (kept_of (store_of self.now)) u) }
+        ensures below { IfSome result (λ place. IsPlace place) }
+    {
+        if self.store.keeps_text_of(u) {
+            Some(TextPlace::InStore)
+        } else {
+            None
+        }
+    }
+
     /// `SAVE-BUFFERS`: saves all that was updated or spilled since the last save, or nothing of it, and then no buffer
     /// is updated. With nothing to save it makes no device call.
     ///
-    /// A stop at any moment leaves the old blocks or all the new ones; once this has returned, the new ones. A device
-    /// fault closes the store. At any fault, buffers and marks are as they were. `Closed` where the store was closed
-    /// before, also with nothing to save.
+    /// A stop at any moment leaves the old blocks or all the new ones; once this has returned, the new ones. `Device`
+    /// where the device failed: that closes the store. `Closed` where the store was closed before, also with nothing to
+    /// save. At either, buffers and marks are as they were.
+    /// Rule: Forth-83 Standard, SAVE-BUFFERS; LANGUAGE, Blocks.
     pub fn save_buffers(&mut self, space: &DataSpace) -> Result<(), BlockFault>
         ensures runs { (m : Maps) → StandsFor (store_of self.old) m
             → CallRuns D.SectorDevice save_buffers result
@@ -286,8 +319,9 @@ impl<D: SectorDevice> Blocks<D> {
         }
     }
 
-    /// `FLUSH`: saves as `save_buffers` does, and then no block has a buffer and none is current. At any fault, buffers
-    /// and marks are as they were.
+    /// `FLUSH`: saves as `save_buffers` does, and then no block has a buffer and none is current. `Closed` and `Device`
+    /// come as there; at any fault, buffers and marks are as they were.
+    /// Rule: Forth-83 Standard, FLUSH; LANGUAGE, Blocks.
     pub fn flush(&mut self, space: &DataSpace) -> Result<(), BlockFault>
         ensures runs { (m : Maps) → StandsFor (store_of self.old) m
             → CallRuns D.SectorDevice flush result

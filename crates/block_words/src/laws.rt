@@ -1,4 +1,5 @@
 //! Laws of calls that follow one another, and of the buffers at any time.
+//! Rule: SEMANTICS, Laws.
 ghost use Rattle.block_words.specs.Following.{KeepsOn};
 ghost use Rattle.block_words.specs.Parts.{BuffersAreValid, FewAreUpdated, UpdatedAreChanged};
 
@@ -10,8 +11,8 @@ pub fn calls_follow<D: SectorDevice>()
     ensures { KeepsOn D.SectorDevice }
 {}
 
-/// Does nothing. Its contract is a law over any device: at any time the list of buffers that `Blocks` holds is valid, and
-/// so at most four of them are updated, and no more than a save has blocks to commit.
+/// Does nothing. Its contract is a law over any device: at any time the list of buffers that `Blocks` holds is valid,
+/// and so at most four of them are updated, and no more than a save has blocks to commit.
 pub fn buffers_are_valid<D: SectorDevice>()
     ensures valid { BuffersAreValid D.SectorDevice }
     ensures few { FewAreUpdated D.SectorDevice }

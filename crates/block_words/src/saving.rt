@@ -1,7 +1,7 @@
 // Saving all that was updated or spilled.
 ghost use Rattle.std.specs.Prelude.{◌≡◌, ◌*◌, ◌||◌, ℕ, [], true, false, length, is_ok, if◌then◌else◌, OnOk, OnErr, IsOk, IsErrOf};
 ghost use Rattle.journal.specs.Maps.{Maps, shut};
-ghost use Rattle.stores.specs.Store.{blocks_of, closed_of, StandsFor, Continues, DeviceFailed, DeviceWentWell, DeviceBegins, DeviceReads, KeepsSaved, is_pending, device_of};
+ghost use Rattle.journal.specs.Store.{blocks_of, closed_of, StandsFor, Continues, DeviceFailed, DeviceWentWell, DeviceBegins, DeviceReads, KeepsSaved, is_pending, device_of};
 ghost use Rattle.block_buffers.specs.Buffers.{Buffers as Held, updated_ones};
 ghost use Rattle.block_words.specs.Words.{all_spilled, next_map, save_and};
 ghost use Rattle.block_words.specs.Promises.{Saves};

@@ -6,6 +6,7 @@ pub mod Division
 pub mod Effects
 pub mod Frames
 pub mod Fusing
+pub mod Begun
 pub mod Value
 pub mod Events
 pub mod Staying

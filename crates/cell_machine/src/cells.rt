@@ -1,4 +1,5 @@
 //! Arithmetic of cells.
+//! Rule: LANGUAGE, Cells and addresses.
 
 ghost use Rattle.std.specs.Prelude.{◌≡◌, int_lt};
 ghost use Rattle.cell_machine.specs.Cells.{signed, flag, unary, binary};
@@ -13,7 +14,9 @@ pub fn truth(holds: bool) -> u16
     if holds { 65535 } else { 0 }
 }
 
-/// The result of a word of one cell.
+/// The result of a word of one cell. It wraps at 16 bits, and is signed where the word is.
+/// Rule: LANGUAGE, Arithmetic; LANGUAGE, Bits and comparison; Forth-83 Standard, 1+ 1- 2+ 2- 2/ ABS NEGATE NOT 0< 0=
+/// 0>.
 #[inline(always)]
 pub fn apply(word: Unary, w: u16) -> u16
     ensures { result ≡ unary word w }
@@ -41,7 +44,8 @@ fn half(w: u16) -> u16
     if w < 32768 { w / 2 } else { 32768 + w / 2 }
 }
 
-/// Whether one signed cell is below another one.
+/// Whether one cell is below another one, both read as signed: -32,768 to 32,767.
+/// Rule: Forth-83 Standard, <.
 #[inline]
 pub fn is_less(a: u16, b: u16) -> bool
     ensures { result ≡ int_lt (signed a) (signed b) }
@@ -49,7 +53,8 @@ pub fn is_less(a: u16, b: u16) -> bool
     a.cast_signed() < b.cast_signed()
 }
 
-/// The result of a word of two cells, of which `b` is the top.
+/// The result of a word of two cells, of which `b` is the top. It wraps at 16 bits, and is signed where the word is.
+/// Rule: LANGUAGE, Arithmetic; LANGUAGE, Bits and comparison; Forth-83 Standard, + - * AND OR XOR < > = U< MAX MIN.
 #[inline(always)]
 pub fn combine(word: Binary, a: u16, b: u16) -> u16
     ensures { result ≡ binary word a b }

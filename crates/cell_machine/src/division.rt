@@ -46,7 +46,9 @@ fn low_cell(z: i64) -> u16
 }
 
 #[tactic(auto, using(crate::proofs::Floors::divided_some))]
-/// Quotient rounded down, and remainder; None where the divisor is 0 or the quotient is no signed cell.
+/// The quotient rounded down, and the remainder, each as a cell. `n` has a size of at most 2^30, `by` of at most
+/// 32,768. None where the divisor is 0 or the quotient is no signed cell.
+/// Rule: LANGUAGE, Cells and addresses; Forth-83 Standard, / MOD /MOD */ */MOD.
 #[inline(always)]
 pub fn divide(n: i32, by: i32) -> Option<(u16, u16)>
     requires small { unsigned_abs n ≤ 1073741824 }

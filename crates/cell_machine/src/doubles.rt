@@ -1,4 +1,5 @@
 //! Words of doubles and of quotients.
+//! Rule: LANGUAGE, Arithmetic.
 
 ghost use Rattle.std.specs.Prelude.{◌≡◌, ◌+◌, ◌-◌, ◌*◌, ◌≤◌, ℕ, List, length, unsigned_abs, int_lt, OnOk, OnErr, IfOk, IfErr, ◌*ℤ◌, ◌^◌};
 ghost use Rattle.system_words.specs.declared.words.Divide.TheVariants.{Quotient, Remainder, Both, Scaled, ScaledBoth, UnsignedDouble};
@@ -118,7 +119,9 @@ fn divide_double(low: u16, high: u16, by: u16) -> Result<(u16, u16), Event>
 }
 
 impl Operands {
-    /// A word that divides.
+    /// A word that divides. Faults: `Steps`, `StackEmpty`, then `Division` where the divisor is 0 or the quotient is
+    /// out of range.
+    /// Rule: LANGUAGE, Arithmetic; Forth-83 Standard, / MOD /MOD */ */MOD UM/MOD.
     #[inline(always)]
     pub fn division(
         &mut self,
@@ -144,7 +147,9 @@ impl Operands {
         }
     }
 
-    /// A word on doubles.
+    /// A word on doubles, of which each is two cells, the most significant one on top. Faults: `Steps`, then
+    /// `StackEmpty`.
+    /// Rule: LANGUAGE, Arithmetic; LANGUAGE, Cells and addresses; Forth-83 Standard, D+ D< DNEGATE UM*.
     #[inline(always)]
     pub fn double(&mut self, places: &mut [u16], budget: &mut u32, word: Wide) -> Result<(), Event>
         requires sized { length places.old ≡ 257 }

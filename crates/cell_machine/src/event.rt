@@ -3,8 +3,8 @@
 /// A service that is due. Texts and parts are named by their places.
 #[derive(Clone, Copy, Debug, PartialEq, Eq)]
 pub enum Op {
-    /// A word that the machine neither does by itself nor can call: a system word that asks for something, or a user's word
-    /// of which the caller alone knows what it does.
+    /// A word that the machine neither does by itself nor can call: a system word that asks for something, or a user's
+    /// word of which the caller alone knows what it does.
     Word(u16),
     /// A text to print.
     Text(u16),

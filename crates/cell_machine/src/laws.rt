@@ -1,4 +1,5 @@
 //! Laws over the definitions alone.
+//! Rule: SEMANTICS, Laws.
 
 ghost use Rattle.cell_machine.specs.Division.{DivisionIs};
 ghost use Rattle.cell_machine.specs.Served.{StepsKeep, CallsKeep};

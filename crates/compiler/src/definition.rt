@@ -1,4 +1,5 @@
 //! The open definition: its beginning and end, and what is added to it that is no structure.
+//! Rule: LANGUAGE, Definitions and structures.
 ghost use Rattle.std.specs.Prelude.{◌≡◌, ◌≢◌, ◌+◌, ◌<◌, ◌≤◌, ℕ, List, length, slice_index, true, false, None, Some, OnOk, OnErr, IfOk, IfErr, Option, is_some};
 ghost use Rattle.cell_machine.specs.Layout.{text_cell, most_tokens};
 ghost use Rattle.compiler.specs.Definition.{Definition, add_literal, add_word, add_text, end_definition};
@@ -38,8 +39,10 @@ pub enum TextKind {
 
 /// The open definition, if there is one, and where the bodies end. No call but `Compiler::new` takes memory.
 ///
-/// A call that adds to the definition is refused, in this order, where none is open (`NoDefinition`), where it doesn't fit
-/// (`Unbalanced`) and where there is no room for it (`CodeFull`).
+/// An addition to the definition is refused, in this order: `NoDefinition` where none is open; `Unbalanced` where a
+/// mark of `COMPILE` waits for its word and this is none, or where it doesn't fit, as the call says; `CodeFull` where
+/// its cells would pass 32,768, or it would be the 257th open structure. A refused call has changed nothing.
+/// Rule: LANGUAGE, Definitions and structures.
 #[derive(Drop)]
 pub struct Compiler {
     is_open: bool,
@@ -53,13 +56,15 @@ pub struct Compiler {
     pub(crate) here: u16,
     /// a mark of `COMPILE` waits for its word
     marked: bool,
-    /// within a loop the last cell in which a LEAVE will say where it goes, or 0: each such cell holds the one before it
+    /// within a loop the last cell in which a LEAVE will say where it goes, or 0: each such cell holds the one before
+    /// it
     pub(crate) leaves: Option<u16>,
     pub(crate) opens: Opens,
 }
 
 impl Compiler {
-    /// No definition is open, and no cell is used. `NoMemory` where there is none for the structures.
+    /// A compiler with no definition open and no cell used. `NoMemory` where there is none for the 256 structures.
+    /// Rule: LANGUAGE, Limits.
     pub fn new(alloc: Global) -> Result<Compiler, NoMemory>
         ensures closed { IfOk result (λ compiler. IsClosed compiler) }
         ensures empty { IfOk result (λ compiler. used compiler ≡ 0) }
@@ -84,7 +89,8 @@ impl Compiler {
         self.opened().is_ok()
     }
 
-    /// Where the bodies end, but for that of the open definition, which begins there.
+    /// Where the bodies end, 0 to 32,768, but for that of the open definition, which begins there.
+    /// Rule: ARCHITECTURE, The code cells.
     #[inline]
     pub fn end(&self) -> u16
         ensures { result ≡ used self.now }
@@ -92,14 +98,15 @@ impl Compiler {
         self.start // and not `here`, where it goes on
     }
 
-    /// The name of the open definition, or of the last one.
+    /// The name of the open definition, or of the last one: 0 to 31 bytes.
     pub fn name(&self) -> &[u8]
         ensures { result.now ≡ name_of self.now }
     {
         self.name.as_slice()
     }
 
-    /// `:` opens a definition. The name has at most 31 bytes.
+    /// `:` opens a definition. The name has at most 31 bytes. `DefinitionOpen` where one is open.
+    /// Rule: Forth-83 Standard, :.
     pub fn begin(&mut self, name: &[u8]) -> Result<(), Refusal>
         requires { length name.now ≤ 31 }
         ensures opened { OnOk result (Opened self.old self.new name.now) }
@@ -121,7 +128,9 @@ impl Compiler {
         Ok(())
     }
 
-    /// `;` ends the definition, and answers the place of its body.
+    /// `;` ends the definition with 1 cell, and answers the place of its body's first cell. Refused as any addition,
+    /// and as `Unbalanced` where a structure is open.
+    /// Rule: Forth-83 Standard, ;.
     pub fn finish(&mut self, code: &mut Code) -> Result<u16, Refusal>
         requires { IsSound self.old code.old }
         ensures finished { IfOk result (Finished self.old code.old self.new code.new) }
@@ -140,7 +149,8 @@ impl Compiler {
         Ok(place)
     }
 
-    /// The open definition is dropped, if there is one.
+    /// Drops the open definition, if there is one, and gives its cells back.
+    /// Rule: LANGUAGE, Lines and replies.
     pub fn abandon(&mut self)
         ensures closed { (code : List ℕ) (o : Option Definition) → Holds self.old code o → IsClosed self.new }
         ensures bodies { used self.new ≡ used self.old }
@@ -148,7 +158,9 @@ impl Compiler {
         self.close(self.start);
     }
 
-    /// Gives back the cells from a place on: the bodies that lie there are forgotten. No definition is open.
+    /// Gives back the cells from a place on, which is at most `end`: the bodies that lie there are forgotten. No
+    /// definition is open.
+    /// Rule: Forth-83 Standard, FORGET; ARCHITECTURE, The code cells.
     pub fn cut(&mut self, place: u16)
         requires closed { IsClosed self.old }
         requires within { place ≤ used self.old }
@@ -158,7 +170,8 @@ impl Compiler {
         self.start = place;
     }
 
-    /// Adds a literal.
+    /// Adds a literal, which takes 2 cells. Refused as any addition.
+    /// Rule: Forth-83 Standard, LITERAL; LANGUAGE, Limits.
     pub fn literal(&mut self, code: &mut Code, v: u16) -> Result<(), Refusal>
         requires { IsSound self.old code.old }
         ensures added { OnOk result (Added self.old code.old self.new code.new (λ used. add_literal used v)) }
@@ -172,8 +185,9 @@ impl Compiler {
         Ok(())
     }
 
-    /// Adds a word, with a token of 1 to 4,096, or after `COMPILE` one that the body adds when it runs. `EXIT` stands in
-    /// no loop.
+    /// Adds a word, with a token of 1 to 4,096, or after `COMPILE` one that the body adds when it runs. It takes 1
+    /// cell. Refused as any addition, and as `Unbalanced` for an `EXIT` within a counted loop, but not after `COMPILE`.
+    /// Rule: LANGUAGE, Definitions and structures; Forth-83 Standard, COMPILE.
     pub fn call(&mut self, code: &mut Code, token: u16) -> Result<(), Refusal>
         requires sound { IsSound self.old code.old }
         requires from { 0 < token }
@@ -198,7 +212,9 @@ impl Compiler {
         Ok(())
     }
 
-    /// Adds a text of at most 1,024 bytes.
+    /// Adds a text of at most 1,024 bytes, which takes 2 cells, and 1 for each two of its bytes, the last one's half
+    /// filled up. Refused as any addition.
+    /// Rule: LANGUAGE, Limits; Forth-83 Standard, ."; Forth-83 Standard, ABORT".
     pub fn text(&mut self, code: &mut Code, kind: TextKind, bytes: &[u8]) -> Result<(), Refusal>
         requires sound { IsSound self.old code.old }
         requires most { length bytes.now ≤ 1024 }

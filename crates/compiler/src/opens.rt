@@ -1,4 +1,5 @@
 //! The structures that are begun.
+//! Rule: LANGUAGE, Definitions and structures; LANGUAGE, Limits.
 
 ghost use Rattle.std.specs.Prelude.{◌≡◌, ◌<◌, ◌≤◌, List, [], ◌∷◌, length, drop, MatchOption, IfOk};
 
@@ -24,7 +25,8 @@ pub enum Open {
     Do(u16, Option<u16>),
 }
 
-/// At most 256 structures, innermost first. They lie in the heap, so that a system that is moved doesn't carry them along.
+/// At most 256 structures, innermost first. They lie in the heap, so that a system that is moved doesn't carry them
+/// along.
 #[derive(Drop)]
 pub struct Opens {
     // the outermost at place 0
@@ -46,7 +48,7 @@ impl Model for Opens {
 }
 
 impl Opens {
-    /// No structure, in memory that is taken here once.
+    /// A list with no structure open, in memory for 256 that is taken here once. `NoMemory` where it is refused.
     pub fn new(alloc: Global) -> Result<Opens, NoMemory>
         ensures { IfOk result (λ opens. opens ≡ []) }
     {
@@ -56,20 +58,21 @@ impl Opens {
         })
     }
 
+    /// How many structures are open, 0 to 256.
     pub fn len(&self) -> usize
         ensures { result ≡ length self.now }
     {
         self.depth
     }
 
-    /// No structure is open.
+    /// Ends all structures: none is open.
     pub fn clear(&mut self)
         ensures { self.new ≡ [] }
     {
         self.depth = 0;
     }
 
-    /// The innermost structure.
+    /// The innermost structure. None where none is open.
     pub fn innermost(&self) -> Option<Open>
         ensures { MatchOption result (self.now ≡ []) (λ o. (rest : List Open) × (self.now ≡ o ∷ rest)) }
     {
@@ -80,7 +83,7 @@ impl Opens {
         }
     }
 
-    /// One more structure.
+    /// Begins one more structure, which is the innermost one then. At most 255 are open before.
     pub fn push(&mut self, begun: Open)
         requires { length self.old < 256 }
         ensures { self.new ≡ begun ∷ self.old }
@@ -89,14 +92,14 @@ impl Opens {
         self.depth += 1;
     }
 
-    /// The innermost structure ends.
+    /// Ends the innermost structure, if there is one.
     pub fn close(&mut self)
         ensures { self.new ≡ drop 1 self.old }
     {
         self.depth = self.depth.saturating_sub(1);
     }
 
-    /// The innermost structure becomes this one.
+    /// Puts this one in the place of the innermost structure. There is one.
     pub fn change(&mut self, begun: Open)
         requires { 0 < length self.old }
         ensures { self.new ≡ begun ∷ drop 1 self.old }

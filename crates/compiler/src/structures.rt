@@ -1,4 +1,5 @@
 //! The structures of a definition, and `DOES>`, which stands within none.
+//! Rule: LANGUAGE, Definitions and structures; LANGUAGE, Limits.
 ghost use Rattle.std.specs.Prelude.{◌≡◌, ◌+◌, None, Some, OnOk, IfErr};
 ghost use Rattle.cell_machine.specs.Tree.{ByOne, ByTop};
 ghost use Rattle.cell_machine.specs.Layout.{end_of};
@@ -22,7 +23,8 @@ enum LoopEnd {
 }
 
 impl Compiler {
-    /// `IF`
+    /// `IF` begins a choice, with a test of 2 cells. Refused as any addition.
+    /// Rule: Forth-83 Standard, IF.
     pub fn add_if(&mut self, code: &mut Code) -> Result<(), Refusal>
         requires { IsSound self.old code.old }
         ensures added { OnOk result (Added self.old code.old self.new code.new add_if) }
@@ -39,7 +41,9 @@ impl Compiler {
         Ok(())
     }
 
-    /// `ELSE`
+    /// `ELSE` begins the second half of a choice, with a jump of 2 cells. Refused as any addition, and as `Unbalanced`
+    /// where the innermost structure is no `IF`, or one with its `ELSE`.
+    /// Rule: Forth-83 Standard, ELSE.
     pub fn add_else(&mut self, code: &mut Code) -> Result<(), Refusal>
         requires { IsSound self.old code.old }
         ensures added { OnOk result (Added self.old code.old self.new code.new add_else) }
@@ -61,7 +65,9 @@ impl Compiler {
         }
     }
 
-    /// `THEN`
+    /// `THEN` ends a choice, with no cell. Refused as any addition, and as `Unbalanced` where the innermost structure
+    /// is no `IF`.
+    /// Rule: Forth-83 Standard, THEN.
     pub fn add_then(&mut self, code: &mut Code) -> Result<(), Refusal>
         requires { IsSound self.old code.old }
         ensures added { OnOk result (Added self.old code.old self.new code.new add_then) }
@@ -85,7 +91,8 @@ impl Compiler {
         }
     }
 
-    /// `BEGIN`
+    /// `BEGIN` begins a loop with a test, with no cell. Refused as any addition.
+    /// Rule: Forth-83 Standard, BEGIN.
     pub fn add_begin(&mut self, code: &mut Code) -> Result<(), Refusal>
         requires { IsSound self.old code.old }
         ensures added { OnOk result (Added self.old code.old self.new code.new add_begin) }
@@ -99,7 +106,9 @@ impl Compiler {
         Ok(())
     }
 
-    /// `UNTIL`
+    /// `UNTIL` ends a loop with a test of 2 cells. Refused as any addition, and as `Unbalanced` where the innermost
+    /// structure is no `BEGIN`, or one with its `WHILE`.
+    /// Rule: Forth-83 Standard, UNTIL.
     pub fn add_until(&mut self, code: &mut Code) -> Result<(), Refusal>
         requires { IsSound self.old code.old }
         ensures added { OnOk result (Added self.old code.old self.new code.new add_until) }
@@ -119,7 +128,9 @@ impl Compiler {
         }
     }
 
-    /// `WHILE`
+    /// `WHILE` gives a loop its way out, with a test of 2 cells. Refused as any addition, and as `Unbalanced` where the
+    /// innermost structure is no `BEGIN`, or one with its `WHILE`.
+    /// Rule: Forth-83 Standard, WHILE.
     pub fn add_while(&mut self, code: &mut Code) -> Result<(), Refusal>
         requires { IsSound self.old code.old }
         ensures added { OnOk result (Added self.old code.old self.new code.new add_while) }
@@ -140,7 +151,9 @@ impl Compiler {
         }
     }
 
-    /// `REPEAT`
+    /// `REPEAT` ends a loop that has its `WHILE`, with a jump back of 2 cells. Refused as any addition, and as
+    /// `Unbalanced` where the innermost structure is none.
+    /// Rule: Forth-83 Standard, REPEAT.
     pub fn add_repeat(&mut self, code: &mut Code) -> Result<(), Refusal>
         requires { IsSound self.old code.old }
         ensures added { OnOk result (Added self.old code.old self.new code.new add_repeat) }
@@ -161,7 +174,8 @@ impl Compiler {
         }
     }
 
-    /// `DO`
+    /// `DO` begins a counted loop, with 1 cell. Refused as any addition.
+    /// Rule: Forth-83 Standard, DO.
     pub fn add_do(&mut self, code: &mut Code) -> Result<(), Refusal>
         requires { IsSound self.old code.old }
         ensures added { OnOk result (Added self.old code.old self.new code.new add_do) }
@@ -179,7 +193,9 @@ impl Compiler {
         Ok(())
     }
 
-    /// `LOOP`
+    /// `LOOP` ends a counted loop, whose index grows by 1, with 2 cells; each of its `LEAVE`s goes behind them. Refused
+    /// as any addition, and as `Unbalanced` where the innermost structure is no `DO`.
+    /// Rule: Forth-83 Standard, LOOP.
     pub fn add_loop(&mut self, code: &mut Code) -> Result<(), Refusal>
         requires { IsSound self.old code.old }
         ensures added { OnOk result (Added self.old code.old self.new code.new (λ used. add_loop used ByOne)) }
@@ -189,7 +205,9 @@ impl Compiler {
         self.end_loop(code, LoopEnd::ByOne)
     }
 
-    /// `+LOOP`
+    /// `+LOOP` ends a counted loop, whose index grows by the top cell, with 2 cells; each of its `LEAVE`s goes behind
+    /// them. Refused as any addition, and as `Unbalanced` where the innermost structure is no `DO`.
+    /// Rule: Forth-83 Standard, +LOOP.
     pub fn add_plus_loop(&mut self, code: &mut Code) -> Result<(), Refusal>
         requires { IsSound self.old code.old }
         ensures added { OnOk result (Added self.old code.old self.new code.new (λ used. add_loop used ByTop)) }
@@ -199,7 +217,9 @@ impl Compiler {
         self.end_loop(code, LoopEnd::ByTop)
     }
 
-    /// `LEAVE`
+    /// `LEAVE` goes behind the end of the innermost counted loop, also from structures within it, with 2 cells. Refused
+    /// as any addition, and as `Unbalanced` outside a counted loop.
+    /// Rule: Forth-83 Standard, LEAVE.
     pub fn add_leave(&mut self, code: &mut Code) -> Result<(), Refusal>
         requires { IsSound self.old code.old }
         ensures added { OnOk result (Added self.old code.old self.new code.new add_leave) }
@@ -219,7 +239,9 @@ impl Compiler {
         }
     }
 
-    /// `DOES>`
+    /// `DOES>` ends the part before it, with 1 cell; what comes next is the next part. Refused as any addition, and as
+    /// `Unbalanced` where a structure is open.
+    /// Rule: Forth-83 Standard, DOES>.
     pub fn add_does(&mut self, code: &mut Code) -> Result<(), Refusal>
         requires { IsSound self.old code.old }
         ensures added { OnOk result (Added self.old code.old self.new code.new add_does) }

@@ -1,6 +1,6 @@
-//! Reads and writes of data space that is lent as a slice of all its bytes.
-//!
-//! A loop takes the slice once, by `DataSpace::bytes_mut`, and then doesn't go through the owner at each access.
+//! Reads and writes of data space that is lent as a slice of all its bytes, 65,536 of them. An address is a number of
+//! 16 bits.
+//! Rule: LANGUAGE, Cells and addresses; SEMANTICS, Data space and stacks.
 ghost use Rattle.std.specs.Prelude.{◌≡◌, ◌+◌, ◌≤◌, ◌↔◌, if◌then◌else◌, length, IsTrue, IsSome, IfSome};
 ghost use Rattle.data_space.specs.Space.{Fits, byte_at, with_byte, cell_at, with_cell, bytes_at, moved_up, moved_down, filled};
 
@@ -28,7 +28,7 @@ pub fn set_byte(bytes: &mut [u8], a: u16, b: u8)
     bytes[usize::from(a)] = b;
 }
 
-/// The cell at an address, or None where one of its bytes would lie past 65,535.
+/// The cell at an address, the low byte first. None at address 65,535, where one of its bytes would lie past the end.
 #[inline]
 pub fn cell(bytes: &[u8], a: u16) -> Option<u16>
     requires { length bytes.now ≡ 65536 }
@@ -39,7 +39,7 @@ pub fn cell(bytes: &[u8], a: u16) -> Option<u16>
     Some(LittleEndian::read_u16(&bytes[usize::from(a)..end]))
 }
 
-/// Stores a cell. False, with nothing changed, where one of its bytes would lie past 65,535.
+/// Stores a cell, the low byte first. False, with nothing changed, at address 65,535.
 #[inline]
 pub fn set_cell(bytes: &mut [u8], a: u16, w: u16) -> bool
     requires { length bytes.old ≡ 65536 }
@@ -54,7 +54,8 @@ pub fn set_cell(bytes: &mut [u8], a: u16, w: u16) -> bool
     true
 }
 
-/// The bytes of a range, or None where it runs past 65,535.
+/// The `n` bytes from an address on. None where the range runs past 65,535; one of no bytes never does.
+/// Rule: DECISIONS, The leaf crates; LANGUAGE, Cells and addresses.
 #[inline]
 pub fn slice(bytes: &[u8], a: u16, n: u16) -> Option<&[u8]>
     requires { length bytes.now ≡ 65536 }
@@ -65,7 +66,8 @@ pub fn slice(bytes: &[u8], a: u16, n: u16) -> Option<&[u8]>
     Some(&bytes[usize::from(a)..end])
 }
 
-/// Stores a byte `n` times. False, with nothing changed, where the range runs past 65,535.
+/// Stores a byte `n` times, from an address on. False, with nothing changed, where the range runs past 65,535.
+/// Rule: Forth-83 Standard, FILL; SEMANTICS, Data space and stacks.
 #[inline]
 pub fn fill(bytes: &mut [u8], a: u16, n: u16, b: u8) -> bool
     requires { length bytes.old ≡ 65536 }
@@ -80,7 +82,9 @@ pub fn fill(bytes: &mut [u8], a: u16, n: u16, b: u8) -> bool
     true
 }
 
-/// Copies `n` bytes one by one, the lowest first. False, with nothing changed, where one of the ranges runs past 65,535.
+/// Copies `n` bytes one by one, the lowest first: where the target begins within the source, what was copied is copied
+/// again. False, with nothing changed, where one of the ranges runs past 65,535.
+/// Rule: Forth-83 Standard, CMOVE; SEMANTICS, Data space and stacks.
 #[inline]
 pub fn move_up(bytes: &mut [u8], from: u16, to: u16, n: u16) -> bool
     requires { length bytes.old ≡ 65536 }
@@ -95,7 +99,9 @@ pub fn move_up(bytes: &mut [u8], from: u16, to: u16, n: u16) -> bool
     true
 }
 
-/// Copies `n` bytes one by one, the highest first. False, with nothing changed, where one of the ranges runs past 65,535.
+/// Copies `n` bytes one by one, the highest first: where the source begins within the target, what was copied is copied
+/// again. False, with nothing changed, where one of the ranges runs past 65,535.
+/// Rule: Forth-83 Standard, CMOVE>; SEMANTICS, Data space and stacks.
 #[inline]
 pub fn move_down(bytes: &mut [u8], from: u16, to: u16, n: u16) -> bool
     requires { length bytes.old ≡ 65536 }

@@ -23,6 +23,7 @@ pub type NoMemory = AllocError;
 /// Data space. Contracts see it as the list of its bytes.
 ///
 /// A range of no bytes lies within at any address.
+/// Rule: LANGUAGE, Cells and addresses; LANGUAGE, Memory.
 #[derive(Drop)]
 pub struct DataSpace {
     bytes: Vec<u8>,
@@ -58,7 +59,7 @@ impl DataSpace {
         lent::byte(&self.bytes, a)
     }
 
-    /// Stores a byte.
+    /// Stores a byte at an address. Each address has one.
     #[inline]
     pub fn set_byte(&mut self, a: u16, b: u8)
         ensures after { self.new ≡ with_byte self.old a b }
@@ -88,7 +89,8 @@ impl DataSpace {
         lent::set_cell(&mut self.bytes, a, w)
     }
 
-    /// Stores a byte `n` times. False, with nothing changed, where the range runs past 65,535.
+    /// Stores a byte `n` times, from address `a` on. False, with nothing changed, where the range runs past 65,535.
+    /// Rule: Forth-83 Standard, FILL; SEMANTICS, Data space and stacks.
     pub fn fill(&mut self, a: u16, n: u16, b: u8) -> bool
         ensures within { IsTrue result ↔ Fits a n }
         ensures after { self.new ≡ (if result then filled self.old a n b else self.old) }
@@ -97,7 +99,7 @@ impl DataSpace {
         lent::fill(&mut self.bytes, a, n, b)
     }
 
-    /// Stores these bytes. False, with nothing changed, where their range runs past 65,535.
+    /// Stores these bytes, from address `a` on. False, with nothing changed, where their range runs past 65,535.
     pub fn set_bytes(&mut self, a: u16, new: &[u8]) -> bool
         ensures within { IsTrue result ↔ Fits a (length new.now) }
         ensures after { self.new ≡ (if result then with_bytes self.old a new.now else self.old) }
@@ -114,6 +116,7 @@ impl DataSpace {
 
     /// Copies `n` bytes one by one, the lowest first, as Forth-83's `CMOVE` does: where the target begins within the
     /// source, what was copied is copied again. False, with nothing changed, where one of the ranges runs past 65,535.
+    /// Rule: Forth-83 Standard, CMOVE; SEMANTICS, Data space and stacks.
     pub fn move_up(&mut self, from: u16, to: u16, n: u16) -> bool
         ensures within { IsTrue result ↔ (Fits from n × Fits to n) }
         ensures after { self.new ≡ (if result then moved_up self.old from to n else self.old) }
@@ -124,6 +127,7 @@ impl DataSpace {
 
     /// Copies `n` bytes one by one, the highest first, as Forth-83's `CMOVE>` does. False, with nothing changed, where
     /// one of the ranges runs past 65,535.
+    /// Rule: Forth-83 Standard, CMOVE>; SEMANTICS, Data space and stacks.
     pub fn move_down(&mut self, from: u16, to: u16, n: u16) -> bool
         ensures within { IsTrue result ↔ (Fits from n × Fits to n) }
         ensures after { self.new ≡ (if result then moved_down self.old from to n else self.old) }
@@ -132,7 +136,8 @@ impl DataSpace {
         lent::move_down(&mut self.bytes, from, to, n)
     }
 
-    /// The bytes of a range, or None where it runs past 65,535.
+    /// The `n` bytes from address `a` on. None where the range runs past 65,535; one of no bytes never does.
+    /// Rule: DECISIONS, The leaf crates; LANGUAGE, Cells and addresses.
     pub fn slice(&self, a: u16, n: u16) -> Option<&[u8]>
         ensures within { IsSome result ↔ Fits a n }
         ensures value { IfSome result (λ bytes. bytes.now ≡ bytes_at self.now a n) }

@@ -1,8 +1,9 @@
 //! The words in chains: one for each vocabulary, and strands, of which a search follows one.
 //!
 //! A header has the token of the next older word of its vocabulary, and a table that of each vocabulary's newest one.
-//! Which strand a word is in, its vocabulary and its name say. There are as many strands as there may be words, so
-//! a search reads few headers, the newest first, however many words there are. Contracts see a list of words, oldest first.
+//! Which strand a word is in, its vocabulary and its name say. There are as many strands as there may be words, so a
+//! search reads few headers, the newest first, however many words there are. Contracts see a list of words, oldest
+//! first.
 ghost use Rattle.std.specs.Prelude.{◌≡◌, ◌+◌, ◌-◌, ◌/◌, ◌<◌, ◌≤◌, ◌==◌, ◌&&◌, [], ◌∷◌, ◌++◌, length, take, option_map, is_some, IfOk, IfSome, IsTrue};
 ghost use Rattle.std.specs.Bool.{OnTrue, OnFalse};
 ghost use Rattle.std.specs.Int.{from_le_bytes, Width};
@@ -18,7 +19,8 @@ use std::marker::Model;
 /// How many strands there are.
 const STRANDS: usize = 4096;
 
-/// The number after the piece has joined it, in 32 bits. The multiplier (2 to the 32nd over the golden ratio) spreads what is alike.
+/// The number after the piece has joined it, in 32 bits. The multiplier (2 to the 32nd over the golden ratio) spreads
+/// what is alike.
 #[inline]
 fn joined(mix: u32, piece: u32) -> u32
     ensures { result ≡ joined mix piece }
@@ -224,7 +226,8 @@ impl Chains {
         }
     }
 
-    /// The token of the last word of the name in the vocabulary. `mix` is the name, mixed: who looks in two vocabularies mixes it once.
+    /// The token of the last word of the name in the vocabulary. `mix` is the name, mixed: who looks in two
+    /// vocabularies mixes it once.
     #[inline(always)]
     pub(crate) fn find_in(&self, vocabulary: Token, name: &[u8], mix: u32) -> Option<Token>
         requires mixed { mix ≡ mixed name.now }

@@ -12,6 +12,7 @@ use system_words::Row;
 
 /// Whether the word makes sense only while a body is compiled. The text interpreter refuses to run such a word while it
 /// interprets, and `EXECUTE` refuses it always. Only system words are of this sort: any other number gives false.
+/// Rule: LANGUAGE, All words.
 #[inline]
 pub fn is_compile_only(token: Token) -> bool
     ensures { result ≡ compile_only_token token }

@@ -73,7 +73,8 @@ pub enum DictionaryFault {
     NotCreated,
 }
 
-/// The words, the first vocabulary of the search, and the compilation vocabulary.
+/// The words, the first vocabulary of the search, and the compilation vocabulary. A refused call has changed nothing.
+/// Rule: LANGUAGE, Dictionary and search.
 #[derive(Drop)]
 pub struct Dictionary {
     words: Chains,
@@ -95,6 +96,7 @@ impl Dictionary {
     /// The system words alone, with `FORTH` as both vocabularies.
     ///
     /// Takes the memory for 4,096 words and their names, and fails only where it is refused. No other call takes any.
+    /// Rule: LANGUAGE, Limits.
     pub fn new(alloc: Global) -> Result<Dictionary, NoMemory>
         ensures { IfOk result (λ dictionary. dictionary ≡ first_dictionary) }
     {
@@ -117,6 +119,7 @@ impl Dictionary {
 
     /// Whether `add` would take a word of this name: `NameLength` where it has no byte or more than 31, then `Full`
     /// where there are 4,096 words.
+    /// Rule: LANGUAGE, Limits.
     pub fn check_name(&self, name: &[u8]) -> Result<(), DictionaryFault>
         ensures refused { result_err result ≡ add_refusal self.now name.now }
     {
@@ -129,9 +132,10 @@ impl Dictionary {
         Ok(())
     }
 
-    /// Adds a word to the compilation vocabulary, not immediate, and gives its token.
+    /// Adds a word to the compilation vocabulary, not immediate, and gives its token, which is the new `len`.
     ///
-    /// `here` is `HERE` when the word was begun. Refused as `check_name` says.
+    /// `here` is `HERE` when the word was begun. `NameLength` where the name has no byte or more than 31, then `Full`
+    /// where there are 4,096 words.
     pub fn add(&mut self, name: &[u8], kind: Kind, here: u16) -> Result<Token, DictionaryFault>
         ensures refused { result_err result ≡ add_refusal self.old name.now }
         ensures token { IfOk result (λ token. token ≡ length self.old.words + 1) }
@@ -150,7 +154,8 @@ impl Dictionary {
     }
 
     /// Looks the name up as the text interpreter does: the newest word of that name in the first vocabulary, and
-    /// failing that the newest in `FORTH`. Names are compared byte by byte.
+    /// failing that the newest in `FORTH`. Names are compared byte by byte. None where neither has it.
+    /// Rule: LANGUAGE, Dictionary and search; Forth-83 Standard, FIND.
     pub fn find(&self, name: &[u8]) -> Option<Token>
         ensures found { result ≡ find self.now.words self.now.context name.now }
         ensures token { IfSome result (λ token. IsTrue (is_token self.now token)) }
@@ -162,7 +167,8 @@ impl Dictionary {
         }
     }
 
-    /// The last word of the name in one vocabulary.
+    /// The newest word of the name in one vocabulary, which is named by its word's token. None where no word in it has
+    /// the name.
     pub fn find_in(&self, vocabulary: Token, name: &[u8]) -> Option<Token>
         ensures found { result ≡ find_in self.now.words vocabulary name.now }
         ensures token { IfSome result (λ token. IsTrue (is_token self.now token)) }
@@ -170,7 +176,7 @@ impl Dictionary {
         self.words.find_in(vocabulary, name, mixed(name))
     }
 
-    /// The word with the token, or None where no word has it.
+    /// The word with the token. None where no word has it: at 0, and above `len`.
     #[inline]
     pub fn entry(&self, token: Token) -> Option<Word<'_>>
         ensures entry { option_map word_of result ≡ entry self.now.words token }
@@ -179,7 +185,8 @@ impl Dictionary {
         self.words.get(token)
     }
 
-    /// The place of the body of the word with the token. None where it is no colon definition, or no word has the token.
+    /// The place of the body of the word with the token. None where it is no colon definition, or no word has the
+    /// token.
     #[inline(always)]
     pub fn body(&self, token: Token) -> Option<Place>
         ensures { result ≡ body_of_word (entry self.now.words token) }
@@ -188,7 +195,9 @@ impl Dictionary {
     }
 
     /// The cell that the word with the token leaves, where it does nothing else: the value of a constant, or the data
-    /// address of a word that `CREATE` or `VARIABLE` made and that has no part.
+    /// address of a word that `CREATE` or `VARIABLE` made and that has no part. None for any other word, and where no
+    /// word has the token.
+    /// Rule: LANGUAGE, Dictionary.
     #[inline(always)]
     pub fn cell(&self, token: Token) -> Option<u16>
         ensures { result ≡ cell_of_word (entry self.now.words token) }
@@ -197,6 +206,7 @@ impl Dictionary {
     }
 
     /// Makes the most recent word immediate. `Protected` where that is a system word.
+    /// Rule: Forth-83 Standard, IMMEDIATE.
     pub fn set_immediate(&mut self) -> Result<(), DictionaryFault>
         ensures refused { result_err result ≡ immediate_refusal self.old }
         ensures ok { OnOk result (self.new ≡ record self.old { words = with_immediate self.old.words }) }
@@ -209,8 +219,9 @@ impl Dictionary {
         Ok(())
     }
 
-    /// Gives the most recent word the part that is run with its data address. `NotCreated` where the word wasn't made
-    /// by `CREATE` or `VARIABLE`.
+    /// Gives the most recent word the part that is run with its data address; `part` is the place of its first cell.
+    /// `NotCreated` where the word wasn't made by `CREATE` or `VARIABLE`.
+    /// Rule: Forth-83 Standard, DOES>.
     pub fn set_does(&mut self, part: Place) -> Result<(), DictionaryFault>
         ensures refused { result_err result ≡ does_refusal self.old part }
         ensures words { OnOk result (with_part self.old.words part ≡ Some self.new.words) }
@@ -228,6 +239,7 @@ impl Dictionary {
     /// word. Where the first vocabulary goes too, `FORTH` takes its place.
     ///
     /// `Protected` where the word is a system word, or where the compilation vocabulary is one of those to be deleted.
+    /// Rule: LANGUAGE, Dictionary and search; Forth-83 Standard, FORGET.
     pub fn forget_from(&mut self, token: Token) -> Result<u16, DictionaryFault>
         requires { IsTrue (is_token self.old token) }
         ensures refused { result_err result ≡ forget_refusal self.old token }
@@ -246,7 +258,7 @@ impl Dictionary {
         Ok(here)
     }
 
-    /// The first vocabulary of the search.
+    /// The token of the first vocabulary of the search.
     #[inline]
     pub fn context(&self) -> Token
         ensures context { result ≡ self.now.context }
@@ -255,7 +267,7 @@ impl Dictionary {
         self.context
     }
 
-    /// The compilation vocabulary, which new words are added to.
+    /// The token of the compilation vocabulary, which new words are added to.
     #[inline]
     pub fn current(&self) -> Token
         ensures current { result ≡ self.now.current }

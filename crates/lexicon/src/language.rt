@@ -1,4 +1,5 @@
 //! The words of a Forth system: looking at them and changing them.
+//! Rule: LANGUAGE, Dictionary and search.
 ghost use Rattle.std.specs.Prelude.{◌≡◌, ◌≤◌, Some, None, IfOk, IfErr, IfSome, OnOk, length, is_some};
 ghost use Rattle.dictionary.specs.Words.{Created, Constant, Vocabulary, find, find_in, entry, forth_token, system_count};
 ghost use Rattle.lexicon.specs.Language.{Language, new_language, adding_word, marking};
@@ -41,8 +42,10 @@ pub enum Refusal {
 
 /// The words of a Forth system, the bodies that they run, and what is open among them.
 ///
-/// A refused call has changed nothing. A new word is refused as `DefinitionOpen`, `Name` or `DictionaryFull`, in this
-/// order; an addition to the open definition as `NoDefinition`, `Unbalanced` or `CodeFull`, in this order.
+/// A refused call has changed nothing. A new word is refused as `DefinitionOpen` where a definition is open, as `Name`
+/// where its name has no byte or more than 31, or as `DictionaryFull` where there are 4,096 words, in this order; an
+/// addition to the open definition as `NoDefinition`, `Unbalanced` or `CodeFull`, in this order.
+/// Rule: LANGUAGE, Dictionary and search.
 #[derive(Drop)]
 pub struct Lexicon {
     pub(crate) dictionary: Dictionary,
@@ -55,7 +58,8 @@ pub struct Lexicon {
 }
 
 impl Lexicon {
-    /// The system words alone. All memory is taken here.
+    /// The system words alone. All memory is taken here: `NoMemory` where it is refused.
+    /// Rule: LANGUAGE, Limits.
     pub fn new(alloc: Global) -> Result<Lexicon, NoMemory>
         ensures { IfOk result (λ lexicon. Stands lexicon new_language) }
     {
@@ -68,7 +72,7 @@ impl Lexicon {
         })
     }
 
-    /// How many words there are, which is the token of the most recent one.
+    /// How many words there are, 132 to 4,096, which is the token of the most recent one.
     #[inline]
     pub fn len(&self) -> usize
         ensures len { (x : Language) → Stands self.now x → result ≡ length x.words }
@@ -78,7 +82,9 @@ impl Lexicon {
         self.dictionary.len()
     }
 
-    /// The word that the text interpreter finds: in the first vocabulary, else in `FORTH`.
+    /// The token of the word that the text interpreter finds: in the first vocabulary, else in `FORTH`. None where
+    /// neither has the name.
+    /// Rule: LANGUAGE, Dictionary and search; Forth-83 Standard, FIND.
     pub fn find(&self, name: &[u8]) -> Option<Token>
         ensures found { (x : Language) → Stands self.now x → result ≡ find x.words x.first name.now }
         ensures word { IfSome result (λ token. (x : Language) → Stands self.now x → IsWord x token) }
@@ -86,7 +92,9 @@ impl Lexicon {
         self.dictionary.find(name)
     }
 
-    /// The word of the name in the compilation vocabulary, where `FORGET` looks.
+    /// The token of the newest word of the name in the compilation vocabulary, where `FORGET` looks. None where it has
+    /// none.
+    /// Rule: Forth-83 Standard, FORGET.
     pub fn find_in_current(&self, name: &[u8]) -> Option<Token>
         ensures found { (x : Language) → Stands self.now x → result ≡ find_in x.words x.current name.now }
         ensures word { IfSome result (λ token. (x : Language) → Stands self.now x → IsWord x token) }
@@ -94,7 +102,8 @@ impl Lexicon {
         self.dictionary.find_in(self.dictionary.current(), name)
     }
 
-    /// Whether the text interpreter runs the word even while it compiles.
+    /// Whether the text interpreter runs the word even while it compiles. False where no word has the token.
+    /// Rule: Forth-83 Standard, IMMEDIATE.
     pub fn is_immediate(&self, token: Token) -> bool
         ensures { (x : Language) → Stands self.now x → result ≡ is_immediate (entry x.words token) }
     {
@@ -104,7 +113,9 @@ impl Lexicon {
         }
     }
 
-    /// Whether `VOCABULARY` made the word: so what it does is to become the first vocabulary.
+    /// Whether `VOCABULARY` made the word: so what it does is to become the first vocabulary. False where no word has
+    /// the token.
+    /// Rule: Forth-83 Standard, VOCABULARY.
     pub fn is_vocabulary(&self, token: Token) -> bool
         ensures { (x : Language) → Stands self.now x → result ≡ is_vocabulary (entry x.words token) }
     {
@@ -114,7 +125,9 @@ impl Lexicon {
         }
     }
 
-    /// The data address of a word that `CREATE` or `VARIABLE` made.
+    /// The data address of a word that `CREATE` or `VARIABLE` made. None for any other, and where no word has the
+    /// token.
+    /// Rule: Forth-83 Standard, >BODY.
     pub fn data_address(&self, token: Token) -> Option<u16>
         ensures { (x : Language) → Stands self.now x → result ≡ data_address (entry x.words token) }
     {
@@ -125,6 +138,7 @@ impl Lexicon {
     }
 
     /// Whether a definition is open.
+    /// Rule: LANGUAGE, Definitions and structures.
     #[inline]
     pub fn is_open(&self) -> bool
         ensures { (x : Language) → Stands self.now x → result ≡ is_some x.definition }
@@ -132,7 +146,8 @@ impl Lexicon {
         self.compiler.is_open()
     }
 
-    /// `HERE`
+    /// `HERE`, the address of the next free byte for data: 1,280 to 60,928.
+    /// Rule: Forth-83 Standard, HERE; LANGUAGE, Memory.
     #[inline]
     pub fn here(&self) -> u16
         ensures here { (x : Language) → Stands self.now x → result ≡ x.here }
@@ -141,8 +156,10 @@ impl Lexicon {
         self.here
     }
 
-    /// Whether a word of this name may be added: no definition is open, the name has 1 to 31 bytes, and there is room. So
-    /// a caller can refuse it for a reason of its own before it is added.
+    /// Whether a word of this name may be added. So a caller can refuse it for a reason of its own before it is added.
+    /// `DefinitionOpen` where a definition is open, then `Name` where the name has no byte or more than 31, then
+    /// `DictionaryFull` where there are 4,096 words.
+    /// Rule: LANGUAGE, Limits; Forth-83 Standard, CREATE.
     pub fn check_new(&self, name: &[u8]) -> Result<(), Refusal>
         requires { IsSound self.now }
         ensures fits { OnOk result (MayBeAdded self.now name.now) }
@@ -159,6 +176,7 @@ impl Lexicon {
     }
 
     /// Sets `HERE`, to 1,280 or more and 60,928 or less.
+    /// Rule: LANGUAGE, Memory; Forth-83 Standard, ALLOT.
     pub fn set_here(&mut self, address: u16)
         requires { IsHere address }
         ensures { (x : Language) → Stands self.old x → Becomes self.old self.new x (record x { here = address }) }
@@ -167,6 +185,7 @@ impl Lexicon {
     }
 
     /// Makes a vocabulary, by the token of its word, the first of the search.
+    /// Rule: Forth-83 Standard, VOCABULARY.
     pub fn set_first(&mut self, vocabulary: Token)
         requires { (x : Language) × (Stands self.old x × IsWord x vocabulary) }
         ensures { (x : Language) → Stands self.old x → Becomes self.old self.new x (record x { first = vocabulary }) }
@@ -175,6 +194,7 @@ impl Lexicon {
     }
 
     /// Makes `FORTH` the first vocabulary of the search.
+    /// Rule: Forth-83 Standard, FORTH.
     pub fn set_first_to_forth(&mut self)
         ensures { (x : Language) → Stands self.old x → Becomes self.old self.new x (record x { first = forth_token }) }
     {
@@ -182,13 +202,15 @@ impl Lexicon {
     }
 
     /// `DEFINITIONS`: new words go to the first vocabulary of the search.
+    /// Rule: Forth-83 Standard, DEFINITIONS.
     pub fn set_current_to_first(&mut self)
         ensures { (x : Language) → Stands self.old x → Becomes self.old self.new x (record x { current = x.first }) }
     {
         self.dictionary.set_current(self.dictionary.context());
     }
 
-    /// `CREATE`: a word with a data field at `HERE`.
+    /// `CREATE`: adds a word with a data field at `HERE`. Refused as any new word.
+    /// Rule: Forth-83 Standard, CREATE.
     pub fn create(&mut self, name: &[u8]) -> Result<(), Refusal>
         requires { IsSound self.old }
         ensures created { OnOk result (Goes self.old self.new (λ x. adding_word name.now (Created x.here None) x)) }
@@ -199,7 +221,8 @@ impl Lexicon {
         self.add(name, Kind::Created(here, None))
     }
 
-    /// `CONSTANT`: a word that leaves a cell.
+    /// `CONSTANT`: adds a word that leaves a cell. Refused as any new word.
+    /// Rule: Forth-83 Standard, CONSTANT.
     pub fn add_constant(&mut self, name: &[u8], cell: u16) -> Result<(), Refusal>
         requires { IsSound self.old }
         ensures created { OnOk result (Goes self.old self.new (λ x. adding_word name.now (Constant cell) x)) }
@@ -208,7 +231,8 @@ impl Lexicon {
         self.add(name, Kind::Constant(cell))
     }
 
-    /// `VOCABULARY`
+    /// `VOCABULARY`: adds a word that makes itself the first vocabulary. Refused as any new word.
+    /// Rule: Forth-83 Standard, VOCABULARY.
     pub fn add_vocabulary(&mut self, name: &[u8]) -> Result<(), Refusal>
         requires { IsSound self.old }
         ensures created { OnOk result (Goes self.old self.new (λ x. adding_word name.now Vocabulary x)) }
@@ -219,6 +243,7 @@ impl Lexicon {
 
     /// `IMMEDIATE`: the text interpreter runs the most recent word even while it compiles. `DefinitionOpen` where a
     /// definition is open, then `Protected` for a system word.
+    /// Rule: Forth-83 Standard, IMMEDIATE.
     pub fn set_immediate(&mut self) -> Result<(), Refusal>
         requires { IsSound self.old }
         ensures marked { OnOk result (Goes self.old self.new marking) }
@@ -234,8 +259,9 @@ impl Lexicon {
         }
     }
 
-    /// Gives the most recent word the part at a place, as `DOES>` does when it runs. `DefinitionOpen` where a definition
-    /// is open, then `Token` where that word has no data field.
+    /// Gives the most recent word the part at a place, as `DOES>` does when it runs. `DefinitionOpen` where a
+    /// definition is open, then `Token` where that word wasn't made by `CREATE` or `VARIABLE`.
+    /// Rule: Forth-83 Standard, DOES>.
     pub fn give_part(&mut self, place: u16) -> Result<(), Refusal>
         requires { IsSound self.old }
         ensures given { OnOk result (GivesPart self.old self.new place) }
@@ -252,8 +278,9 @@ impl Lexicon {
     }
 
     /// `FORGET`: the word and all newer ones go, and `HERE` goes back to where the word began. `DefinitionOpen` where a
-    /// definition is open, then `Protected` for a system word, or where the compilation vocabulary or a word whose body runs
-    /// would go. So what is left to do stands.
+    /// definition is open, then `Protected` for a system word, or where the compilation vocabulary or a word whose body
+    /// runs would go. So what is left to do stands.
+    /// Rule: LANGUAGE, Dictionary and search; Forth-83 Standard, FORGET.
     pub fn forget(
         &mut self,
         token: Token,

@@ -1,4 +1,5 @@
 //! Laws over the definitions alone. The functions do nothing; a caller's proof cites their clauses.
+//! Rule: SEMANTICS, Laws.
 
 ghost use Rattle.lexicon.specs.Laws.{NothingIsLeft, WordsEnter, LoadsEnter, LoadsLeave, SystemWordsAreOutside};
 

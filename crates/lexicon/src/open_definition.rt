@@ -1,4 +1,5 @@
 //! The definition that is open, and what is added to it.
+//! Rule: LANGUAGE, Definitions and structures.
 ghost use Rattle.std.specs.Prelude.{◌≤◌, ◌<◌, IfErr, OnOk, length};
 ghost use Rattle.cell_machine.specs.Layout.{most_tokens};
 ghost use Rattle.compiler.specs.Definition.{add_literal, add_text, add_word};
@@ -15,7 +16,9 @@ use dictionary::Kind;
 use system_words::words::Structure;
 
 impl Lexicon {
-    /// `:` begins a definition of this name, and makes the compilation vocabulary the first one.
+    /// `:` begins a definition of this name, and makes the compilation vocabulary the first one. Refused as any new
+    /// word, though `;` alone adds it.
+    /// Rule: Forth-83 Standard, :.
     pub fn begin(&mut self, name: &[u8]) -> Result<(), Refusal>
         requires { IsSound self.old }
         ensures begun { OnOk result (Goes self.old self.new (beginning name.now)) }
@@ -34,7 +37,9 @@ impl Lexicon {
         }
     }
 
-    /// `;` ends the definition, and adds its word.
+    /// `;` ends the definition with 1 cell, and adds its word. `NoDefinition` where none is open, then `Unbalanced`
+    /// where a structure is open or a mark of `COMPILE` waits for its word, then `CodeFull` where no cell is left.
+    /// Rule: Forth-83 Standard, ;.
     pub fn finish(&mut self) -> Result<(), CompileRefusal>
         requires { IsSound self.old }
         ensures ended { OnOk result (Goes self.old self.new ending) }
@@ -52,14 +57,17 @@ impl Lexicon {
         }
     }
 
-    /// The open definition is dropped, if there is one.
+    /// Drops the open definition, if there is one.
+    /// Rule: LANGUAGE, Lines and replies.
     pub fn abandon(&mut self)
         ensures { (x : Language) → Stands self.old x → Becomes self.old self.new x (dropped x) }
     {
         self.compiler.abandon();
     }
 
-    /// Adds a literal to the open definition.
+    /// Adds a literal, which takes 2 cells, to the open definition. Refused as any addition: `Unbalanced` where a mark
+    /// of `COMPILE` waits for its word.
+    /// Rule: Forth-83 Standard, LITERAL.
     pub fn literal(&mut self, cell: u16) -> Result<(), CompileRefusal>
         requires { IsSound self.old }
         ensures added { OnOk result (Goes self.old self.new (changing (λ used. add_literal used cell))) }
@@ -69,8 +77,10 @@ impl Lexicon {
         self.compiler.literal(&mut self.code, cell)
     }
 
-    /// Adds a word, with a token of 1 to 4,096, to the open definition, or after `COMPILE` one that the body adds when it
-    /// runs.
+    /// Adds a word, with a token of 1 to 4,096, which takes 1 cell, to the open definition, or after `COMPILE` one that
+    /// the body adds when it runs. Refused as any addition: `Unbalanced` for an `EXIT` within a counted loop, but not
+    /// after `COMPILE`.
+    /// Rule: LANGUAGE, Definitions and structures; Forth-83 Standard, COMPILE.
     pub fn compile(&mut self, token: Token) -> Result<(), CompileRefusal>
         requires sound { IsSound self.old }
         requires from { 0 < token }
@@ -81,7 +91,9 @@ impl Lexicon {
         self.compiler.call(&mut self.code, token)
     }
 
-    /// Adds a text of at most 1,024 bytes to the open definition.
+    /// Adds a text of at most 1,024 bytes to the open definition. Refused as any addition: `Unbalanced` where a mark of
+    /// `COMPILE` waits for its word.
+    /// Rule: Forth-83 Standard, ."; Forth-83 Standard, ABORT".
     pub fn add_text(&mut self, kind: TextKind, bytes: &[u8]) -> Result<(), CompileRefusal>
         requires sound { IsSound self.old }
         requires most { length bytes.now ≤ 1024 }
@@ -92,7 +104,9 @@ impl Lexicon {
         self.compiler.text(&mut self.code, kind, bytes)
     }
 
-    /// Begins, goes on with or ends a structure of the open definition.
+    /// Begins, goes on with or ends a structure of the open definition. Refused as any addition: `Unbalanced` where a
+    /// mark of `COMPILE` waits for its word, or the innermost structure isn't one that the word goes on with or ends.
+    /// `CodeFull` is also the 257th one.
     pub fn add_structure(&mut self, structure: Structure) -> Result<(), CompileRefusal>
         requires { IsSound self.old }
         ensures added { OnOk result (Goes self.old self.new (changing (adding structure))) }

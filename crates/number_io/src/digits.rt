@@ -1,11 +1,12 @@
 //! Digits and their values, in any base from 2 to 72.
+//! Rule: LANGUAGE, Numbers; SEMANTICS, Numbers.
 ghost use Rattle.std.specs.Prelude.{◌≡◌, ◌+◌, ◌*◌, ◌<◌, ◌≤◌, ◌%◌, ◌^◌, length, IsTrue, IfSome};
 ghost use Rattle.std.specs.Option.{SomeIff};
 ghost use Rattle.std.specs.List.{list_all};
 ghost use Rattle.number_io.specs.Digits.{digit_char, digit, is_digit, digits_value, front_digits, converted};
 
-/// The value of a byte as a digit in the base, or None where it is none: `0` to `9` are 0 to 9, and the bytes from `A`
-/// on 10 to 71.
+/// The value of a byte as a digit in the base, 72 or less. None where it is no digit there: `0` to `9` are 0 to 9, and
+/// the bytes from `A` on 10 to 71.
 pub fn digit_value(c: u8, base: u16) -> Option<u8>
     requires { base ≤ 72 }
     ensures value { SomeIff result (IsTrue (is_digit base c)) (digit c) }
@@ -32,8 +33,9 @@ pub fn digit_char(d: u8) -> u8
     if d < 10 { b'0' + d } else { 55 + d }
 }
 
-/// Puts the digits at the front of a text after those of a double number, modulo 2^32, and counts them, as Forth-83's
-/// `CONVERT` does. The first byte that is no digit in the base ends them.
+/// Puts the digits at the front of a text, by a base from 2 to 72, after those of a double number, modulo 2^32, and
+/// counts them, as Forth-83's `CONVERT` does. The first byte that is no digit in the base ends them.
+/// Rule: Forth-83 Standard, CONVERT; SEMANTICS, Numbers.
 pub fn convert(d: u32, text: &[u8], base: u16) -> (u32, usize)
     requires low { 2 ≤ base }
     requires high { base ≤ 72 }

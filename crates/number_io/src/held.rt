@@ -9,8 +9,9 @@ use std::marker::Model;
 /// How many bytes are held at most, by this project's profile.
 pub const CAPACITY: usize = 66;
 
-/// What is held of a text that is built from its end, up to 66 bytes. Contracts see it as its bytes, in the order of the
-/// text.
+/// What is held of a text that is built from its end, up to 66 bytes. Contracts see it as its bytes, in the order of
+/// the text.
+/// Rule: LANGUAGE, All words, Numbers as text; LANGUAGE, Limits; SEMANTICS, Numbers.
 #[derive(Drop)]
 pub struct Held {
     bytes: [u8; CAPACITY],
@@ -28,7 +29,7 @@ impl Model for Held {
 }
 
 impl Held {
-    /// With nothing held.
+    /// A text of no bytes.
     pub fn new() -> Self
         ensures { result ≡ [] }
     {
@@ -39,6 +40,7 @@ impl Held {
     }
 
     /// Drops what is held, as Forth-83's `<#` does.
+    /// Rule: Forth-83 Standard, <#.
     pub fn begin(&mut self)
         ensures { self.new ≡ [] }
     {
@@ -46,6 +48,7 @@ impl Held {
     }
 
     /// Puts a byte before the others, as Forth-83's `HOLD` does. False, with nothing changed, where 66 are held.
+    /// Rule: Forth-83 Standard, HOLD; LANGUAGE, Limits.
     pub fn hold(&mut self, c: u8) -> bool
         ensures room { IsTrue result ↔ (length self.old < 66) }
         ensures after { self.new ≡ (if result then c ∷ self.old else self.old) }
@@ -59,8 +62,9 @@ impl Held {
         true
     }
 
-    /// Puts the last digit of a number before the others, as Forth-83's `#` does, and gives the number without it. None,
-    /// with nothing changed, where 66 bytes are held.
+    /// Puts the last digit of a number, by a base from 2 to 72, before the others, as Forth-83's `#` does, and gives
+    /// the number without it. None, with nothing changed, where 66 bytes are held.
+    /// Rule: Forth-83 Standard, #; SEMANTICS, Numbers.
     pub fn digit(&mut self, d: u32, base: u16) -> Option<u32>
         requires low { 2 ≤ base }
         requires high { base ≤ 72 }
@@ -79,8 +83,9 @@ impl Held {
         }
     }
 
-    /// Puts the digits of a number before the others, the last one first, as Forth-83's `#S` does. False where there is
-    /// no room for all; those that have room are then held.
+    /// Puts the digits of a number, by a base from 2 to 72, before the others, the last one first, as Forth-83's `#S`
+    /// does. False where there is no room for all; those that have room are then held.
+    /// Rule: Forth-83 Standard, #S; SEMANTICS, Numbers.
     pub fn digits(&mut self, d: u32, base: u16) -> bool
         requires low { 2 ≤ base }
         requires high { base ≤ 72 }
@@ -98,7 +103,8 @@ impl Held {
         self.digit(rest, base).is_some()
     }
 
-    /// The bytes that are held.
+    /// The bytes that are held, up to 66, in the order of the text, as Forth-83's `#>` gives them.
+    /// Rule: Forth-83 Standard, #>.
     pub fn finish(&self) -> &[u8]
         ensures value { result.now ≡ self.now }
         ensures fits { length result.now ≤ 66 }

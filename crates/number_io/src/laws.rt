@@ -1,4 +1,5 @@
 //! Laws of the definitions that the contracts cite. The functions do nothing; a caller's proof cites their clauses.
+//! Rule: SEMANTICS, Laws.
 ghost use Rattle.std.specs.Prelude.{◌≡◌, ◌≤◌, ℕ, List};
 ghost use Rattle.number_io.specs.Writing.{IsWritten, digits_of};
 ghost use Rattle.number_io.specs.Taking.{IsTaking, IsTextTaking, skipped, skip, from, word_of, text_of};

@@ -25,8 +25,10 @@ pub enum NumberFault {
     OutOfRange,
 }
 
-/// Reads a number: an optional `-`, at least one digit of the base, and an optional final `.` that makes it a double
-/// number (this project's profile). `OutOfRange` where the form is right but the number doesn't fit, else `NotANumber`.
+/// Reads a number by a base from 2 to 72: an optional `-`, at least one digit of the base, and an optional final `.`
+/// that makes it a double number (this project's profile). `OutOfRange` where the form is right but the number doesn't
+/// fit, else `NotANumber`.
+/// Rule: LANGUAGE, Numbers; SEMANTICS, Numbers.
 pub fn read_number(text: &[u8], base: u16) -> Result<Number, NumberFault>
     requires low { 2 ≤ base }
     requires high { base ≤ 72 }

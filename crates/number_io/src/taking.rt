@@ -1,9 +1,11 @@
 //! Words and texts taken from a text.
+//! Rule: LANGUAGE, The input stream, and how words are taken; SEMANTICS, Numbers.
 ghost use Rattle.std.specs.Prelude.{◌≡◌, ◌≤◌, ◌+◌, length, drop};
 ghost use Rattle.number_io.specs.Taking.{IsTaking, IsTextTaking, skipped, word_of, text_of, skip, from, after_word, after_text};
 
 /// The word before the next delimiter, without the delimiters in front of it, and how many bytes the taking goes over:
 /// up to the end of the word, and the delimiter after it where there is one.
+/// Rule: Forth-83 Standard, WORD; LANGUAGE, The input stream, and how words are taken.
 pub fn take_word(text: &[u8], delimiter: u8) -> (&[u8], usize)
     ensures word { result.0.now ≡ word_of delimiter text.now }
     ensures rest { drop result.1 text.now ≡ after_word delimiter text.now }

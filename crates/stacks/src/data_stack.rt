@@ -18,6 +18,7 @@ pub const CAPACITY: usize = 256;
 pub const PLACES: usize = CAPACITY + 1;
 
 /// A stack of up to 256 cells of 16 bits. Contracts see it as a list, the top first.
+/// Rule: LANGUAGE, Limits; SEMANTICS, Data space and stacks.
 #[derive(Drop)]
 pub struct DataStack {
     // all places are in use, so that a loan of them neither grows nor shrinks the vector
@@ -49,6 +50,7 @@ impl DataStack {
     }
 
     /// How many cells are on the stack, from 0 to 256.
+    /// Rule: Forth-83 Standard, DEPTH; LANGUAGE, Limits.
     #[inline]
     pub fn depth(&self) -> usize
         ensures value { result ≡ length self.now }
@@ -93,6 +95,7 @@ impl DataStack {
 
     /// The cell that lies `u` places below the top, as Forth-83's `PICK` counts: 0 is the top. `Empty` where there is
     /// none.
+    /// Rule: Forth-83 Standard, PICK.
     #[inline]
     pub fn pick(&self, u: usize) -> Result<u16, StackFault>
         ensures room { IsOk result ↔ (u < length self.now) }
@@ -108,6 +111,7 @@ impl DataStack {
 
     /// Moves the cell that lies `u` places below the top to the top, as Forth-83's `ROLL` does. `Empty` where there is
     /// none; the stack then is as it was.
+    /// Rule: Forth-83 Standard, ROLL.
     pub fn roll(&mut self, u: usize) -> Result<(), StackFault>
         ensures room { IsOk result ↔ (u < length self.old) }
         ensures ok { OnOk result (self.new ≡ rolled u self.old) }
@@ -132,6 +136,7 @@ impl DataStack {
     /// Lends all places to a loop that keeps the depth, or the depth and the top, in variables of its own. The bottom
     /// lies at place 1 and the top at place `depth`. Afterwards the stack has all 256 cells that the loop left, until
     /// `keep` says how many of them count.
+    /// Rule: DECISIONS, The leaf crates; SEMANTICS, From the definitions to the code.
     #[inline]
     pub fn lend(&mut self) -> &mut [u16]
         ensures* lends { sem 𝓛 (LendsPlaces self.entry result) }
@@ -142,7 +147,8 @@ impl DataStack {
         self.places.as_mut_slice()
     }
 
-    /// Keeps the lowest cells, `depth` of them or as many as there are.
+    /// Keeps the lowest cells: `depth` of them, or as many as there are where there are fewer.
+    /// Rule: DECISIONS, The leaf crates.
     #[inline]
     pub fn keep(&mut self, depth: usize)
         ensures after { self.new ≡ drop (length self.old - depth) self.old }
@@ -154,7 +160,9 @@ impl DataStack {
     }
 }
 
-/// Moves the cell that lies `u` places below the top to the top, in lent places that hold `depth` cells.
+/// Moves the cell that lies `u` places below the top to the top, in lent places that hold `depth` cells, of which it is
+/// one.
+/// Rule: Forth-83 Standard, ROLL; DECISIONS, The leaf crates.
 pub fn roll_in(places: &mut [u16], depth: usize, u: usize)
     requires within { depth < length places.old }
     requires there { u < depth }

@@ -1,4 +1,5 @@
 //! Laws of the definitions that the contracts cite. The functions do nothing; a caller's proof cites their clauses.
+//! Rule: SEMANTICS, Laws.
 ghost use Rattle.std.specs.Prelude.{◌≡◌, ◌+◌, ◌<◌, ◌≤◌, [], ◌∷◌, List, ℕ, length, slice_index, slice_set};
 ghost use Rattle.stacks.specs.Places.{stack_in};
 

@@ -14,10 +14,11 @@ pub const CAPACITY: usize = 256;
 const PLACES: usize = CAPACITY + 1;
 
 /// What is left to do, or kept for it.
+/// Rule: LANGUAGE, Limits; SEMANTICS, Data space and stacks.
 #[derive(Clone, Copy, Debug, PartialEq, Eq)]
 pub enum Entry {
-    /// A load, with the block number and the input position to go back to: two units. It is the first, so that the places of a new
-    /// stack are zeros, which are written where they shall lie.
+    /// A load, with the block number and the input position to go back to: two units. It is the first, so that the
+    /// places of a new stack are zeros, which are written where they shall lie.
     Load { block: u16, to_in: u16 },
     /// A call of a body, with the place to go on at: one unit. The place has 32 bits, so that an entry takes 8 bytes.
     Call(u32),
@@ -83,6 +84,7 @@ impl Entry {
 }
 
 /// A stack of entries that take up to 256 units in all. Contracts see it as a list, the top first.
+/// Rule: LANGUAGE, Running a body; LANGUAGE, Limits; SEMANTICS, Data space and stacks.
 #[derive(Drop)]
 pub struct ReturnStack {
     // an entry lies at the place of its last unit, so the place of the top is the number of all units
@@ -173,7 +175,8 @@ impl ReturnStack {
         Some(back)
     }
 
-    /// Whether the top is a call, and an entry that is no load lies below it: whether the end of that call goes on in a body.
+    /// Whether the top is a call, and an entry that is no load lies below it: whether the end of that call goes on in a
+    /// body.
     #[inline(always)]
     pub fn is_inner_call(&self) -> bool
         ensures { result ≡ is_inner_call self.now }
@@ -231,8 +234,8 @@ impl ReturnStack {
         self.places[self.units].set_index(index)
     }
 
-    /// Whether what runs lies below a limit: from this place outwards, where each call goes on in the body around it. The
-    /// place behind the last call belongs to no body.
+    /// Whether what runs lies below a limit: from this place outwards, where each call goes on in the body around it.
+    /// The place behind the last call belongs to no body.
     pub fn calls_below(&self, limit: usize, place: usize) -> bool
         ensures { result ≡ calls_below limit place self.now }
     {

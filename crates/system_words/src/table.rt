@@ -1,4 +1,5 @@
 //! The rows, in the order of the tokens.
+//! Rule: LANGUAGE, All words.
 
 ghost use Rattle.std.specs.Prelude.{◌≡◌, map, length};
 ghost use Rattle.system_words.specs.Rows.{row_of, rows, count};
@@ -157,7 +158,7 @@ pub type Row = (&'static [u8], Mark, Meaning);
 /// How many system words there are, which is the token of the last one.
 pub const COUNT: u16 = 132;
 
-/// All words, in the order of their tokens, which count from 1.
+/// All 132 words in the order of their tokens: the word of token t, which is 1 to 132, stands at place t - 1.
 #[inline]
 pub fn all() -> &'static [Row]
     ensures rows { map (λ row. row_of row.0.now row.1 row.2) result.now ≡ rows }

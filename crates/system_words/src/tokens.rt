@@ -1,11 +1,12 @@
 //! What the row of a token says.
+//! Rule: LANGUAGE, All words.
 ghost use Rattle.std.specs.Prelude.{◌≡◌, map};
 ghost use Rattle.system_words.specs.Rows.{row_of, at_token, mark_of, meaning_of};
 
 use crate::table::{Row, all};
 use crate::words::{Mark, Meaning};
 
-/// How the text interpreter may use the word of this token. None where no system word has it.
+/// How the text interpreter may use the word of this token. None where no system word has it: at 0, and above 132.
 #[inline]
 pub fn mark_of(token: u16) -> Option<Mark>
     ensures { result ≡ mark_of token }
@@ -16,7 +17,7 @@ pub fn mark_of(token: u16) -> Option<Mark>
     }
 }
 
-/// What the word of this token does. None where no system word has it.
+/// What the word of this token does. None where no system word has it: at 0, and above 132.
 #[inline]
 pub fn meaning_of(token: u16) -> Option<Meaning>
     ensures { result ≡ meaning_of token }

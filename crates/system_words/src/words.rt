@@ -1,4 +1,5 @@
 //! What the system words do: families, each of words that are about one thing and reach the same.
+//! Rule: LANGUAGE, All words.
 ghost use Rattle.std.specs.Prelude.{◌≡◌};
 ghost use Rattle.system_words.specs.Rows.{is_immediate, is_compile_only};
 
@@ -15,7 +16,7 @@ pub enum Mark {
 }
 
 impl Mark {
-    /// Whether the text interpreter runs the word even while a body is compiled.
+    /// Whether the text interpreter runs the word even while a body is compiled: the mark `I` of its row.
     pub fn is_immediate(self) -> bool
         ensures { result ≡ is_immediate self }
     {
@@ -25,7 +26,7 @@ impl Mark {
         }
     }
 
-    /// Whether the word makes sense only while a body is compiled.
+    /// Whether the word makes sense only while a body is compiled: the mark `C` of its row.
     pub fn is_compile_only(self) -> bool
         ensures { result ≡ is_compile_only self }
     {

@@ -3,7 +3,7 @@ use Rattle.block_words.specs.Words.{block}
 use Rattle.std.proofs.lemmas.Bool.{lt-ltb}
 use Rattle.block_words.proofs.Runs.{block_runs, block_closed, block_failed, refused_runs}
 use Rattle.block_words.proofs.Saves.{continues_then}
-use Rattle.stores.specs.Store.{closed_of, blocks_of, device_of}
+use Rattle.journal.specs.Store.{closed_of, blocks_of, device_of}
 use Rattle.block_words.proofs.Worn.{wears_by}
 use Rattle.block_words.proofs.assigning.fetch.Goals as goal
 

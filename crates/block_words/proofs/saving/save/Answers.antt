@@ -7,7 +7,7 @@ use Rattle.block_words.specs.Kept.{last_map}
 use Rattle.block_words.specs.declared.buffered_blocks.BlockFault.TheVariants.{Closed}
 use Rattle.block_words.proofs.Runs.{still_runs}
 use Rattle.block_words.proofs.Saves.{save_ok, save_uncommitted, save_unspilled, keeps_save, runs_open, saves_then, save_begins, save_reads, unspilled_wears, committed_wears, saved_wears, continues_then, some_pending, none_left, device_fault}
-use Rattle.stores.specs.Store.{device_of}
+use Rattle.journal.specs.Store.{device_of}
 use Rattle.block_words.proofs.saving.save.Goals as goal
 
 pub returns-in-Err-clause-runs : goal.returns-in-Err-clause-runs

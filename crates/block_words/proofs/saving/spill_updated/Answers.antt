@@ -4,7 +4,7 @@ use Rattle.std.specs.Prelude.{slice_index_or, ◌==◌, ◌||◌}
 use Rattle.block_buffers.specs.declared.buffers.Assigned.{Assigned}
 use Rattle.block_buffers.specs.Buffers.{updated_ones}
 use Rattle.journal.specs.Maps.{spilled}
-use Rattle.stores.specs.Store.{StandsFor, is_pending, device_of, blocks_of}
+use Rattle.journal.specs.Store.{StandsFor, is_pending, device_of, blocks_of}
 use Rattle.block_words.specs.Words.{all_spilled}
 use Rattle.block_words.specs.Rooms.{within}
 use Rattle.block_words.proofs.Lists.{within_at, within_filter, item_at, among_more}

@@ -1,7 +1,7 @@
 use Rattle.std.proofs.Common.{◌≡◌, ◌*◌, ℕ, false, take}
 use Rattle.std.specs.Prelude.{◌||◌}
 use Rattle.journal.specs.Maps.{Maps}
-use Rattle.stores.specs.Store.{StandsFor, Continues, DeviceWentWell, KeepsSaved, DeviceBegins, DeviceReads, is_pending, device_of, closed_of}
+use Rattle.journal.specs.Store.{StandsFor, Continues, DeviceWentWell, KeepsSaved, DeviceBegins, DeviceReads, is_pending, device_of, closed_of}
 use Rattle.block_words.specs.Uses.{is_among}
 use Rattle.block_words.specs.Words.{all_spilled}
 use Rattle.block_words.proofs.saving.spill_updated.Given as goal

@@ -8,7 +8,7 @@ use Rattle.block_words.specs.Uses.{blanked_if}
 use Rattle.block_words.specs.Rooms.{within}
 use Rattle.block_words.proofs.Lists.{within_after_touch, none_of}
 use Rattle.block_words.proofs.Asked.{asks_past}
-use Rattle.stores.specs.Store.{blocks_of}
+use Rattle.journal.specs.Store.{blocks_of}
 use Rattle.block_words.proofs.buffered_blocks.Blocks.buffer.Goals as goal
 
 pub invariant_of-self : goal.invariant_of-self

@@ -12,7 +12,7 @@ use Rattle.block_words.proofs.Lists.{none_past, none_of}
 use Rattle.block_words.proofs.Runs.{source_found, source_read, source_closed, source_failed, refused_runs, still_runs, keeps_store, keeps_saved}
 use Rattle.block_words.proofs.Asked.{asks_past}
 use Rattle.block_words.proofs.Worn.{wears_by, wears_none}
-use Rattle.stores.specs.Store.{device_of, closed_of, blocks_of, text_of}
+use Rattle.journal.specs.Store.{device_of, closed_of, blocks_of, text_of}
 use Rattle.block_words.proofs.buffered_blocks.Blocks.find_text.Goals as goal
 
 abbrev no_text : Result TextPlace BlockFault

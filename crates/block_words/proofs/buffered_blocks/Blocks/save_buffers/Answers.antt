@@ -4,7 +4,7 @@ use Rattle.block_words.specs.Words.{save_buffers, next_map}
 use Rattle.block_words.specs.Calls.{CallRuns, save_begun}
 use Rattle.block_words.specs.Rooms.{within}
 use Rattle.block_words.proofs.Lists.{within_unmarked}
-use Rattle.stores.specs.Store.{blocks_of}
+use Rattle.journal.specs.Store.{blocks_of}
 use Rattle.block_words.proofs.buffered_blocks.Blocks.save_buffers.Goals as goal
 
 pub returns-in-Ok-clause-runs : goal.returns-in-Ok-clause-runs

@@ -1,7 +1,7 @@
 use Rattle.std.proofs.Common.{◌≡◌, ℕ, List, Option, Some, None, Result, Ok, [], sym, ap, ◌∙◌, subst}
 use Rattle.std.specs.Prelude.{IfSome}
 use Rattle.sector_disk.specs.declared.device.SectorDevice.{Ghosts}
-use Rattle.stores.specs.declared.store.Store.{Store}
+use Rattle.journal.specs.declared.store.Store.{Store}
 use Rattle.data_space.specs.Space.{buffer_bytes}
 use Rattle.block_buffers.specs.Buffers.{slot_of}
 use Rattle.block_words.specs.declared.buffered_blocks.BlockFault.{BlockFault}

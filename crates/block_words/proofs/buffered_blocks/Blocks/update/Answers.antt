@@ -5,7 +5,7 @@ use Rattle.block_words.proofs.Runs.{still_runs}
 use Rattle.block_buffers.specs.Buffers.{Buffers}
 use Rattle.block_words.specs.Rooms.{within}
 use Rattle.block_words.proofs.Lists.{within_after_mark}
-use Rattle.stores.specs.Store.{blocks_of}
+use Rattle.journal.specs.Store.{blocks_of}
 use Rattle.block_words.proofs.buffered_blocks.Blocks.update.Goals as goal
 
 pub invariant_of-self : goal.invariant_of-self
