@@ -7,7 +7,7 @@ use Rattle.sector_disk.specs.declared.device.SectorDevice.{Ghosts}
 use Rattle.block_words.specs.Words.{Wear, Answer, Save}
 use Rattle.block_words.specs.Parts.{store_of}
 use Rattle.block_words.specs.declared.buffered_blocks.Blocks.{Blocks}
-use Rattle.stores.specs.Store.{device_of}
+use Rattle.journal.specs.Store.{device_of}
 use Rattle.stacks.specs.declared.return_stack.Entry.{Entry}
 use Rattle.stacks.specs.declared.return_stack.Entry.TheVariants.{Load as LoadOf}
 use Rattle.stacks.specs.Stacks.{units}

@@ -3,8 +3,8 @@ use Rattle.std.proofs.Common.{◌≡◌, ℕ, ◌+◌, Bool, true, false, List, 
 use Rattle.std.proofs.lemmas.List.{append-nil}
 use Rattle.sector_disk.specs.declared.device.SectorDevice.{Ghosts}
 use Rattle.journal.specs.Maps.{Maps}
-use Rattle.stores.specs.Store.{StandsFor, device_of}
-use Rattle.stores.specs.Suits.{suits}
+use Rattle.journal.specs.Store.{StandsFor, device_of}
+use Rattle.journal.specs.Suits.{suits}
 use Rattle.block_buffers.specs.Buffers.{Buffers}
 use Rattle.block_words.specs.declared.buffered_blocks.BlockFault.{BlockFault}
 use Rattle.block_words.specs.declared.buffered_blocks.BlockFault.TheVariants.{NoBlock, NoBuffer, Device, Closed, Memory}

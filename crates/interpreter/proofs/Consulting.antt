@@ -2,8 +2,8 @@
 use Rattle.std.proofs.Common.{◌≡◌, ℕ, ◌≤◌, true, false, IsTrue, List, [], Option, Result, Ok, Err, refl, sym, ap, subst, ◌∙◌, arith}
 use Rattle.sector_disk.specs.Disk.{Image, MayLeave}
 use Rattle.sector_disk.specs.declared.device.SectorDevice.{Ghosts}
-use Rattle.stores.specs.Store.{device_of}
-use Rattle.stores.specs.Suits.{suits}
+use Rattle.journal.specs.Store.{device_of}
+use Rattle.journal.specs.Suits.{suits}
 use Rattle.block_words.specs.declared.buffered_blocks.Blocks.{Blocks}
 use Rattle.block_words.specs.Words.{Wear, no_wear, Answer, Save}
 use Rattle.block_words.specs.Parts.{store_of}

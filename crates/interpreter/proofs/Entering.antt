@@ -19,7 +19,7 @@ use Rattle.dictionary.specs.System.{compile_only_token}
 use Rattle.interpreter.specs.Text.{may_execute}
 use Rattle.interpreter.specs.State.{World, Run, with_run}
 use Rattle.std.proofs.KnownBytes.{Appends-nil}
-use Rattle.stores.specs.Store.{device_of}
+use Rattle.journal.specs.Store.{device_of}
 use Rattle.block_words.specs.Parts.{store_of}
 use Rattle.block_words.specs.declared.buffered_blocks.Blocks.{Blocks}
 use Rattle.cell_machine.specs.Fault.{Faults}

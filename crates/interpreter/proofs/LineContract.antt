@@ -19,10 +19,9 @@ use Rattle.interpreter.specs.declared.forth.Forth.{Forth}
 use Rattle.interpreter.specs.Deeds.{Deed, then, before, after, mended, Fits}
 use Rattle.interpreter.specs.declared.place.Place.{Place}
 use Rattle.interpreter.specs.FaultNames.{fault_name}
-use Rattle.interpreter.specs.Law.{run_after, Grows}
+use Rattle.interpreter.specs.Law.{run_after, Grows, left}
 use Rattle.interpreter.specs.Lines as lines
 use Rattle.interpreter.specs.State as lines_state
-use Rattle.interpreter.specs.Law.{left}
 use Rattle.interpreter.specs.Lines.{line, line_if, with_line, text_of_line, Ended, at_rest, dropped, with_empty_stack, broken, replied, reply, after_fault, end_of_line, ended, place_in}
 use Rattle.interpreter.specs.Promise.{HasRisenBy}
 use Rattle.interpreter.specs.State.{World, Run, with_run, with_output}
@@ -33,8 +32,8 @@ use Rattle.interpreter.specs.Terminals.{terminal_call, print}
 use Rattle.interpreter.specs.Representation.{core, device, HasModel, RepresentsWorld}
 use Rattle.interpreter.specs.ServiceContract.{Comes, IsLike, Left, Broke, BreaksOff, Heard, KeepsAndWears, Lasts, Ran}
 use Rattle.block_words.specs.declared.buffered_blocks.Blocks.{Blocks}
-use Rattle.stores.specs.Store.{device_of}
-use Rattle.stores.specs.Suits.{suits}
+use Rattle.journal.specs.Store.{device_of}
+use Rattle.journal.specs.Suits.{suits}
 use Rattle.interpreter.specs.LineContract.{line_end, is_broken, heard_of, LineLeft, LineBroke, LineBreaksOff, LineComes, LineCame, RanLine, SameStackAndSpace, SameSpace}
 use Rattle.interpreter.proofs.Deeds.{printing, trying, after-then, mended-then}
 use Rattle.interpreter.proofs.Calls.{print-well, print-fails, heard_print, heard_unprinted}

@@ -26,7 +26,7 @@ use Rattle.interpreter.specs.ServiceContract.{Heard}
 use Rattle.interpreter.specs.Terminal.{Begins}
 use Rattle.interpreter.proofs.LineContract.{begins_then}
 use Rattle.interpreter.specs.LineContract.{line_end, heard_of, LineLeft, LineBroke, LineBreaksOff, LineComes, RanLine, IsSystem}
-use Rattle.stores.specs.Suits.{suits}
+use Rattle.journal.specs.Suits.{suits}
 
 or-none : (b : Bool) → (b || false) ≡ b
 or-none true = refl

@@ -19,8 +19,8 @@ use Rattle.interpreter.specs.Law.{left}
 use Rattle.interpreter.specs.State.{World, Run, with_run}
 use Rattle.cell_machine.specs.Fault.{Ending}
 use Rattle.block_words.specs.declared.buffered_blocks.Blocks.{Blocks}
-use Rattle.stores.specs.Store.{device_of}
-use Rattle.stores.specs.Suits.{suits}
+use Rattle.journal.specs.Store.{device_of}
+use Rattle.journal.specs.Suits.{suits}
 use Rattle.interpreter.specs.Promise.{HasRisenBy}
 use Rattle.interpreter.specs.Representation.{core, device, RepresentsWorld, Represents}
 use Rattle.interpreter.specs.ServiceContract.{Comes, Left, IsLike, Printed, KeepsAndWears, Lasts, WhereBroke, Ran, failed_calls}

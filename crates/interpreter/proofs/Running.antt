@@ -4,9 +4,9 @@ use Rattle.std.proofs.KnownBytes.{Consumes-nil, Appends-nil}
 use Rattle.sector_disk.specs.Disk.{Image, MayLeave}
 use Rattle.sector_disk.specs.declared.device.SectorDevice.{Ghosts}
 use Rattle.journal.specs.Maps.{Maps}
-use Rattle.stores.specs.declared.store.Store.{Store}
-use Rattle.stores.specs.Store.{StandsFor, device_of}
-use Rattle.stores.specs.Suits.{suits}
+use Rattle.journal.specs.declared.store.Store.{Store}
+use Rattle.journal.specs.Store.{StandsFor, device_of}
+use Rattle.journal.specs.Suits.{suits}
 use Rattle.block_words.proofs.Runs.{keeps_store}
 use Rattle.block_words.specs.Parts.{store_of}
 use Rattle.cell_machine.specs.Frames.{Core, Level}

@@ -2,7 +2,7 @@
 use Rattle.std.proofs.Common.{◌≡◌, ◌≤◌, ◌+◌, ◌*◌, ℕ, Bool, true, false, subst, sym, arith}
 use Rattle.sector_disk.specs.declared.device.SectorDevice.{Ghosts}
 use Rattle.recovery.specs.Label.{is_size}
-use Rattle.stores.specs.Costs.{save_syncs}
+use Rattle.journal.specs.Costs.{save_syncs}
 use Rattle.block_words.specs.Calls.{WearsAtMost, reads_of, writes_of}
 use Rattle.block_words.specs.Words.{Wear, no_wear, add_wear}
 use Rattle.interpreter.specs.Law.{IsWithin}

@@ -1,40 +1,61 @@
 -- The last word of a text.
-use Rattle.std.proofs.Common.{◌≡◌, ◌<◌, ◌-◌, ◌∙◌, ℕ, zero, suc, List, [], ◌∷◌, length, refl, ap, ap₂, sym, arith}
-use Rattle.number_io.specs.Taking.{word_of, after_word}
-use Rattle.interpreter.specs.Told.{or_else, last_taken, last_word}
+use Rattle.std.proofs.Common.{◌≡◌, ◌≢◌, ◌<◌, ◌-◌, ◌∙◌, ℕ, zero, suc, ◌==◌, if◌then◌else◌, true, false, List, length, refl, ap, sym, arith}
+use Rattle.std.proofs.lemmas.Bool.Decides.{nat_tests}
+use Rattle.std.specs.Prelude.{Bool, slice_index_or}
+use Rattle.interpreter.specs.Told.{word_end, word_start}
 
--- no word is left
-pub last_none : (k : ℕ) (text word : List ℕ) → word_of 32 text ≡ [] → last_taken k text word ≡ word
-unfolding last_taken
-last_none zero text word none = refl
-last_none (suc k) text word none = ap (λ taken. or_else taken word (last_taken k (after_word 32 text) (word_of 32 text))) none
+if_true : {A : Type 0} (b : Bool) (x y : A) → b ≡ true → (if b then x else y) ≡ x
+if_true true x y is = refl
+if_true false x y is = absurd (cc)
 
-or_later : (taken word later : List ℕ) → 0 < length taken → or_else taken word later ≡ later
-or_later [] word later some = absurd (omega (arith, some))
-or_later (b ∷ taken) word later some = refl
+if_false : {A : Type 0} (b : Bool) (x y : A) → b ≡ false → (if b then x else y) ≡ y
+if_false false x y is = refl
+if_false true x y is = absurd (cc)
 
--- a word is, and others may follow it
-pub last_some : (k : ℕ) (text word : List ℕ) → 0 < length (word_of 32 text)
-    → last_taken (suc k) text word ≡ last_taken k (after_word 32 text) (word_of 32 text)
-unfolding last_taken
-last_some k text word some = or_later (word_of 32 text) word (last_taken k (after_word 32 text) (word_of 32 text)) some
+blank_at : (text : List ℕ) (k n : ℕ) → n ≡ k → slice_index_or text n 0 ≡ 32 → (slice_index_or text k 0 == 32) ≡ true
+blank_at text k n same is =
+    let here : slice_index_or text k 0 ≡ 32 = ap (λ i. slice_index_or text i 0) (sym same) ∙ is in
+    grind (arith, nat_tests)
 
--- no more may be taken
-pub last_zero : (most : ℕ) (text word : List ℕ) → most ≡ 0 → last_taken most text word ≡ word
-unfolding last_taken
-last_zero zero text word none = refl
-last_zero (suc k) text word none = absurd (omega (arith, none))
+other_at : (text : List ℕ) (k n : ℕ) → n ≡ k → slice_index_or text n 0 ≢ 32 → (slice_index_or text k 0 == 32) ≡ false
+other_at text k n same is =
+    let here : slice_index_or text k 0 ≢ 32 = λ e. is (ap (λ i. slice_index_or text i 0) same ∙ e) in
+    grind (arith, nat_tests)
 
--- a word is taken, and then others may be
-pub last_next : (most : ℕ) (text word taken rest result : List ℕ) → 0 < most → taken ≡ word_of 32 text → rest ≡ after_word 32 text → 0 < length taken
-    → result ≡ last_taken (most - 1) rest taken → result ≡ last_taken most text word
-last_next zero text word taken rest result more is after some comes = absurd (omega (arith, more))
-last_next (suc k) text word taken rest result more is after some comes =
+pub end_none : (count : ℕ) (text : List ℕ) → count ≡ 0 → word_end count text ≡ 0
+unfolding word_end
+end_none zero text none = refl
+end_none (suc k) text none = absurd (omega (arith, none))
+
+pub end_blank : (count : ℕ) (text : List ℕ) → 0 < count → slice_index_or text (count - 1) 0 ≡ 32 → word_end count text ≡ word_end (count - 1) text
+unfolding word_end
+end_blank zero text some is = absurd (omega (arith, some))
+end_blank (suc k) text some is =
     let one : suc k - 1 ≡ k = omega arith in
-    let begun : 0 < length (word_of 32 text) = omega (arith, ap length is, some) in
-    comes ∙ ap (λ n. last_taken n rest taken) one ∙ ap₂ (λ l w. last_taken k l w) after is ∙ sym (last_some k text word begun)
+    if_true (slice_index_or text k 0 == 32) (word_end k text) (suc k) (blank_at text k (suc k - 1) one is) ∙ ap (λ n. word_end n text) (sym one)
 
--- all are taken
-pub last_whole : (text result : List ℕ) → result ≡ last_taken 1024 text [] → result ≡ last_word text
-unfolding last_word
-last_whole text result is = is
+pub end_here : (count : ℕ) (text : List ℕ) → 0 < count → slice_index_or text (count - 1) 0 ≢ 32 → word_end count text ≡ count
+unfolding word_end
+end_here zero text some is = absurd (omega (arith, some))
+end_here (suc k) text some is =
+    let one : suc k - 1 ≡ k = omega arith in
+    if_false (slice_index_or text k 0 == 32) (word_end k text) (suc k) (other_at text k (suc k - 1) one is)
+
+pub start_none : (end : ℕ) (text : List ℕ) → end ≡ 0 → word_start end text ≡ 0
+unfolding word_start
+start_none zero text none = refl
+start_none (suc k) text none = absurd (omega (arith, none))
+
+pub start_here : (end : ℕ) (text : List ℕ) → 0 < end → slice_index_or text (end - 1) 0 ≡ 32 → word_start end text ≡ end
+unfolding word_start
+start_here zero text some is = absurd (omega (arith, some))
+start_here (suc k) text some is =
+    let one : suc k - 1 ≡ k = omega arith in
+    if_true (slice_index_or text k 0 == 32) (suc k) (word_start k text) (blank_at text k (suc k - 1) one is)
+
+pub start_before : (end : ℕ) (text : List ℕ) → 0 < end → slice_index_or text (end - 1) 0 ≢ 32 → word_start end text ≡ word_start (end - 1) text
+unfolding word_start
+start_before zero text some is = absurd (omega (arith, some))
+start_before (suc k) text some is =
+    let one : suc k - 1 ≡ k = omega arith in
+    if_false (slice_index_or text k 0 == 32) (suc k) (word_start k text) (other_at text k (suc k - 1) one is) ∙ ap (λ n. word_start n text) (sym one)

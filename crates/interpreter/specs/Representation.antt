@@ -1,8 +1,8 @@
 -- Which state of the definitions a system represents: the world, and within a line what is left to do.
 use Rattle.std.specs.Prelude.{◌≡◌, List, IsTrue, Result, Ok, Err}
 use Rattle.sector_disk.specs.declared.device.SectorDevice.{Ghosts}
-use Rattle.stores.specs.Store.{StandsFor, device_of}
-use Rattle.stores.specs.Suits.{suits}
+use Rattle.journal.specs.Store.{StandsFor, device_of}
+use Rattle.journal.specs.Suits.{suits}
 use Rattle.block_words.specs.Parts.{store_of, buffers_of}
 use Rattle.cell_machine.specs.Frames.{Core, Level}
 use Rattle.interpreter.specs.State.{World}

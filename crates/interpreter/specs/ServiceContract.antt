@@ -22,7 +22,7 @@ use Rattle.interpreter.specs.Promise.{HasRisenBy, KeepsMaps}
 use Rattle.interpreter.specs.State.{World, Run, with_run}
 use Rattle.interpreter.specs.Representation.{core, device, HasModel, Represents, RepresentsAfter}
 use Rattle.interpreter.specs.Terminal.{Begins}
-use Rattle.stores.specs.Suits.{suits}
+use Rattle.journal.specs.Suits.{suits}
 
 -- ---- what comes of it
 

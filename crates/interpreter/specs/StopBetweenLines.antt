@@ -3,8 +3,8 @@ use Rattle.std.specs.Prelude.{◌≡◌, Bool, true, false, []}
 use Rattle.std.proofs.Common.{refl, sym, ◌∙◌}
 use Rattle.sector_disk.specs.Disk.{Image, MayLeave}
 use Rattle.sector_disk.specs.declared.device.SectorDevice.{Ghosts}
-use Rattle.stores.specs.Store.{StandsFor, device_of}
-use Rattle.stores.specs.declared.store.Store.{Store}
+use Rattle.journal.specs.Store.{StandsFor, device_of}
+use Rattle.journal.specs.declared.store.Store.{Store}
 use Rattle.block_words.specs.Calls.{CallLeaves}
 use Rattle.interpreter.specs.State.{Forth}
 use Rattle.interpreter.specs.Promise.{Keeps}

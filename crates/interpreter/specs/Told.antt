@@ -1,40 +1,94 @@
--- What is told beside the place of a fault: the word before it, and the loads that led there.
-use Rattle.std.specs.Prelude.{◌≡◌, ℕ, zero, suc, ◌==◌, if◌then◌else◌, List, [], ◌∷◌, take, Option, Some, None}
-use Rattle.number_io.specs.Taking.{word_of, after_word, text_of}
+-- What is told beside the place of a fault: the word before it, where that begins, and the loads that led there.
+use Rattle.std.specs.Prelude.{◌≡◌, ℕ, zero, suc, ◌-◌, ◌==◌, nat_lt, if◌then◌else◌, List, [], length, take, drop, min, slice_index_or, Option, Some, None}
+use Rattle.std.proofs.Common.{refl}
+use Rattle.sector_disk.specs.declared.device.SectorDevice.{Ghosts}
+use Rattle.journal.specs.Store.{is_text_of}
+use Rattle.journal.specs.Store.{kept_of}
+use Rattle.block_buffers.specs.Buffers.{slot_of}
+use Rattle.block_words.specs.declared.buffered_blocks.Blocks.{Blocks}
+use Rattle.block_words.specs.declared.buffered_blocks.TextPlace.{TextPlace}
+use Rattle.block_words.specs.Parts.{buffers_of, store_of}
+use Rattle.block_words.specs.Uses.{at_hand, text_at}
 use Rattle.interpreter.specs.declared.place.Place.{Place}
 use Rattle.interpreter.specs.State.{Forth}
 use Rattle.interpreter.specs.Taken.{line_of}
 
--- the word that was taken, and this one where there was none left
-abbrev pub or_else : (taken word later : List ℕ) → List ℕ
-or_else [] word later = word
-or_else (b ∷ taken) word later = later
+-- where the last word of a text's first bytes, so many, ends: behind the last of them that is no blank
+unfoldable pub word_end : ℕ → List ℕ → ℕ
+word_end zero text = 0
+word_end (suc k) text = if slice_index_or text k 0 == 32 then word_end k text else suc k
 
--- the last of the words that are taken from a text one after another, at most so many, and this one where there is none
-unfoldable pub last_taken : ℕ → (text word : List ℕ) → List ℕ
-last_taken zero text word = word
-last_taken (suc k) text word = or_else (word_of 32 text) word (last_taken k (after_word 32 text) (word_of 32 text))
+-- where a word begins that ends there: behind the last blank before
+unfoldable pub word_start : ℕ → List ℕ → ℕ
+word_start zero text = 0
+word_start (suc k) text = if slice_index_or text k 0 == 32 then suc k else word_start k text
 
--- The last word of a text. A text of at most 1024 bytes has no more than 512.
-unfoldable pub last_word : List ℕ → List ℕ
-last_word text = last_taken 1024 text []
+-- the last word of a text before a byte: where it ends, where it begins, and its bytes
+abbrev pub end_before : ℕ → List ℕ → ℕ
+end_before at text = word_end (min at (length text)) text
 
--- the last word of the line before the place
-abbrev pub word_in_line : Place → (space : List ℕ) → List ℕ
-word_in_line place space = last_word (take place.to_in (line_of space))
+abbrev pub start_before : ℕ → List ℕ → ℕ
+start_before at text = word_start (end_before at text) text
 
--- the word that is told: of a block what is kept of it
-abbrev pub word_told : Option Place → (space kept : List ℕ) → List ℕ
-word_told None space kept = []
-word_told (Some place) space kept = if place.block == 0 then word_in_line place space else text_of 32 kept
+abbrev pub word_before : ℕ → List ℕ → List ℕ
+word_before at text = take (end_before at text - start_before at text) (drop (start_before at text) text)
+
+-- its first byte, or where there is none the last byte before
+abbrev pub first_byte : ℕ → List ℕ → ℕ
+first_byte at text = if nat_lt (start_before at text) (end_before at text) then start_before at text else at - 1
+
+-- ---- in a text in which a place lies
+
+abbrev pub word_told : Option Place → List ℕ → List ℕ
+word_told None text = []
+word_told (Some place) text = word_before place.to_in text
+
+abbrev pub start_told : Option Place → List ℕ → Option Place
+start_told None text = None
+start_told (Some place) text = Some (record { block = place.block; to_in = first_byte place.to_in text })
 
 -- the loads that are told: those that are kept, where there is a place
 abbrev pub loads_told : Option Place → List Place → List Place
 loads_told None kept = []
 loads_told (Some place) kept = kept
 
+module _ {D : Type 0} {G : Ghosts D} where
+  abbrev pub text_found : Option TextPlace → Blocks D G → (space : List ℕ) → List ℕ
+  text_found None blocks space = []
+  text_found (Some at) blocks space = text_at at (store_of blocks) space
+
+  -- the text of a block where it is at hand, and else none
+  abbrev pub text_of_block : ℕ → Blocks D G → (space : List ℕ) → List ℕ
+  text_of_block block blocks space = text_found (at_hand (slot_of (buffers_of blocks) block) (is_text_of (kept_of (store_of blocks)) block)) blocks space
+
+  -- the text in which a place lies: the line, or a block's
+  abbrev pub text_around : Place → Blocks D G → (space : List ℕ) → List ℕ
+  text_around place blocks space = if place.block == 0 then line_of space else text_of_block place.block blocks space
+
+  abbrev pub text_told : Option Place → Blocks D G → (space : List ℕ) → List ℕ
+  text_told None blocks space = []
+  text_told (Some place) blocks space = text_around place blocks space
+
+-- ---- what a line's end promises of them
+
 -- The word is one that may be told beside the place: none without a place; in the line, as it stands in the text input
 -- buffer, its last word before the place.
 abbrev pub IsWordBefore : Option Place → Forth → List ℕ → Type 0
 IsWordBefore None state word = word ≡ []
-IsWordBefore (Some place) state word = place.block ≡ 0 → word ≡ word_in_line place state.core.space
+IsWordBefore (Some place) state word = place.block ≡ 0 → word ≡ word_before place.to_in (line_of state.core.space)
+
+-- The start is one that may be told: none without a place; in the line the first byte of that word.
+abbrev pub IsStartBefore : Option Place → Forth → Option Place → Type 0
+IsStartBefore None state start = start ≡ None
+IsStartBefore (Some place) state start = place.block ≡ 0
+    → start ≡ Some (record { block = 0; to_in = first_byte place.to_in (line_of state.core.space) })
+
+-- Word and start are read off one text, that in which the place lies: its last word before the place, in the same block.
+abbrev pub AreRead : Option Place → (start : Option Place) → (word : List ℕ) → Type 0
+AreRead None start word = (start ≡ None) × (word ≡ [])
+AreRead (Some place) start word =
+    (text : List ℕ) × (start ≡ Some (record { block = place.block; to_in = first_byte place.to_in text })) × (word ≡ word_before place.to_in text)
+
+pub are_read : (place : Option Place) (text : List ℕ) → AreRead place (start_told place text) (word_told place text)
+are_read None text = (refl, refl)
+are_read (Some place) text = (text, refl, refl)

@@ -1,4 +1,5 @@
 //! The return stack that a system holds.
+//! Rule: LANGUAGE, Limits.
 ghost use Rattle.std.specs.Prelude.{◌≡◌, [], IfOk};
 ghost use Rattle.std.specs.Borrow.{sem};
 ghost use Rattle.interpreter.specs.HeldReturns.{LendsStack};
@@ -8,8 +9,8 @@ use stacks::ReturnStack;
 use std::alloc::Global;
 use std::marker::Model;
 
-/// A return stack in the heap, so that a system that is moved doesn't carry it along. Contracts see it as the list of its entries,
-/// the top first.
+/// A return stack in the heap, so that a system that is moved doesn't carry it along. Contracts see it as the list of
+/// its entries, the top first.
 #[derive(Drop)]
 pub struct HeldReturns {
     stack: Box<ReturnStack>,
@@ -25,7 +26,7 @@ impl Model for HeldReturns {
 }
 
 impl HeldReturns {
-    /// An empty stack.
+    /// An empty stack. `NoMemory` where none was found for it.
     // It is built on the stack of this call, which so is one of its own.
     #[inline(never)]
     pub fn new(alloc: Global) -> Result<HeldReturns, NoMemory>

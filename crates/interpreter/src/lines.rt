@@ -79,7 +79,7 @@ impl<D: SectorDevice> Forth<D> {
         self.lexicon.abandon();
     }
 
-    /// The same, and the data stack is empty.
+    /// The line has ended, and the data stack is empty too.
     fn abandon(&mut self)
         ensures closes { (x : World) → RepresentsWorld self.old x → RepresentsWorld self.new (dropped x) }
         ensures same_core { (c : Core) → SameSpace c self.old → SameStackAndSpace (with_empty_stack (at_rest c)) self.new }
@@ -139,7 +139,7 @@ impl<D: SectorDevice> Forth<D> {
     }
 
     /// Where the stream stands.
-    fn here_in_stream(&self) -> Place
+    pub(crate) fn here_in_stream(&self) -> Place
         ensures { result ≡ place_in self.now.space }
     {
         Place {
@@ -287,7 +287,7 @@ impl<D: SectorDevice> Forth<D> {
             Ok(()) => self.finish(terminal),
             Err(Stop::Fault(fault)) => {
                 let place = self.here_in_stream();
-                take_loads(self.returns.lend(), &mut self.loads);
+                take_loads(self.returns.lend(), &self.starts, &mut self.loads);
                 self.fail(fault, Some(place), terminal)
             }
             Err(Stop::Quit) => self.quit(terminal),

@@ -1,4 +1,5 @@
 //! The memory of a system.
+//! Rule: LANGUAGE, Memory; LANGUAGE, Limits.
 ghost use Rattle.std.specs.Prelude.{IfOk};
 ghost use Rattle.interpreter.specs.Memory.{IsBlank};
 
@@ -11,8 +12,8 @@ use std::alloc::{AllocError, Global};
 /// There is not enough memory.
 pub type NoMemory = AllocError;
 
-/// All memory that a system takes before its first line: data space of zeros, the system words, a return stack, and a list of
-/// buffers. A system that is made of it takes no more but that of a block's buffer.
+/// All memory that a system takes before its first line: data space of zeros, the system words, a return stack, and a
+/// list of buffers. A system that is made of it takes no more but that of a block's buffer.
 #[derive(Drop)]
 pub struct Memory {
     pub(crate) space: DataSpace,
@@ -22,7 +23,8 @@ pub struct Memory {
 }
 
 impl Memory {
-    /// Takes it.
+    /// Takes all of it: 64 KB of data space, the words with their code, 256 units and a list of four buffers.
+    /// `NoMemory` where any is refused.
     pub fn new(alloc: Global) -> Result<Memory, NoMemory>
         ensures { IfOk result IsBlank }
     {

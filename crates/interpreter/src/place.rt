@@ -1,17 +1,16 @@
-//! Where the stream stands when a fault ends a line.
-ghost use Rattle.std.specs.Prelude.{◌≡◌, Some, take};
-ghost use Rattle.interpreter.specs.Taken.{line_of};
-ghost use Rattle.interpreter.specs.Told.{last_taken, last_word, word_told};
+//! Where the stream stands when a fault ends a line, and which word was taken before that.
+ghost use Rattle.std.specs.Prelude.{◌≡◌, ◌≤◌, length, min};
+ghost use Rattle.data_space.specs.Space.{cell_at};
+ghost use Rattle.interpreter.specs.Told.{end_before, first_byte, start_before, text_around, text_of_block, word_before, word_end, word_start};
 
 use crate::forth::Forth;
 use crate::services::looking::line_of;
 use arrayvec::ArrayVec;
-use data_space::DataSpace;
-use number_io::{take_text, take_word};
 use sector_disk::SectorDevice;
 use stacks::{Entry, ReturnStack};
 
-/// A place in the input stream: behind what was taken from it last, and behind the delimiter of that.
+/// A place in the input stream: a byte of a block, or of the line itself. Where a fault came it is the byte behind what
+/// was taken from the stream last, and behind the delimiter of that.
 #[derive(Clone, Copy, Debug, Default, PartialEq, Eq)]
 pub struct Place {
     /// The block that was taken from, as `BLK` held it: 0 for the line itself.
@@ -26,61 +25,121 @@ pub(crate) const MOST_LOADS: usize = 8;
 /// How many entries the return stack has at most.
 const MOST_ENTRIES: usize = 256;
 
-/// Keeps where the stream stood at each load on the return stack, the innermost first. All entries are taken off. No clause
-/// speaks of what is kept: it is there for people who look for a fault.
-pub(crate) fn take_loads(returns: &mut ReturnStack, loads: &mut ArrayVec<Place, MOST_LOADS>) {
+/// Keeps where each load on the return stack was asked for, the innermost first: in which block, and where the word
+/// began there, as `starts` has it from the outermost on. All entries are taken off. No clause speaks of what is kept:
+/// it is there for people who look for a fault.
+pub(crate) fn take_loads(
+    returns: &mut ReturnStack,
+    starts: &[u16; MOST_LOADS],
+    loads: &mut ArrayVec<Place, MOST_LOADS>,
+) {
     loads.clear();
     for _ in 0..MOST_ENTRIES {
         let Ok(entry) = returns.pop() else {
             return;
         };
-        if let Entry::Load { block, to_in } = entry {
+        if let Entry::Load { block, .. } = entry {
+            let to_in = starts.get(returns.loads()).copied().unwrap_or(0);
             let _ = loads.try_push(Place { block, to_in });
         }
     }
 }
 
-/// How many words are taken from a line at most: it has no more than half as many.
-const MOST_TAKEN: u16 = 1024;
-
-/// The last of the words that are taken from a text, or this one where there is none.
-fn last_taken<'a>(text: &'a [u8], word: &'a [u8], most: u16) -> &'a [u8]
-    ensures { result.now ≡ last_taken most text.now word.now }
+/// Where the last word of a text's first bytes, so many, ends.
+fn word_end(text: &[u8], count: usize) -> usize
+    requires { count ≤ length text.now }
+    ensures end { result ≡ word_end count text.now }
+    ensures within { result ≤ count }
 {
-    if most == 0 {
-        return word;
+    if count == 0 {
+        return 0;
     }
-    let (taken, over) = take_word(text, b' ');
-    if taken.is_empty() {
-        return word;
+    if text[count - 1] == b' ' {
+        return word_end(text, count - 1);
     }
-    last_taken(&text[over..], taken, most - 1)
+    count
 }
 
-/// The last word of a text.
-fn last_word(text: &[u8]) -> &[u8]
-    ensures { result.now ≡ last_word text.now }
+/// Where the word begins that ends there.
+fn word_start(text: &[u8], end: usize) -> usize
+    requires { end ≤ length text.now }
+    ensures start { result ≡ word_start end text.now }
+    ensures within { result ≤ end }
 {
-    last_taken(text, &[], MOST_TAKEN)
+    if end == 0 {
+        return 0;
+    }
+    if text[end - 1] == b' ' {
+        return end;
+    }
+    word_start(text, end - 1)
 }
 
-/// The last word of the line before this byte.
-fn word_in_line(space: &DataSpace, to_in: u16) -> &[u8]
-    ensures { result.now ≡ last_word (take to_in (line_of space.now)) }
+/// Where the last word of a text before a byte begins, and where it ends: the same, where there is none.
+fn bounds_before(text: &[u8], at: u16) -> (usize, usize)
+    ensures start { result.0 ≡ start_before at text.now }
+    ensures end { result.1 ≡ end_before at text.now }
+    ensures order { result.0 ≤ result.1 }
+    ensures within { result.1 ≤ length text.now }
 {
-    let line = line_of(space);
-    let end = usize::from(to_in).min(line.len());
-    last_word(&line[..end])
+    let end = word_end(text, usize::from(at).min(text.len()));
+    (word_start(text, end), end)
+}
+
+/// The first byte of that word, or where there is none the last byte before.
+fn first_byte(text: &[u8], at: u16) -> u16
+    requires { length text.now ≤ 1024 }
+    ensures { result ≡ first_byte at text.now }
+{
+    let (start, end) = bounds_before(text, at);
+    if start < end {
+        start as u16
+    } else {
+        at.saturating_sub(1)
+    }
 }
 
 impl<D: SectorDevice> Forth<D> {
-    /// The word before a place: of a block, what was taken last.
-    pub(crate) fn word_before(&self, place: Place) -> &[u8]
-        ensures { result.now ≡ word_told (Some place) self.now.space self.now.text }
+    /// The text of a block, where it is at hand without a call of the device, and else none.
+    fn text_of_block(&self, block: u16) -> &[u8]
+        ensures text { result.now ≡ text_of_block block self.now.blocks self.now.space }
+        ensures within { length result.now ≤ 1024 }
+    {
+        match self.blocks.text_at_hand(block) {
+            Some(at) => self.blocks.text(&self.space, at),
+            None => &[],
+        }
+    }
+
+    /// The text in which a place lies.
+    fn text_around(&self, place: Place) -> &[u8]
+        ensures text { result.now ≡ text_around place self.now.blocks self.now.space }
+        ensures within { length result.now ≤ 1024 }
     {
         if place.block == 0 {
-            return word_in_line(&self.space, place.to_in);
+            line_of(&self.space)
+        } else {
+            self.text_of_block(place.block)
         }
-        take_text(&self.text, b' ').0
+    }
+
+    /// The word before a place.
+    pub(crate) fn word_before(&self, place: Place) -> &[u8]
+        ensures { result.now ≡ word_before place.to_in (text_around place self.now.blocks self.now.space) }
+    {
+        let text = self.text_around(place);
+        let (start, end) = bounds_before(text, place.to_in);
+        &text[start..end]
+    }
+
+    /// Where that word begins, or where there is none the last byte before the place.
+    pub(crate) fn start_before(&self, place: Place) -> Place
+        ensures block { result.block ≡ place.block }
+        ensures byte { result.to_in ≡ first_byte place.to_in (text_around place self.now.blocks self.now.space) }
+    {
+        Place {
+            block: place.block,
+            to_in: first_byte(self.text_around(place), place.to_in),
+        }
     }
 }

@@ -5,7 +5,7 @@ use Rattle.block_words.specs.Words.{Save}
 use Rattle.interpreter.specs.State.{Forth}
 use Rattle.interpreter.specs.Lines.{Turn}
 use Rattle.sessions.specs.declared.run_fault.RunFault.{RunFault}
-use Rattle.sessions.specs.Sessions.{BreaksOff, CutShort, InReading, InLine, InFlushing}
+use Rattle.sessions.specs.Sessions.{BreaksOff, Completes, CutShort, InReading, InLine, InFlushing}
 use Rattle.sessions.specs.Streams.{left_of, bound}
 
 -- where the reader's bytes are not known, nothing is said of what it left
@@ -17,30 +17,33 @@ cut_unknown fault before bytes turns over printed made closing (InLine c) =
 cut_unknown fault before bytes turns over printed made closing (InFlushing c) =
     InFlushing (record { side = c.side; whole = inr tt; one = c.one; printed_all = c.printed_all; saved_all = c.saved_all; after = c.after })
 
-module _ {D : Type 0} (G : Ghosts D) (fault : RunFault) (opening closing : Forth) (written written' : Option (List ℕ)) (before after : D) (give : ℕ) (made : List Save) where
+module _ {D : Type 0} (G : Ghosts D) (fault : RunFault) (opening closing : Forth) (written written' : Option (List ℕ)) (before after : D) (give : ℕ) (made : List Save) (P : List Turn → Type 0) where
   abbrev Breaks : (left left' : Option (List ℕ)) → Type 0
-  Breaks left left' = BreaksOff G fault opening closing left left' written written' before after made
+  Breaks left left' = (cut : BreaksOff G fault opening closing left left' written written' before after made) × P cut.turns
 
   broken_unknown : Breaks None (Some []) → Breaks None None
-  broken_unknown b = record {
-    front = b.front;
-    turns = b.turns;
-    between = b.between;
-    answered = b.answered;
-    bytes = b.bytes;
-    last = b.last;
-    over = b.over;
-    session = b.session;
-    printed = b.printed;
-    begun = b.begun;
-    begins = b.begins;
-    saves = b.saves;
-    cut = cut_unknown fault b.between b.bytes b.last b.over b.printed b.begun closing b.cut;
-    read = tt;
-    output = b.output;
-    all_saves = b.all_saves;
-    told = b.told;
-  }
+  broken_unknown b = (
+    record {
+      front = b.0.front;
+      turns = b.0.turns;
+      between = b.0.between;
+      answered = b.0.answered;
+      bytes = b.0.bytes;
+      last = b.0.last;
+      over = b.0.over;
+      session = b.0.session;
+      printed = b.0.printed;
+      begun = b.0.begun;
+      begins = b.0.begins;
+      saves = b.0.saves;
+      cut = cut_unknown fault b.0.between b.0.bytes b.0.last b.0.over b.0.printed b.0.begun closing b.0.cut;
+      read = tt;
+      output = b.0.output;
+      all_saves = b.0.all_saves;
+      told = b.0.told;
+    },
+    b.1,
+  )
 
   -- no known byte is left behind the end of the input
   from_start : (start : Option (List ℕ)) (ended : Bool) (remaining : Option (List ℕ))
@@ -59,3 +62,41 @@ module _ {D : Type 0} (G : Ghosts D) (fault : RunFault) (opening closing : Forth
       let new_bound : between ≤ bound false start (2 ^ 64 - 1) =
       subst (λ e. between ≤ bound e start (2 ^ 64 - 1)) new (subst (λ m. between ≤ bound begun start m) all h) in
       from_start start ended remaining (omega (arith, new_bound, k)) (subst (λ e. Breaks (left_of e start) (left_of ended remaining)) new b)
+
+-- ---- the same of a run that came to its input's end
+
+module _ {D : Type 0} (G : Ghosts D) (opening closing : Forth) (written written' : Option (List ℕ)) (before after : D) (give : ℕ) (made : List Save) (P : List Turn → Type 0) where
+  abbrev Whole : (left left' : Option (List ℕ)) → Type 0
+  Whole left left' = (whole : Completes G opening closing left left' written written' before after made) × P whole.turns
+
+  whole_unknown : Whole None (Some []) → Whole None None
+  whole_unknown w = (
+    record {
+      input = w.0.input;
+      turns = w.0.turns;
+      session = w.0.session;
+      read = tt;
+      end = tt;
+      output = w.0.output;
+      saves = w.0.saves;
+      told = w.0.told;
+    },
+    w.1,
+  )
+
+  whole_from_start : (start : Option (List ℕ)) (ended : Bool) (remaining : Option (List ℕ))
+      → bound ended remaining give ≤ bound false start (2 ^ 64 - 1) → Whole start (left_of ended remaining) → Whole start remaining
+  whole_from_start start false remaining h w = w
+  whole_from_start start true (Some []) h w = w
+  whole_from_start None true (Some (x ∷ xs)) h w = absurd (omega (arith, h))
+  whole_from_start (Some bytes) true (Some (x ∷ xs)) h w = absurd (omega (arith, h))
+  whole_from_start (Some bytes) true None h w = absurd (omega (arith, h))
+  whole_from_start None true None h w = whole_unknown w
+
+  pub whole_left : (begun : Bool) (most between : ℕ) (start : Option (List ℕ)) (ended : Bool) (remaining : Option (List ℕ))
+      → begun ≡ false → most ≡ 2 ^ 64 - 1 → between ≤ bound begun start most → bound ended remaining give ≤ between
+      → Whole (left_of begun start) (left_of ended remaining) → Whole start remaining
+  whole_left begun most between start ended remaining new all h k w =
+      let new_bound : between ≤ bound false start (2 ^ 64 - 1) =
+      subst (λ e. between ≤ bound e start (2 ^ 64 - 1)) new (subst (λ m. between ≤ bound begun start m) all h) in
+      whole_from_start start ended remaining (omega (arith, new_bound, k)) (subst (λ e. Whole (left_of e start) (left_of ended remaining)) new w)

@@ -12,3 +12,4 @@ pub mod LeftOver
 pub mod Ended
 pub mod Held
 pub mod TraceLemmas
+pub mod Hearing

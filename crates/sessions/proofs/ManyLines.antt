@@ -30,16 +30,19 @@ pub record SoFar {D : Type 0} (G : Ghosts D) (opening now : Forth) (start left o
   pub goes_on : (rest : List ℕ) (more : List Turn) (closing : Forth) → (left ≡ Some [] → rest ≡ []) → Session now rest more closing
       → Session opening (taken ++ rest) (turns ++ more) closing
 
-pub so_far_none : {D : Type 0} (G : Ghosts D) (opening : Forth) (start output : Option (List ℕ)) (before : D) → SoFar G opening opening start start output output before before []
-so_far_none G opening start output before = record {
-  taken = [];
-  turns = [];
-  read = Consumes-nil start;
-  replies = Appends-nil output;
-  saves = refl;
-  told = refl;
-  goes_on = λ rest more closing follows session. session;
-}
+pub so_far_none : {D : Type 0} (G : Ghosts D) (opening : Forth) (start output : Option (List ℕ)) (before : D) → (so_far : SoFar G opening opening start start output output before before []) × (so_far.turns ≡ [])
+so_far_none G opening start output before = (
+  record {
+    taken = [];
+    turns = [];
+    read = Consumes-nil start;
+    replies = Appends-nil output;
+    saves = refl;
+    told = refl;
+    goes_on = λ rest more closing follows session. session;
+  },
+  refl,
+)
 
 module _ {D : Type 0} (G : Ghosts D) (opening now next : Forth) (start left left' output written written' : Option (List ℕ)) (before mid after : D) (made more : List Save)
     (so_far : SoFar G opening now start left output written before mid made) where
@@ -47,71 +50,81 @@ module _ {D : Type 0} (G : Ghosts D) (opening now next : Forth) (start left left
   none_taken : (bytes : List ℕ) → Consumes left left' bytes → left ≡ Some [] → (bytes ≡ []) × (left' ≡ Some [])
   none_taken bytes read none = Consumes-none left' bytes (rw (sym none) read)
 
-  pub so_far_turn : TurnDone G now next left left' written written' mid after more → SoFar G opening next start left' output written' before after (made ++ more)
-  so_far_turn done = record {
-    taken = so_far.taken ++ done.taken;
-    turns = so_far.turns ++ done.turn ∷ [];
-    read = Consumes-trans start left left' so_far.taken done.taken so_far.read done.read;
-    replies = subst (λ l. Appends output written' l) (ap (λ l. output_of so_far.turns ++ l) (sym (append-nil done.turn.reply)) ∙ sym (output_of-append so_far.turns (done.turn ∷ [])))
-        (Appends-trans output written written' (output_of so_far.turns) done.turn.reply so_far.replies done.reply);
-    saves = ap (λ l. l ++ more) so_far.saves ∙ ap (λ l. saves_of so_far.turns ++ l) (done.saves ∙ sym (append-nil done.turn.saves)) ∙ sym (saves_of-append so_far.turns (done.turn ∷ []));
-    told = told_then G so_far.turns (done.turn ∷ []) before mid after so_far.told (told_once G done.turn mid after done.told);
-    goes_on = λ rest turns closing follows session.
-        let none : left ≡ Some [] → done.taken ++ rest ≡ [] = λ e.
-        let ended = none_taken done.taken done.read e in
-        ap (λ l. l ++ rest) ended.0 ∙ follows ended.1 in
-        let whole : Session opening (so_far.taken ++ (done.taken ++ rest)) (so_far.turns ++ (done.turn ∷ turns)) closing =
-        so_far.goes_on (done.taken ++ rest) (done.turn ∷ turns) closing none (rest, next, done.first rest follows, session) in
-        subst (λ l. Session opening l ((so_far.turns ++ done.turn ∷ []) ++ turns) closing) (sym (append_assoc so_far.taken done.taken rest))
-        (subst (λ ts. Session opening (so_far.taken ++ (done.taken ++ rest)) ts closing) (sym (append_assoc so_far.turns (done.turn ∷ []) turns)) whole);
-  }
+  pub so_far_turn : (done : TurnDone G now next left left' written written' mid after more)
+      → (longer : SoFar G opening next start left' output written' before after (made ++ more)) × (longer.turns ≡ so_far.turns ++ done.turn ∷ [])
+  so_far_turn done = (
+    record {
+      taken = so_far.taken ++ done.taken;
+      turns = so_far.turns ++ done.turn ∷ [];
+      read = Consumes-trans start left left' so_far.taken done.taken so_far.read done.read;
+      replies = subst (λ l. Appends output written' l) (ap (λ l. output_of so_far.turns ++ l) (sym (append-nil done.turn.reply)) ∙ sym (output_of-append so_far.turns (done.turn ∷ [])))
+          (Appends-trans output written written' (output_of so_far.turns) done.turn.reply so_far.replies done.reply);
+      saves = ap (λ l. l ++ more) so_far.saves ∙ ap (λ l. saves_of so_far.turns ++ l) (done.saves ∙ sym (append-nil done.turn.saves)) ∙ sym (saves_of-append so_far.turns (done.turn ∷ []));
+      told = told_then G so_far.turns (done.turn ∷ []) before mid after so_far.told (told_once G done.turn mid after done.told);
+      goes_on = λ rest turns closing follows session.
+          let none : left ≡ Some [] → done.taken ++ rest ≡ [] = λ e.
+          let ended = none_taken done.taken done.read e in
+          ap (λ l. l ++ rest) ended.0 ∙ follows ended.1 in
+          let whole : Session opening (so_far.taken ++ (done.taken ++ rest)) (so_far.turns ++ (done.turn ∷ turns)) closing =
+          so_far.goes_on (done.taken ++ rest) (done.turn ∷ turns) closing none (rest, next, done.first rest follows, session) in
+          subst (λ l. Session opening l ((so_far.turns ++ done.turn ∷ []) ++ turns) closing) (sym (append_assoc so_far.taken done.taken rest))
+          (subst (λ ts. Session opening (so_far.taken ++ (done.taken ++ rest)) ts closing) (sym (append_assoc so_far.turns (done.turn ∷ []) turns)) whole);
+    },
+    refl,
+  )
 
-  pub so_far_cut : (fault : RunFault) → BreaksOff G fault now next left left' written written' mid after more
-      → BreaksOff G fault opening next start left' output written' before after (made ++ more)
+  pub so_far_cut : (fault : RunFault) (cut : BreaksOff G fault now next left left' written written' mid after more)
+      → (longer : BreaksOff G fault opening next start left' output written' before after (made ++ more)) × (longer.turns ≡ so_far.turns ++ cut.turns)
   so_far_cut fault cut =
-      let none : left ≡ Some [] → cut.front ++ cut.bytes ≡ [] = λ e. (none_taken (cut.front ++ cut.bytes) cut.read e).0 in
-      record {
-        front = so_far.taken ++ cut.front;
-        turns = so_far.turns ++ cut.turns;
-        between = cut.between;
-        answered = so_far.goes_on cut.front cut.turns cut.between (λ e. (empty-parts cut.front cut.bytes (none e)).0) cut.answered;
-        bytes = cut.bytes;
-        last = cut.last;
-        over = cut.over;
-        session =
-            let whole : Session opening (so_far.taken ++ (cut.front ++ cut.bytes)) (so_far.turns ++ (cut.turns ++ cut.last)) cut.over =
-            so_far.goes_on (cut.front ++ cut.bytes) (cut.turns ++ cut.last) cut.over none cut.session in
-            subst (λ l. Session opening l ((so_far.turns ++ cut.turns) ++ cut.last) cut.over) (sym (append_assoc so_far.taken cut.front cut.bytes))
-            (subst (λ ts. Session opening (so_far.taken ++ (cut.front ++ cut.bytes)) ts cut.over) (sym (append_assoc so_far.turns cut.turns cut.last)) whole);
-        printed = cut.printed;
-        begun = cut.begun;
-        begins = cut.begins;
-        saves = cut.saves;
-        cut = cut.cut;
-        read = subst (λ l. Consumes start left' l) (sym (append_assoc so_far.taken cut.front cut.bytes))
-            (Consumes-trans start left left' so_far.taken (cut.front ++ cut.bytes) so_far.read cut.read);
-        output = subst (λ l. Appends output written' l)
-            (sym (append_assoc (output_of so_far.turns) (output_of cut.turns) cut.printed) ∙ ap (λ l. l ++ cut.printed) (sym (output_of-append so_far.turns cut.turns)))
-            (Appends-trans output written written' (output_of so_far.turns) (output_of cut.turns ++ cut.printed) so_far.replies cut.output);
-        all_saves = ap (λ l. l ++ more) so_far.saves ∙ ap (λ l. saves_of so_far.turns ++ l) cut.all_saves
-            ∙ sym (append_assoc (saves_of so_far.turns) (saves_of cut.turns) cut.begun) ∙ ap (λ l. l ++ cut.begun) (sym (saves_of-append so_far.turns cut.turns));
-        told = subst (λ ts. Told G before ts after) (sym (append_assoc so_far.turns cut.turns cut.last))
-            (told_then G so_far.turns (cut.turns ++ cut.last) before mid after so_far.told cut.told);
-      }
+      let none : left ≡ Some [] → cut.front ++ cut.bytes ≡ [] = λ e. (none_taken (cut.front ++ cut.bytes) cut.read e).0 in (
+        record {
+          front = so_far.taken ++ cut.front;
+          turns = so_far.turns ++ cut.turns;
+          between = cut.between;
+          answered = so_far.goes_on cut.front cut.turns cut.between (λ e. (empty-parts cut.front cut.bytes (none e)).0) cut.answered;
+          bytes = cut.bytes;
+          last = cut.last;
+          over = cut.over;
+          session =
+              let whole : Session opening (so_far.taken ++ (cut.front ++ cut.bytes)) (so_far.turns ++ (cut.turns ++ cut.last)) cut.over =
+              so_far.goes_on (cut.front ++ cut.bytes) (cut.turns ++ cut.last) cut.over none cut.session in
+              subst (λ l. Session opening l ((so_far.turns ++ cut.turns) ++ cut.last) cut.over) (sym (append_assoc so_far.taken cut.front cut.bytes))
+              (subst (λ ts. Session opening (so_far.taken ++ (cut.front ++ cut.bytes)) ts cut.over) (sym (append_assoc so_far.turns cut.turns cut.last)) whole);
+          printed = cut.printed;
+          begun = cut.begun;
+          begins = cut.begins;
+          saves = cut.saves;
+          cut = cut.cut;
+          read = subst (λ l. Consumes start left' l) (sym (append_assoc so_far.taken cut.front cut.bytes))
+              (Consumes-trans start left left' so_far.taken (cut.front ++ cut.bytes) so_far.read cut.read);
+          output = subst (λ l. Appends output written' l)
+              (sym (append_assoc (output_of so_far.turns) (output_of cut.turns) cut.printed) ∙ ap (λ l. l ++ cut.printed) (sym (output_of-append so_far.turns cut.turns)))
+              (Appends-trans output written written' (output_of so_far.turns) (output_of cut.turns ++ cut.printed) so_far.replies cut.output);
+          all_saves = ap (λ l. l ++ more) so_far.saves ∙ ap (λ l. saves_of so_far.turns ++ l) cut.all_saves
+              ∙ sym (append_assoc (saves_of so_far.turns) (saves_of cut.turns) cut.begun) ∙ ap (λ l. l ++ cut.begun) (sym (saves_of-append so_far.turns cut.turns));
+          told = subst (λ ts. Told G before ts after) (sym (append_assoc so_far.turns cut.turns cut.last))
+              (told_then G so_far.turns (cut.turns ++ cut.last) before mid after so_far.told cut.told);
+        },
+        refl,
+      )
 
 pub so_far_end : {D : Type 0} (G : Ghosts D) (opening now : Forth) (start left left' output written written' : Option (List ℕ)) (before after : D) (made : List Save)
-    → SoFar G opening now start left output written before after made
-    → Consumes left left' [] → left' ≡ Some [] → written' ≡ written → Completes G opening now start left' output written' before after made
-so_far_end G opening now start left left' output written written' before after made so_far none end silent = record {
-  input = so_far.taken;
-  turns = so_far.turns;
-  session =
-      let whole : Session opening (so_far.taken ++ []) (so_far.turns ++ []) now = so_far.goes_on [] [] now (λ _. refl) (refl, refl) in
-      subst (λ l. Session opening l so_far.turns now) (append-nil so_far.taken)
-      (subst (λ ts. Session opening (so_far.taken ++ []) ts now) (append-nil so_far.turns) whole);
-  read = subst (λ l. Consumes start left' l) (append-nil so_far.taken) (Consumes-trans start left left' so_far.taken [] so_far.read none);
-  end = subst (λ l. IsAtEnd l) (sym end) refl;
-  output = subst (λ o. Appends output o (output_of so_far.turns)) (sym silent) so_far.replies;
-  saves = so_far.saves;
-  told = so_far.told;
-}
+    → (so_far : SoFar G opening now start left output written before after made)
+    → Consumes left left' [] → left' ≡ Some [] → written' ≡ written
+    → (whole : Completes G opening now start left' output written' before after made) × (whole.turns ≡ so_far.turns)
+so_far_end G opening now start left left' output written written' before after made so_far none end silent = (
+  record {
+    input = so_far.taken;
+    turns = so_far.turns;
+    session =
+        let whole : Session opening (so_far.taken ++ []) (so_far.turns ++ []) now = so_far.goes_on [] [] now (λ _. refl) (refl, refl) in
+        subst (λ l. Session opening l so_far.turns now) (append-nil so_far.taken)
+        (subst (λ ts. Session opening (so_far.taken ++ []) ts now) (append-nil so_far.turns) whole);
+    read = subst (λ l. Consumes start left' l) (append-nil so_far.taken) (Consumes-trans start left left' so_far.taken [] so_far.read none);
+    end = subst (λ l. IsAtEnd l) (sym end) refl;
+    output = subst (λ o. Appends output o (output_of so_far.turns)) (sym silent) so_far.replies;
+    saves = so_far.saves;
+    told = so_far.told;
+  },
+  refl,
+)

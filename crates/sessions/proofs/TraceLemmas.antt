@@ -1,7 +1,7 @@
 -- Traces: how many digits a number has, and what comes of a line's end.
 use Rattle.std.proofs.Common.{◌≡◌, ◌≤◌, ◌<◌, ◌^◌, ◌∙◌, ℕ, suc, List, [], ◌∷◌, ◌++◌, length, Option, Some, None, refl, ap, subst, append-nil, arith}
 use Rattle.std.proofs.lemmas.List.{length-map, take_all}
-use Rattle.std.specs.Prelude.{◌-◌, codes, drop, slice_index_or, take}
+use Rattle.std.specs.Prelude.{◌-◌, codes, drop, map, slice_index_or, take}
 use Rattle.std.specs.Io.KnownBytes.{Appends}
 use Rattle.number_io.specs.Digits.{digit_char}
 use Rattle.number_io.specs.Writing.{digits_of, number_text, held_of}
@@ -11,7 +11,7 @@ use Rattle.interpreter.specs.declared.place.Place.{Place}
 use Rattle.interpreter.specs.Lines.{LineEnd, Interpreting, Compiling, Quit, Io, Fails}
 use Rattle.interpreter.specs.Promise.{FaultIs}
 use Rattle.interpreter.specs.Stops.{fault_of}
-use Rattle.sessions.specs.Traces.{Writes, load_text, loads_text, trace_of, word_text}
+use Rattle.sessions.specs.Traces.{Writes, load_text, loads_text, shown, trace_of, word_text}
 
 pub short_number : (n : ℕ) → n < 2 ^ 32 → length (number_text 10 n) ≤ 32
 unfolding digits_of
@@ -43,7 +43,7 @@ writes_one n (Fails f) place word loads fault old new is h =
     let same : fault ≡ is.0 = (let e : Some fault ≡ Some is.0 = is.1 in cc) in
     subst (λ f. Appends old new (trace_of n f place word loads)) (ap fault_of same ∙ is.2) h
 
-pub word_told : (word : List ℕ) → 0 < length word → codes ", after " ++ take 31 word ≡ word_text word
+pub word_told : (word : List ℕ) → 0 < length word → codes ": " ++ map shown (take 31 word) ≡ word_text word
 word_told [] some = absurd (omega (arith, some))
 word_told (b ∷ word) some = refl
 

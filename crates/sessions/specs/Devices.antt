@@ -2,7 +2,7 @@
 use Rattle.std.specs.Prelude.{◌≡◌, ◌≤◌}
 use Rattle.sector_disk.specs.Moments.{Elapses}
 use Rattle.sector_disk.specs.declared.device.SectorDevice.{Ghosts}
-use Rattle.stores.specs.Suits.{suits}
+use Rattle.journal.specs.Suits.{suits}
 
 -- The new device is the old one later: the same model, time gone on, and no fewer failures.
 pub record Becomes {D : Type 0} (G : Ghosts D) (old new : D) : Type 0 where

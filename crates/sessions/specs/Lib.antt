@@ -7,3 +7,4 @@ pub mod Playing
 pub mod Streams
 pub mod Held
 pub mod Traces
+pub mod Heard

@@ -1,8 +1,8 @@
 -- A session over a store, from the store that is opened to the store that is given back.
 use Rattle.std.specs.Prelude.{ℕ, List, Option, Result, OnOk, IfErr}
 use Rattle.sector_disk.specs.declared.device.SectorDevice.{Ghosts}
-use Rattle.stores.specs.Store.{StandsFor, device_of}
-use Rattle.stores.specs.declared.store.Store.{Store}
+use Rattle.journal.specs.Store.{StandsFor, device_of}
+use Rattle.journal.specs.declared.store.Store.{Store}
 use Rattle.block_words.specs.Words.{Save}
 use Rattle.interpreter.specs.State.{Forth}
 use Rattle.interpreter.specs.Promise.{Keeps}

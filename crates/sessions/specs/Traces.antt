@@ -1,5 +1,5 @@
 -- What is told, beside the reply, of a line that a fault ended.
-use Rattle.std.specs.Prelude.{◌≡◌, ℕ, zero, suc, ◌-◌, ◌/◌, ◌%◌, ◌==◌, if◌then◌else◌, List, [], ◌∷◌, ◌++◌, take, codes, Option, Some, None}
+use Rattle.std.specs.Prelude.{◌≡◌, ℕ, zero, suc, ◌+◌, ◌/◌, ◌%◌, ◌==◌, ◌&&◌, nat_lt, if◌then◌else◌, List, [], ◌∷◌, ◌++◌, map, take, codes, Option, Some, None}
 use Rattle.std.specs.Io.KnownBytes.{Appends}
 use Rattle.number_io.specs.Writing.{number_text}
 use Rattle.cell_machine.specs.Fault.{Fault}
@@ -14,21 +14,21 @@ next_number n = if n == 4294967295 then n else suc n
 abbrev pub decimal : ℕ → List ℕ
 decimal n = number_text 10 n
 
--- where the last byte that was taken stands: in the line by its column, in a block by its line too, all from 0
+-- where a byte stands: in the line by its column, in a block by its line too, both counted from 1
 abbrev pub in_line : ℕ → List ℕ
-in_line at = codes "column " ++ decimal at
+in_line at = codes "column " ++ decimal (at + 1)
 
 abbrev pub in_block : (block at : ℕ) → List ℕ
-in_block block at = codes "block " ++ decimal block ++ codes " line " ++ decimal (at / 64) ++ codes " " ++ in_line (at % 64)
+in_block block at = codes "block " ++ decimal block ++ codes " line " ++ decimal (at / 64 + 1) ++ codes " " ++ in_line (at % 64)
 
 abbrev pub text_at : (block at : ℕ) → List ℕ
 text_at zero at = in_line at
 text_at (suc b) at = in_block (suc b) at
 
 abbrev pub place_text : Place → List ℕ
-place_text place = text_at place.block (place.to_in - 1)
+place_text place = text_at place.block place.to_in
 
--- and nothing, where nothing was taken
+-- and nothing, where there is no place
 abbrev pub at_place : Option Place → List ℕ
 at_place None = []
 at_place (Some place) = codes " at " ++ place_text place
@@ -37,10 +37,14 @@ at_place (Some place) = codes " at " ++ place_text place
 abbrev pub fault_told : ℕ → Fault → Option Place → List ℕ
 fault_told number fault place = codes "line " ++ decimal number ++ codes ": " ++ fault_name fault ++ at_place place
 
--- the word before the place, its first bytes, and nothing where there is none
+-- a point for what isn't printable ASCII
+abbrev pub shown : ℕ → ℕ
+shown b = if nat_lt 31 b && nat_lt b 127 then b else 46
+
+-- the word that begins there, its first bytes, and nothing where there is none
 abbrev pub word_text : List ℕ → List ℕ
 word_text [] = []
-word_text (b ∷ word) = codes ", after " ++ take 31 (b ∷ word)
+word_text (b ∷ word) = codes ": " ++ map shown (take 31 (b ∷ word))
 
 -- the loads that led there, as they are given
 abbrev pub load_text : Place → List ℕ

@@ -1,4 +1,5 @@
 //! A reader that is asked for its bytes one by one.
+//! Rule: LANGUAGE, Lines and replies.
 ghost use Rattle.std.specs.Prelude.{◌≡◌, ◌++◌, ◌<◌, ◌≤◌, [], length, take, OnOk, OnErr};
 ghost use Rattle.std.specs.Io.KnownBytes.{Keeps, IsAtEnd, prepend_known};
 ghost use Rattle.sessions.specs.Held.{held};
@@ -8,8 +9,8 @@ use std::io::{Read, Result};
 /// How many bytes the reader below is asked for at once.
 const PIECE: usize = 8192;
 
-/// Gives the bytes of the reader below, one in a call, so that a byte costs little. The reader below is asked for as many as
-/// there is room for, and only where no byte is held: so what it gave is used up before it is waited for.
+/// Gives the bytes of the reader below, one in a call, so that a byte costs little. The reader below is asked for as
+/// many as there is room for, and only where no byte is held: so what it gave is used up before it is waited for.
 #[derive(Drop)]
 pub struct ByteReader<R> {
     reader: R,
@@ -21,7 +22,7 @@ pub struct ByteReader<R> {
 }
 
 impl<R: Read> ByteReader<R> {
-    /// Holds no byte yet.
+    /// A reader that holds no byte yet. It has room for 8,192.
     pub fn new(reader: R) -> Self
         ensures reader { result.reader ≡ reader }
         ensures empty { held result.bytes result.next result.end ≡ [] }

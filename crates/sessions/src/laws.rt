@@ -1,4 +1,5 @@
 //! Laws over the definitions alone.
+//! Rule: SEMANTICS, Laws.
 
 ghost use Rattle.sessions.specs.Playing.{PlayedIsSession};
 ghost use Rattle.sessions.specs.Sessions.{HasOneSession, ToldInAll};

@@ -1,10 +1,14 @@
 //! A session over a store, between two streams.
-ghost use Rattle.std.specs.Prelude.{◌<◌};
+//! Rule: SEMANTICS, Sessions; LANGUAGE, Lines and replies.
+ghost use Rattle.std.specs.Prelude.{◌<◌, List, IfErr, OnOk};
 ghost use Rattle.journal.specs.Maps.{Maps};
-ghost use Rattle.stores.specs.Store.{StandsFor, device_of};
+ghost use Rattle.journal.specs.Store.{StandsFor, device_of};
+ghost use Rattle.block_words.specs.Words.{Save};
 ghost use Rattle.interpreter.specs.Lines.{new_forth};
 ghost use Rattle.interpreter.specs.Memory.{IsBlank};
+ghost use Rattle.interpreter.specs.State.{Forth as Abstract};
 ghost use Rattle.sessions.specs.Devices.{Becomes};
+ghost use Rattle.sessions.specs.Heard.{BreaksOffHeard, CompletesHeard};
 ghost use Rattle.sessions.specs.OverStore.{RunsOver};
 
 use super::run_fault::RunFault;
@@ -16,8 +20,9 @@ use sector_disk::SectorDevice;
 use std::io::{Read, Write};
 use stores::Store;
 
-/// Begins a new system in this memory over a store, with at most `steps` steps a line, 1 or more; runs the lines of the input,
-/// and gives the store back beside how the run ended. What was changed and not saved is given up.
+/// Begins a new system in this memory over a store, with at most `steps` steps a line, 1 or more; runs the lines of the
+/// input, and gives the store back beside how the run ended: `Read` where the input can't be read, `Write` where the
+/// output can't be written. What was changed and not saved is given up.
 pub fn run_over<D: SectorDevice + Drop, F: Lines<D>, R: Read, W: Write>(
     memory: Memory,
     store: Store<D>,
@@ -36,7 +41,10 @@ pub fn run_over<D: SectorDevice + Drop, F: Lines<D>, R: Read, W: Write>(
     run_over_traced::<D, F, R, W, Untraced>(memory, store, steps, reader, writer, &mut Untraced)
 }
 
-/// The same, where a tracer is told of each line once its reply is written.
+/// Runs the lines of an input over a store, as `run_over`, where a tracer is told of each line once its reply is
+/// written, as by `run_traced`. It ends in `Read` where the input can't be read, in `Write` where the output can't be
+/// written.
+/// Rule: SEMANTICS, Sessions; MANUAL, Where a fault came.
 pub fn run_over_traced<D: SectorDevice + Drop, F: Lines<D>, R: Read, W: Write, T: Tracer>(
     memory: Memory,
     store: Store<D>,
@@ -50,6 +58,13 @@ pub fn run_over_traced<D: SectorDevice + Drop, F: Lines<D>, R: Read, W: Write, T
     // From store to store: the session of a new system, of which a stop at any moment leaves the blocks of a save.
     ensures session { (m : Maps) → StandsFor store m → RunsOver D.SectorDevice (new_forth steps m) store result.0 result.1
         (R.remaining reader.old) (R.remaining reader.new) (W.contents writer.old) (W.contents writer.new) }
+    // The tracer was told of each line that was answered, once and in order.
+    ensures told { (m : Maps) → StandsFor store m → OnOk result.1 ((closing : Abstract) × (made : List Save)
+        × CompletesHeard T.hears D.SectorDevice (new_forth steps m) closing (R.remaining reader.old) (R.remaining reader.new)
+        (W.contents writer.old) (W.contents writer.new) (device_of store) (device_of result.0) made tracer.old tracer.new) }
+    ensures told_cut { (m : Maps) → StandsFor store m → IfErr result.1 (λ fault. (closing : Abstract) × (made : List Save)
+        × BreaksOffHeard T.hears D.SectorDevice fault (new_forth steps m) closing (R.remaining reader.old) (R.remaining reader.new)
+        (W.contents writer.old) (W.contents writer.new) (device_of store) (device_of result.0) made tracer.old tracer.new) }
     // Over any device: it is the same device, later.
     ensures goes { Becomes D.SectorDevice (device_of store) (device_of result.0) }
 {

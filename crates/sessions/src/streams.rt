@@ -1,4 +1,5 @@
 //! A reader and a writer as a terminal.
+//! Rule: SEMANTICS, Sessions; LANGUAGE, Lines and replies.
 ghost use Rattle.std.specs.Prelude.{if◌then◌else◌, false, ◌^◌, ◌-◌, ◌≡◌, ◌<◌, ◌≤◌, [], ◌∷◌, IfOk, OnOk, OnErr, Some, None, OnSome};
 ghost use Rattle.std.specs.Bool.{OnTrue, OnFalse};
 ghost use Rattle.std.specs.Io.KnownBytes.{Keeps, Appends, Consumes, IsAtEnd};
@@ -10,7 +11,8 @@ use super::run_fault::RunFault;
 use interpreter::{IoFault, Terminal};
 use std::io::{ErrorKind, Read, Write};
 
-/// The next byte, or `None` at the end. A call that a signal interrupts is made again.
+/// The next byte, or `None` at the end. A call that a signal interrupts is made again; `IoFault` where one fails for
+/// another reason.
 pub fn read_byte<R: Read>(reader: &mut R) -> Result<Option<u8>, IoFault>
     ensures given { IfOk result (λ byte.
         Consumes (R.remaining reader.old) (R.remaining reader.new) (given_bytes byte)) }
@@ -29,8 +31,8 @@ pub fn read_byte<R: Read>(reader: &mut R) -> Result<Option<u8>, IoFault>
     Err(IoFault)
 }
 
-/// Writes all the bytes. A call that a signal interrupts is made again, and one that takes no byte
-/// has failed.
+/// Writes all the bytes. A call that a signal interrupts is made again; `IoFault` where one fails for another reason,
+/// or takes no byte. Then a beginning of them was written.
 pub fn write_bytes<W: Write>(writer: &mut W, bytes: &[u8]) -> Result<(), IoFault>
     ensures ok { OnOk result (Appends (W.contents writer.old) (W.contents writer.new) bytes.now) }
     ensures err { OnErr result
@@ -51,7 +53,8 @@ pub fn write_bytes<W: Write>(writer: &mut W, bytes: &[u8]) -> Result<(), IoFault
     Err(IoFault)
 }
 
-/// Passes on what the writer holds back. A call that a signal interrupts is made again.
+/// Passes on what the writer holds back. A call that a signal interrupts is made again; `IoFault` where one fails for
+/// another reason.
 pub fn flush<W: Write>(writer: &mut W) -> Result<(), IoFault>
     ensures { Keeps (W.contents writer.old) (W.contents writer.new) }
 {
@@ -137,7 +140,7 @@ impl<R: Read, W: Write> Terminal for Streams<'_, R, W> {
 }
 
 impl<'a, R: Read, W: Write> Streams<'a, R, W> {
-    /// Streams that may give 2^64 - 1 bytes.
+    /// Streams of which no call has failed, and which may give 2^64 - 1 bytes.
     pub fn new(reader: &'a mut R, writer: &'a mut W) -> Self
         ensures reader { result.reader ≡ reader.entry }
         ensures writer { result.writer ≡ writer.entry }
@@ -156,7 +159,7 @@ impl<'a, R: Read, W: Write> Streams<'a, R, W> {
         }
     }
 
-    /// Passes on what the writer holds back.
+    /// Passes on what the writer holds back. `IoFault` where it failed.
     pub fn flush(&mut self) -> Result<(), IoFault>
         ensures input { left_of self.new.ended (R.remaining self.new.reader.now)
             ≡ left_of self.old.ended (R.remaining self.old.reader.now) }

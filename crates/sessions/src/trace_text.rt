@@ -1,8 +1,8 @@
 //! The text of a trace.
-ghost use Rattle.std.specs.Prelude.{◌≡◌, ◌≤◌, ◌+◌, ◌*◌, ◌++◌, length};
+ghost use Rattle.std.specs.Prelude.{◌≡◌, ◌≤◌, ◌+◌, ◌*◌, ◌++◌, length, map};
 ghost use Rattle.arrayvec.specs.ArrayVec.{array_vec_len};
 ghost use Rattle.interpreter.specs.Stops.{fault_of};
-ghost use Rattle.sessions.specs.Traces.{at_place, decimal, fault_told, in_block, in_line, load_text, loads_text, place_text, trace_of, word_text};
+ghost use Rattle.sessions.specs.Traces.{at_place, decimal, fault_told, in_block, in_line, load_text, loads_text, place_text, shown, trace_of, word_text};
 
 use arrayvec::ArrayVec;
 use interpreter::{Fault, Place};
@@ -54,7 +54,7 @@ fn append_column(text: &mut Text, at: u16)
     ensures room { array_vec_len text.new ≤ array_vec_len text.old + 64 }
 {
     append(text, b"column ");
-    append_number(text, u32::from(at));
+    append_number(text, u32::from(at) + 1);
 }
 
 /// Where in a block a byte stands.
@@ -66,25 +66,24 @@ fn append_row(text: &mut Text, block: u16, at: u16)
     append(text, b"block ");
     append_number(text, u32::from(block));
     append(text, b" line ");
-    append_number(text, u32::from(at / ROW));
+    append_number(text, u32::from(at / ROW) + 1);
     append(text, b" ");
     append_column(text, at % ROW);
 }
 
-/// A place, by the last byte that was taken.
+/// A place, by its byte.
 fn append_place(text: &mut Text, place: Place)
     requires { array_vec_len text.old + 192 ≤ 2048 }
     ensures after { text.new.items ≡ text.old.items ++ place_text place }
     ensures room { array_vec_len text.new ≤ array_vec_len text.old + 192 }
 {
-    let at = place.to_in.saturating_sub(1);
     match place.block {
-        0 => append_column(text, at),
-        block => append_row(text, block, at),
+        0 => append_column(text, place.to_in),
+        block => append_row(text, block, place.to_in),
     }
 }
 
-/// The place of a fault, if it has one.
+/// The place, if there is one.
 fn append_at(text: &mut Text, place: Option<Place>)
     requires { array_vec_len text.old + 196 ≤ 2048 }
     ensures after { text.new.items ≡ text.old.items ++ at_place place }
@@ -113,7 +112,29 @@ fn told_of(number: u32, fault: Fault, place: Option<Place>) -> Text
     text
 }
 
-/// The word before the place, its first bytes.
+/// A byte, or a point for what isn't printable ASCII.
+fn shown(byte: u8) -> u8
+    ensures { result ≡ shown byte }
+{
+    if 31 < byte && byte < 127 { byte } else { b'.' }
+}
+
+/// Bytes, each as it is shown.
+fn append_shown(text: &mut Text, bytes: &[u8])
+    requires { array_vec_len text.old + length bytes.now ≤ 2048 }
+    ensures after { text.new.items ≡ text.old.items ++ map shown bytes.now }
+    ensures room { array_vec_len text.new ≡ array_vec_len text.old + length bytes.now }
+{
+    match bytes {
+        [] => {}
+        [byte, rest @ ..] => {
+            append(text, &[shown(*byte)]);
+            append_shown(text, rest)
+        }
+    }
+}
+
+/// The word that begins at the place, its first bytes.
 fn append_word(text: &mut Text, word: &[u8])
     requires { array_vec_len text.old + 39 ≤ 2048 }
     ensures after { text.new.items ≡ text.old.items ++ word_text word.now }
@@ -122,8 +143,8 @@ fn append_word(text: &mut Text, word: &[u8])
     if word.is_empty() {
         return;
     }
-    append(text, b", after ");
-    append(text, &word[..WORD_ROOM.min(word.len())]);
+    append(text, b": ");
+    append_shown(text, &word[..WORD_ROOM.min(word.len())]);
 }
 
 /// Where a load stood.
@@ -151,8 +172,8 @@ fn append_loads(text: &mut Text, loads: &[Place])
     }
 }
 
-/// The trace of a line: in which line of the input which fault came, and where; then the word before the place, and the loads
-/// that led there, the innermost first.
+/// The trace of a line: in which line of the input which fault came, and where; then the word that begins there, and
+/// the loads that led there, the innermost first.
 pub(super) fn trace_text(
     number: u32,
     fault: Fault,

@@ -1,4 +1,5 @@
 //! What is told, beside the replies, of lines that faults ended.
+//! Rule: MANUAL, Where a fault came; SEMANTICS, Sessions.
 ghost use Rattle.std.specs.Prelude.{◌≡◌, ℕ, List, Option, false};
 ghost use Rattle.std.specs.Io.KnownBytes.{Appends};
 ghost use Rattle.interpreter.specs.Lines.{LineEnd};
@@ -13,12 +14,13 @@ use std::io::Write;
 
 /// Who is told of each line whose reply was written.
 pub trait Tracer {
-    // What it makes of a line, by how that ended, the place of its fault, the word before it and the loads that led there.
+    // What it makes of a line, by how that ended, where the word before its fault begins, that word, and the loads that led there.
     ghost hears: { (old new : Self) → LineEnd → Option AbstractPlace → List ℕ → List AbstractPlace → Type 0 };
 
-    /// A line has ended so. The system stands as the line left it.
+    /// A line has ended so. The system stands as the line left it. It is told of no line that the reader or the writer
+    /// cut short.
     fn line_ended<D: SectorDevice + Drop, F: Lines<D>>(&mut self, forth: &F, end: &F::End)
-        ensures { hears self.old self.new (F.ending end.now) (F.placed forth.now) (F.told_word forth.now) (F.told_loads forth.now) };
+        ensures { hears self.old self.new (F.ending end.now) (F.told_start forth.now) (F.told_word forth.now) (F.told_loads forth.now) };
 }
 
 /// Nobody is told.
@@ -35,8 +37,8 @@ impl Tracer for Untraced {
     }
 }
 
-/// A writer is told of each line that a fault ended: in which line of the input which fault came, and where. Each trace is one
-/// line, given to the writer in one call. Once the writer has failed it is told no more.
+/// A writer is told of each line that a fault ended: in which line of the input which fault came, and where. Each trace
+/// is one line, given to the writer in one call. Once the writer has failed it is told no more.
 #[derive(Drop)]
 pub struct Traces<'a, W> {
     writer: &'a mut W,
@@ -55,7 +57,7 @@ impl<W: Write> Tracer for Traces<'_, W> {
             Some(fault) => {
                 let word = forth.last_word();
                 let loads = forth.loads();
-                let trace = trace_text(self.lines, fault, forth.place(), word, loads);
+                let trace = trace_text(self.lines, fault, forth.start_of_word(), word, loads);
                 self.write(trace.as_slice())
             }
             None => {}
@@ -64,7 +66,7 @@ impl<W: Write> Tracer for Traces<'_, W> {
 }
 
 impl<'a, W: Write> Traces<'a, W> {
-    /// No line has ended yet.
+    /// Traces of a session of which no line has ended yet.
     pub fn new(writer: &'a mut W) -> Self
         ensures writer { result.writer ≡ writer.entry }
         ensures lines { result.lines ≡ 0 }

@@ -4,15 +4,13 @@ ghost use Rattle.data_space.specs.Space.{cell_at};
 
 use crate::fault::Fault;
 use crate::forth::Forth;
+use crate::place::MOST_LOADS;
 use crate::system_cells::{BLK, TO_IN, cell_of};
 use cell_machine::event::Work;
 use data_space::DataSpace;
 use dictionary::is_compile_only;
 use sector_disk::SectorDevice;
 use stacks::Entry;
-
-/// How many loads may run within each other.
-const MOST_LOADS: usize = 8;
 
 impl<D: SectorDevice> Forth<D> {
     ghost use Rattle.cell_machine.specs.Frames.{Level, around_of};
@@ -72,9 +70,11 @@ impl<D: SectorDevice> Forth<D> {
         if block == 0 {
             return Err(Fault::NoBlock);
         }
-        if self.returns.stack().loads() >= MOST_LOADS {
+        let depth = self.returns.stack().loads();
+        if depth >= MOST_LOADS {
             return Err(Fault::LoadDepth);
         }
+        self.starts[depth] = self.start_before(self.here_in_stream()).to_in;
         let back = Entry::Load {
             block: cell_of(&self.space, BLK),
             to_in: cell_of(&self.space, TO_IN),

@@ -1,5 +1,5 @@
-//! What stands next in the input stream: the line, or the block that is loaded, from where `>IN` stands. `>IN` stays, since
-//! a word that can't be paid for is not taken.
+//! What stands next in the input stream: the line, or the block that is loaded, from where `>IN` stands. `>IN` stays,
+//! since a word that can't be paid for is not taken.
 ghost use Rattle.std.specs.Prelude.{◌≡◌, ◌≤◌, ◌<◌, ◌-◌, length, drop, take, min, IfOk};
 ghost use Rattle.data_space.specs.Space.{cell_at, bytes_at};
 ghost use Rattle.interpreter.specs.Taken.{cut_of, after_cut};
@@ -45,14 +45,6 @@ fn cut_from(cut: Cut, text: &[u8], delimiter: u8) -> (&[u8], usize)
     }
 }
 
-/// Puts a blank behind so many bytes, if there are any. It ends the word that is told after a fault in a block: no clause
-/// speaks of it.
-fn mark_end(kept: &mut [u8; 1024], count: usize) {
-    if 0 < count && count < kept.len() {
-        kept[count] = b' ';
-    }
-}
-
 /// Keeps what is cut from a text from `to_in` on, and gives how many bytes it has, and where `>IN` then stands.
 fn keep(cut: Cut, text: &[u8], to_in: u16, delimiter: u8, kept: &mut [u8; 1024]) -> (usize, u16)
     requires { length text.now ≤ 1024 }
@@ -63,7 +55,6 @@ fn keep(cut: Cut, text: &[u8], to_in: u16, delimiter: u8, kept: &mut [u8; 1024])
 {
     let start = usize::from(to_in).min(text.len());
     let (taken, over) = cut_from(cut, &text[start..], delimiter);
-    mark_end(kept, taken.len());
     kept[..taken.len()].copy_from_slice(taken);
     (taken.len(), (start + over) as u16)
 }
@@ -96,7 +87,7 @@ impl<D: SectorDevice> Forth<D> {
         }
     }
 
-    /// The same in the line.
+    /// What stands next in the line, which is the text input buffer.
     fn look_at_line(&mut self, cut: Cut, delimiter: u8) -> Look
         ensures seen { seen_in result self.new.text
             ≡ seen_from cut delimiter (cell_at self.old.space 20) (line_of self.old.space) }
@@ -109,7 +100,7 @@ impl<D: SectorDevice> Forth<D> {
         Look { count, behind }
     }
 
-    /// The same in a block.
+    /// What stands next in the block that is loaded.
     fn look_at_block(&mut self, block: u16, cut: Cut, delimiter: u8) -> Result<Look, Fault>
         requires block { block ≡ cell_at self.old.space 22 }
         requires loaded { 0 < block }

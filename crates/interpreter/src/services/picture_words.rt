@@ -32,7 +32,7 @@ fn unsigned_text(cell: u16, base: u16) -> Held
     text
 }
 
-/// The same with a minus sign where the cell is negative.
+/// The digits of a signed cell in a base, with a minus sign where the cell is negative.
 fn signed_text(cell: u16, base: u16) -> Held
     requires low { 2 ≤ base }
     requires high { base ≤ 72 }

@@ -23,8 +23,8 @@ impl<D: SectorDevice> Forth<D> {
     ghost use Rattle.interpreter.specs.Stops.{stop_count};
     ghost use Rattle.interpreter.specs.Reading.{io_of, StepOf};
 
-    /// The next step of a reading of `left` bytes to `a`: how many bytes it stored, and how many more may be. `None` at the
-    /// end of the input.
+    /// The next step of a reading of `left` bytes to `a`: how many bytes it stored, and how many more may be. `None` at
+    /// the end of the input.
     fn read_byte<T: Terminal>(
         &mut self,
         a: u16,

@@ -33,7 +33,7 @@ fn goes_on(done: Result<(), Stop>) -> Result<Round, Stop>
     }
 }
 
-/// The same of what reaches no terminal.
+/// What a service that reaches no terminal leaves of the line.
 fn goes_on_quietly(done: Result<(), Fault>) -> Result<Round, Stop>
     ensures { result ≡ round_of (stopped done) }
 {
@@ -134,7 +134,7 @@ impl<D: SectorDevice> Forth<D> {
         self.print(text, terminal)
     }
 
-    /// The same, and then the line is aborted.
+    /// A text is printed, and then the line is aborted.
     fn abort_with<T: Terminal>(&mut self, place: u16, terminal: &mut T) -> Result<(), Stop>
         requires text { (s : List ℕ) × TextAt self.old.lexicon.code place s }
         ensures serves { (s : List ℕ) → TextAt self.old.lexicon.code place s

@@ -1,4 +1,5 @@
-use Rattle.std.proofs.Common.{[], ◌≡◌, ◌<◌, ap, ◌∙◌}
+use Rattle.std.proofs.Common.{[], ◌≡◌, ◌<◌, ap, subst, sym, ◌∙◌}
+use Rattle.interpreter.specs.Told.{AreRead}
 use Rattle.std.specs.Io.BufRead.{strip_last}
 use Rattle.sessions.proofs.OneLine.{was_stopped, was_replied, line_stopped, line_replied, line_unflushed, line_unread}
 use Rattle.sessions.proofs.session.turn.Goals as goal
@@ -27,15 +28,27 @@ returns-in-Ok-clause-done g c = λ opening is.
     let kept = rw c.in-Ok-true.field-0-test at c.in-Ok-true.ensures.line in
     let ran = c.line-end.ensures.runs opening is in
     let none = c.in-Ok-true.ensures.none_failed ∙ c.requires.none_failed in
-    let still : c.line-end.new.terminal.failures ≡ 0 = rw c.if-has_failed.false at c.has_failed.ensures.no_call in (
+    let still : c.line-end.new.terminal.failures ≡ 0 = rw c.if-has_failed.false at c.has_failed.ensures.no_call in
+    let replied = was_replied g.D.SectorDevice opening c.text.result.now ran.0 _ _ _ _ _ _ _ _ ran.1 _ _ (g.F.Lines.ending c.line-end.result) (g.F.Lines.placed c.line-end.new.self) ran.3 c.line-end.ensures.terminal_failures none still in
+    let done = line_replied g.D.SectorDevice c.long_lines.ensures opening _ _ _ _ _ _ c.read_line.new.line.items c.text.result.now kept (c.text.ensures ∙ ap (strip_last 13) c.as_slice.ensures.value) c.in-Ok-true.ensures.output _ _ ran.1 ran.0 c.line-end.ensures.time
+    (g.F.Lines.ending c.line-end.result) (g.F.Lines.placed c.line-end.new.self)
+    replied
+    _ _ c.in-Ok.ensures.input c.in-Ok.ensures.output in (
       ran.0,
       ran.1,
       ran.2,
       ran.4,
-      line_replied g.D.SectorDevice c.long_lines.ensures opening _ _ _ _ _ _ c.read_line.new.line.items c.text.result.now kept (c.text.ensures ∙ ap (strip_last 13) c.as_slice.ensures.value) c.in-Ok-true.ensures.output _ _ ran.1 ran.0 c.line-end.ensures.time
-          (g.F.Lines.ending c.line-end.result) (g.F.Lines.placed c.line-end.new.self)
-          (was_replied g.D.SectorDevice opening c.text.result.now ran.0 _ _ _ _ _ _ _ _ ran.1 _ _ (g.F.Lines.ending c.line-end.result) (g.F.Lines.placed c.line-end.new.self) ran.3 c.line-end.ensures.terminal_failures none still)
-          _ _ c.in-Ok.ensures.input c.in-Ok.ensures.output,
+      (
+        done.0,
+        record {
+          start = g.F.Lines.told_start c.line-end.new.self;
+          word = g.F.Lines.told_word c.line-end.new.self;
+          loads = g.F.Lines.told_loads c.line-end.new.self;
+          read = subst (λ place. AreRead place (g.F.Lines.told_start c.line-end.new.self) (g.F.Lines.told_word c.line-end.new.self)) (sym (ap (λ t. t.place) done.1 ∙ replied.placed)) (g.met.F.Lines.reads c.line-end.new.self);
+          heard = subst (λ ending. g.T.Tracer.hears c.args.tracer.now c.line_ended.new.self ending (g.F.Lines.told_start c.line-end.new.self) (g.F.Lines.told_word c.line-end.new.self) (g.F.Lines.told_loads c.line-end.new.self))
+              (sym (ap (λ t. t.ending) done.1 ∙ replied.ends)) c.line_ended.ensures;
+        },
+      ),
     )
 
 pub returns-clause-err : goal.returns-clause-err

@@ -1,6 +1,7 @@
 use Rattle.std.proofs.Common.{◌<◌, ◌∙◌, ◌++◌, length, ap, arith}
 use Rattle.std.proofs.lemmas.Grind.{common_steps}
-use Rattle.std.specs.Prelude.{codes, take}
+use Rattle.std.specs.Prelude.{codes, map, take}
+use Rattle.sessions.specs.Traces.{shown}
 use Rattle.std.proofs.lemmas.List.{append_assoc, take_min}
 use Rattle.sessions.proofs.TraceLemmas.{word_told}
 use Rattle.sessions.proofs.trace_text.append_word.Goals as goal
@@ -10,9 +11,9 @@ returns-clause-after c =
     let old = c.args.text.now.items in
     let word = c.args.word.now in
     let some : 0 < length word = grind (arith, common_steps) in
-    c.append-2.ensures.after
-    ∙ ap (λ l. l ++ take c.min.result word) c.append.ensures.after
-    ∙ append_assoc old (codes ", after ") (take c.min.result word)
-    ∙ ap (λ n. old ++ (codes ", after " ++ take n word)) c.min.ensures
-    ∙ ap (λ l. old ++ (codes ", after " ++ l)) (take_min 31 word)
+    c.append_shown.ensures.after
+    ∙ ap (λ l. l ++ map shown (take c.min.result word)) c.append.ensures.after
+    ∙ append_assoc old (codes ": ") (map shown (take c.min.result word))
+    ∙ ap (λ n. old ++ (codes ": " ++ map shown (take n word))) c.min.ensures
+    ∙ ap (λ l. old ++ (codes ": " ++ map shown l)) (take_min 31 word)
     ∙ ap (λ l. old ++ l) (word_told word some)

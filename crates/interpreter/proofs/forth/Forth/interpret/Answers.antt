@@ -1,4 +1,5 @@
-use Rattle.std.proofs.Common.{◌+◌, ◌∙◌, refl, arith}
+use Rattle.std.proofs.Common.{◌+◌, ◌∙◌, ap, refl, arith}
+use Rattle.interpreter.specs.Stops.{stop_count}
 use Rattle.interpreter.proofs.RoundContract.{lasts_nothing, lasts_then, round_of_nothing, round_then, over_ran, stopped_ran}
 use Rattle.interpreter.proofs.forth.Forth.interpret.Goals as goal
 
@@ -46,3 +47,17 @@ returns-in-Err-clause-ran g c = λ n levels x less stands.
     stopped_ran g.T.Terminal n
     (round_then g.D.SectorDevice g.T.Terminal g.met.D.SectorDevice.counts_now g.met.D.SectorDevice.widens g.met.D.SectorDevice.only_now n c.rounds.invariant.lasts c.in-Err.ensures.continues.lasts h
     (c.in-Err.ensures.round n h.levels h.world (omega (arith, h.steps, less)) h.stands))
+
+pub returns-in-Ok-Over-clause-continues : goal.returns-in-Ok-Over-clause-continues
+returns-in-Ok-Over-clause-continues g c = record {
+  lasts = lasts_then g.D.SectorDevice g.T.Terminal g.met.D.SectorDevice.widens c.rounds.invariant.lasts c.in-Ok-Over.ensures.continues.lasts;
+  tells = c.in-Ok-Over.ensures.continues.tells ∙ c.rounds.invariant.told;
+  budget = c.in-Ok-Over.ensures.continues.budget ∙ c.rounds.invariant.budget;
+}
+
+pub returns-in-Err-clause-continues : goal.returns-in-Err-clause-continues
+returns-in-Err-clause-continues g c = record {
+  lasts = lasts_then g.D.SectorDevice g.T.Terminal g.met.D.SectorDevice.widens c.rounds.invariant.lasts c.in-Err.ensures.continues.lasts;
+  tells = c.in-Err.ensures.continues.tells ∙ ap (λ n. stop_count c.in-Err.stop n) c.rounds.invariant.told;
+  budget = c.in-Err.ensures.continues.budget ∙ c.rounds.invariant.budget;
+}

@@ -27,11 +27,11 @@ returns-then-block-eq0-clause-entered g c = λ m levels x less stands.
     (refused _ stands (record (core c.args.self.now) { stack = c.pop.new.self }) refl
     (λ r. no_block m levels (core c.args.self.now) (with_run r x) c.in-Ok.block c.pop.new.self c.in-Ok.ensures.ok c.if-block-eq0.true) (omega arith))
 
-pub returns-then-loads-ge-MOST_LOADS-clause-entered :
-    goal.returns-then-loads-ge-MOST_LOADS-clause-entered
-returns-then-loads-ge-MOST_LOADS-clause-entered g c = λ m levels x less stands.
+pub returns-then-depth-ge-MOST_LOADS-clause-entered :
+    goal.returns-then-depth-ge-MOST_LOADS-clause-entered
+returns-then-depth-ge-MOST_LOADS-clause-entered g c = λ m levels x less stands.
     let same = loads_left c.args.self.now.lexicon (language_of x) c.args.self.now.machine c.args.self.now.returns levels c.requires.idle stands.left in
-    let deep : 8 ≤ (around_of levels).loads = omega (arith, same, c.loads.ensures, ap loads c.stack.ensures, c.if-loads-ge-MOST_LOADS.true) in
+    let deep : 8 ≤ (around_of levels).loads = omega (arith, same, c.loads-depth.ensures, ap loads c.stack.ensures, c.if-depth-ge-MOST_LOADS.true) in
     not_entered (suc m)
     (refused _ stands (record (core c.args.self.now) { stack = c.pop.new.self }) refl
     (λ r. too_deep m levels (core c.args.self.now) (with_run r x) c.in-Ok.block c.pop.new.self c.in-Ok.ensures.ok c.if-block-eq0.false deep) (omega arith))
@@ -39,7 +39,7 @@ returns-then-loads-ge-MOST_LOADS-clause-entered g c = λ m levels x less stands.
 pub returns-in_default-push-clause-entered : goal.returns-in_default-push-clause-entered
 returns-in_default-push-clause-entered g c = λ m levels x less stands.
     let same = loads_left c.args.self.now.lexicon (language_of x) c.args.self.now.machine c.args.self.now.returns levels c.requires.idle stands.left in
-    let few : (around_of levels).loads < 8 = omega (arith, same, c.loads.ensures, ap loads c.stack.ensures, c.if-loads-ge-MOST_LOADS.false) in
+    let few : (around_of levels).loads < 8 = omega (arith, same, c.loads-depth.ensures, ap loads c.stack.ensures, c.if-depth-ge-MOST_LOADS.false) in
     let all = units_left c.args.self.now.lexicon (language_of x) c.args.self.now.machine c.args.self.now.returns levels c.requires.idle stands.left in
     let may_push = rw c.lend.ensures.value at c.in_default-push.ensures.room in
     let full : units c.args.self.now.returns + 2 ≤ 256 → ⊥ = λ room. (let e : false ≡ true = may_push.1 room in cc) in
@@ -60,7 +60,7 @@ returns-in_default-push-clause-entered g c = λ m levels x less stands.
 pub returns-clause-entered : goal.returns-clause-entered
 returns-clause-entered g c = λ m levels x less stands.
     let same = loads_left c.args.self.now.lexicon (language_of x) c.args.self.now.machine c.args.self.now.returns levels c.requires.idle stands.left in
-    let few : (around_of levels).loads < 8 = omega (arith, same, c.loads.ensures, ap loads c.stack.ensures, c.if-loads-ge-MOST_LOADS.false) in
+    let few : (around_of levels).loads < 8 = omega (arith, same, c.loads-depth.ensures, ap loads c.stack.ensures, c.if-depth-ge-MOST_LOADS.false) in
     let all = units_left c.args.self.now.lexicon (language_of x) c.args.self.now.machine c.args.self.now.returns levels c.requires.idle stands.left in
     let old = core c.args.self.now in
     let may_push = rw c.lend.ensures.value at c.in-Ok-push.ensures.room in

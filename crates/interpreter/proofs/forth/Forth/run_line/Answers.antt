@@ -5,8 +5,9 @@ use Rattle.interpreter.specs.declared.fault.Stop.TheVariants as stop
 use Rattle.interpreter.specs.declared.lines.LineEnd.TheVariants as end
 use Rattle.interpreter.specs.Representation.{core}
 use Rattle.interpreter.specs.Stops.{fault_count}
-use Rattle.interpreter.proofs.Telling.{counts_as, same_count}
-use Rattle.interpreter.proofs.LineContract.{lined_as, line_too_long, line_opens, over_lined, ends_lined, fault_lined, broke_lined}
+use Rattle.interpreter.proofs.Telling.{counts_as, lasts_from, lasts_to, same_count}
+use Rattle.interpreter.proofs.RoundContract.{lasts_then}
+use Rattle.interpreter.proofs.LineContract.{lasts_calm, lined_as, line_too_long, line_opens, over_lined, ends_lined, fault_lined, broke_lined}
 use Rattle.interpreter.proofs.forth.Forth.run_line.Goals as goal
 
 pub returns-then-text-gt-LINE_LIMIT-clause-lined : goal.returns-then-text-gt-LINE_LIMIT-clause-lined
@@ -165,3 +166,69 @@ returns-in-Err-Io-clause-spends g c =
     let ran = rw c.in-Err-Io.field-0-is at c.in-Err-Io.ensures.ran in
     let h = ran (suc c.args.self.now.budget) [] c.requires.sound.0 (omega (arith, c.take_line.ensures.steps)) (c.take_line.ensures.stands c.requires.sound.0 c.requires.sound.1) in
     omega (arith, h.steps, c.take_line.ensures.steps, c.break_off.ensures.steps, c.take_line.ensures.budget, c.in-Err-Io.ensures.continues.budget, c.break_off.ensures.spares.budget)
+
+pub returns-then-text-gt-LINE_LIMIT-clause-lasts : goal.returns-then-text-gt-LINE_LIMIT-clause-lasts
+returns-then-text-gt-LINE_LIMIT-clause-lasts g c = c.fail.ensures.lasts
+
+pub returns-then-text-gt-LINE_LIMIT-clause-placed : goal.returns-then-text-gt-LINE_LIMIT-clause-placed
+returns-then-text-gt-LINE_LIMIT-clause-placed g c = c.fail.ensures.placed
+
+pub returns-then-text-gt-LINE_LIMIT-clause-budget : goal.returns-then-text-gt-LINE_LIMIT-clause-budget
+returns-then-text-gt-LINE_LIMIT-clause-budget g c = c.fail.ensures.budget
+
+pub returns-in-Ok-clause-lasts : goal.returns-in-Ok-clause-lasts
+returns-in-Ok-clause-lasts g c =
+    lasts_from g.D.SectorDevice g.T.Terminal c.take_line.ensures.device (lasts_then g.D.SectorDevice g.T.Terminal g.met.D.SectorDevice.widens c.in-Ok.ensures.continues.lasts c.finish.ensures.lasts)
+
+pub returns-in-Ok-clause-placed : goal.returns-in-Ok-clause-placed
+returns-in-Ok-clause-placed g c = c.finish.ensures.placed
+
+pub returns-in-Ok-clause-budget : goal.returns-in-Ok-clause-budget
+returns-in-Ok-clause-budget g c = c.finish.ensures.budget ∙ c.in-Ok.ensures.continues.budget ∙ c.take_line.ensures.budget
+
+pub returns-in-Err-Fault-clause-lasts : goal.returns-in-Err-Fault-clause-lasts
+returns-in-Err-Fault-clause-lasts g c =
+    let lasts = rw c.in-Err-Fault.field-0-is at c.in-Err-Fault.ensures.continues.lasts in
+    lasts_from g.D.SectorDevice g.T.Terminal c.take_line.ensures.device (lasts_then g.D.SectorDevice g.T.Terminal g.met.D.SectorDevice.widens (lasts_calm g.D.SectorDevice g.T.Terminal (stop.Fault c.in-Err-Fault.fault) refl lasts) c.fail-in-Err-Fault.ensures.lasts)
+
+pub returns-in-Err-Fault-clause-placed : goal.returns-in-Err-Fault-clause-placed
+returns-in-Err-Fault-clause-placed g c = c.fail-in-Err-Fault.ensures.placed
+
+pub returns-in-Err-Fault-clause-budget : goal.returns-in-Err-Fault-clause-budget
+returns-in-Err-Fault-clause-budget g c = c.fail-in-Err-Fault.ensures.budget ∙ c.in-Err-Fault.ensures.continues.budget ∙ c.take_line.ensures.budget
+
+pub returns-in-Err-Quit-clause-lasts : goal.returns-in-Err-Quit-clause-lasts
+returns-in-Err-Quit-clause-lasts g c =
+    let lasts = rw c.in-Err-Quit.field-0-is at c.in-Err-Quit.ensures.continues.lasts in
+    lasts_from g.D.SectorDevice g.T.Terminal c.take_line.ensures.device (lasts_then g.D.SectorDevice g.T.Terminal g.met.D.SectorDevice.widens (lasts_calm g.D.SectorDevice g.T.Terminal stop.Quit refl lasts) c.quit.ensures.lasts)
+
+pub returns-in-Err-Quit-clause-placed : goal.returns-in-Err-Quit-clause-placed
+returns-in-Err-Quit-clause-placed g c = c.quit.ensures.placed
+
+pub returns-in-Err-Quit-clause-budget : goal.returns-in-Err-Quit-clause-budget
+returns-in-Err-Quit-clause-budget g c = c.quit.ensures.budget ∙ c.in-Err-Quit.ensures.continues.budget ∙ c.take_line.ensures.budget
+
+pub returns-in-Err-Abort-clause-lasts : goal.returns-in-Err-Abort-clause-lasts
+returns-in-Err-Abort-clause-lasts g c =
+    let lasts = rw c.in-Err-Abort.field-0-is at c.in-Err-Abort.ensures.continues.lasts in
+    lasts_from g.D.SectorDevice g.T.Terminal c.take_line.ensures.device (lasts_then g.D.SectorDevice g.T.Terminal g.met.D.SectorDevice.widens (lasts_calm g.D.SectorDevice g.T.Terminal stop.Abort refl lasts) c.abort.ensures.lasts)
+
+pub returns-in-Err-Abort-clause-placed : goal.returns-in-Err-Abort-clause-placed
+returns-in-Err-Abort-clause-placed g c = c.abort.ensures.placed
+
+pub returns-in-Err-Abort-clause-budget : goal.returns-in-Err-Abort-clause-budget
+returns-in-Err-Abort-clause-budget g c = c.abort.ensures.budget ∙ c.in-Err-Abort.ensures.continues.budget ∙ c.take_line.ensures.budget
+
+pub returns-in-Err-Io-clause-lasts : goal.returns-in-Err-Io-clause-lasts
+returns-in-Err-Io-clause-lasts g c =
+    let lasts = rw c.in-Err-Io.field-0-is at c.in-Err-Io.ensures.continues.lasts in
+    lasts_from g.D.SectorDevice g.T.Terminal c.take_line.ensures.device (lasts_to g.D.SectorDevice g.T.Terminal c.break_off.ensures.spares.device lasts)
+
+pub returns-in-Err-Io-clause-placed : goal.returns-in-Err-Io-clause-placed
+returns-in-Err-Io-clause-placed g c = c.break_off.ensures.placed
+
+pub returns-in-Err-Io-clause-budget : goal.returns-in-Err-Io-clause-budget
+returns-in-Err-Io-clause-budget g c = c.break_off.ensures.budget ∙ c.in-Err-Io.ensures.continues.budget ∙ c.take_line.ensures.budget
+
+pub returns-then-text-gt-LINE_LIMIT-clause-spends : goal.returns-then-text-gt-LINE_LIMIT-clause-spends
+returns-then-text-gt-LINE_LIMIT-clause-spends g c = omega (arith, c.fail.ensures.steps, c.fail.ensures.budget)

@@ -1,9 +1,9 @@
 use Rattle.std.proofs.Common.{◌≡◌, [], Ok, Err, refl, ap, arith}
 use Rattle.block_words.specs.declared.buffered_blocks.BlockFault.TheVariants.{NoBuffer}
 use Rattle.block_words.specs.Words.{update}
-use Rattle.stores.specs.declared.store.Store.{Store}
-use Rattle.stores.specs.Store.{device_of}
-use Rattle.stores.specs.Suits.{suits}
+use Rattle.journal.specs.declared.store.Store.{Store}
+use Rattle.journal.specs.Store.{device_of}
+use Rattle.journal.specs.Suits.{suits}
 use Rattle.cell_machine.specs.Value.{Did}
 use Rattle.interpreter.proofs.Called.{called, stands_on, rests_on, consulted_well, consulted_failed, tells_none}
 use Rattle.interpreter.proofs.forth.Forth.update.Goals as goal

@@ -10,7 +10,7 @@ returns-in-None g c =
       c.count.ensures.next,
       λ still. (
         sym (ap (λ s. s.failed) rest) ∙ still,
-        writes_none _ (g.F.Lines.ending c.args.end.now) (g.F.Lines.placed c.args.forth.now) _ _ _ _ c.in-None.ensures
+        writes_none _ (g.F.Lines.ending c.args.end.now) (g.F.Lines.told_start c.args.forth.now) _ _ _ _ c.in-None.ensures
             (ap (λ s. g.W.Write.contents s.writer.now) rest),
       ),
     )
@@ -21,11 +21,11 @@ returns-in-Some g c = (
   λ still.
       let rest = c.count.ensures.rest in
       let text = c.as_slice.ensures.value ∙ c.trace_text-trace.ensures
-      ∙ ap (λ place. trace_of c.count.new.self.lines (fault_of c.in-Some.fault) place c.last_word-word.result.now c.loads-loads.result.now) c.place.ensures
-      ∙ ap₂ (λ word loads. trace_of c.count.new.self.lines (fault_of c.in-Some.fault) (g.F.Lines.placed c.args.forth.now) word loads) c.last_word-word.ensures.told c.loads-loads.ensures.told
-      ∙ ap (λ n. trace_of n (fault_of c.in-Some.fault) (g.F.Lines.placed c.args.forth.now) (g.F.Lines.told_word c.args.forth.now) (g.F.Lines.told_loads c.args.forth.now)) (sym c.write.ensures.lines) in (
+      ∙ ap (λ place. trace_of c.count.new.self.lines (fault_of c.in-Some.fault) place c.last_word-word.result.now c.loads-loads.result.now) c.start_of_word.ensures.told
+      ∙ ap₂ (λ word loads. trace_of c.count.new.self.lines (fault_of c.in-Some.fault) (g.F.Lines.told_start c.args.forth.now) word loads) c.last_word-word.ensures.told c.loads-loads.ensures.told
+      ∙ ap (λ n. trace_of n (fault_of c.in-Some.fault) (g.F.Lines.told_start c.args.forth.now) (g.F.Lines.told_word c.args.forth.now) (g.F.Lines.told_loads c.args.forth.now)) (sym c.write.ensures.lines) in (
         sym (ap (λ s. s.failed) rest) ∙ c.write.ensures.well still,
-        writes_one _ (g.F.Lines.ending c.args.end.now) (g.F.Lines.placed c.args.forth.now) _ _ c.in-Some.fault _ _ c.in-Some.ensures
+        writes_one _ (g.F.Lines.ending c.args.end.now) (g.F.Lines.told_start c.args.forth.now) _ _ c.in-Some.fault _ _ c.in-Some.ensures
             (appended_as _ _ _ _ _ (ap (λ s. g.W.Write.contents s.writer.now) rest) text (c.write.ensures.told still)),
       ),
 )
