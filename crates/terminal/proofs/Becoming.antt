@@ -3,16 +3,16 @@ use Rattle.std.proofs.Common.{◌≡◌, ◌∙◌, ◌+◌, ◌-◌, ◌*◌, �
 use Rattle.std.specs.Prelude.{IfOk}
 use Rattle.std.specs.Io.KnownBytes.{Appends}
 use Rattle.sector_disk.specs.declared.device.SectorDevice.{Ghosts}
-use Rattle.stores.specs.declared.store.Store.{Store}
+use Rattle.journal.specs.declared.store.Store.{Store}
 use Rattle.journal.specs.Calls.{Proceeds, StopsLeave}
 use Rattle.journal.specs.Images.{meaning}
 use Rattle.journal.specs.Layout.{count_below, sectors_for}
 use Rattle.journal.specs.Maps.{Maps, contents}
-use Rattle.stores.specs.Store.{Continues, DeviceBegins, DeviceReads, KeepsSaved, StandsFor, blocks_of, device_of, pending_count}
+use Rattle.journal.specs.Store.{Continues, DeviceBegins, DeviceReads, KeepsSaved, StandsFor, blocks_of, device_of, pending_count}
 use Rattle.recovery.specs.Formatted.{MakingLeaves}
 use Rattle.recovery.specs.Label.{blocks_in}
-use Rattle.stores.specs.Images.{Means}
-use Rattle.stores.proofs.Suited.{stays}
+use Rattle.journal.specs.BySize.{Means}
+use Rattle.journal.proofs.Suited.{stays}
 use Rattle.recovery.specs.Upgraded.{OldLeaves}
 use Rattle.interpreter.specs.Lines.{new_forth}
 use Rattle.terminal.specs.Done.{Comes, Exports, ImportsBlocks, ListsBlock, PutsBlock, RunsFrom, RunsSession, Upgrades, blocks_on, maps_on, meant_by}
@@ -24,7 +24,7 @@ use Rattle.terminal.specs.Imported.{ImportsSome}
 use Rattle.terminal.specs.Putting.{PutsSome}
 use Rattle.terminal.specs.Screen.{listing}
 use Rattle.terminal.specs.Transfer.{ReadsStore, exports}
-use Rattle.terminal.specs.declared.orders.Form.{Form}
+use Rattle.command_line.specs.declared.orders.Form.{Form}
 use Rattle.terminal.proofs.Saving.{length_blocks}
 
 module _ {D : Type 0} (G : Ghosts D) where

@@ -24,7 +24,7 @@ use Rattle.terminal.specs.Older.{LeavesBlocks}
 use Rattle.terminal.specs.Failures.{of_upgrade}
 use Rattle.terminal.specs.declared.failure.Failure.{Failure}
 use Rattle.terminal.specs.declared.failure.Failure.TheVariants.{CannotWrite, Device}
-use Rattle.stores.proofs.Suited.{stays}
+use Rattle.journal.proofs.Suited.{stays}
 
 pub both_true : (a b : Bool) → (a && b) ≡ true → (a ≡ true) × (b ≡ true)
 both_true true b is = (refl, is)

@@ -1,45 +1,32 @@
--- What shadow_care promises of an image of layout 3 is what the commands do.
-use Rattle.std.proofs.Common.{◌≡◌, ◌⊎◌, ◌∙◌, ◌+◌, ◌*◌, ◌<◌, ◌++◌, [], ℕ, zero, suc, Bool, true, List, Option, None, Some, Result, Ok, Err, IsTrue, inl, inr, refl, sym, subst, ap, arith}
-use Rattle.std.specs.Prelude.{◌==◌, ◌&&◌, nat_le, nat_lt, if◌then◌else◌, IfErr, MatchResult, option_map, unwrap_or}
+-- What a copy and a salvage of an image of layout 3 promise is what the commands do.
+use Rattle.std.proofs.Common.{◌≡◌, ◌∙◌, ◌+◌, ◌*◌, ◌<◌, ◌++◌, [], ℕ, zero, suc, true, List, Option, None, IsTrue, refl, sym, subst, ap, arith}
+use Rattle.std.specs.Prelude.{◌==◌, ◌&&◌, nat_le, if◌then◌else◌}
 use Rattle.std.specs.Io.KnownBytes.{Appends}
-use Rattle.std.specs.List.{concat}
-use Rattle.std.proofs.lemmas.Bool.{eqb-true, lt-ltb}
-use Rattle.sha2.specs.Sha256.{sha256}
-use Rattle.sector_disk.specs.Disk.{Image, MayLeave}
+use Rattle.std.proofs.lemmas.Bool.{eqb-true}
+use Rattle.sector_disk.specs.Disk.{Image}
 use Rattle.sector_disk.specs.declared.device.SectorDevice.{Ghosts}
 use Rattle.journal.specs.Calls.{BeginsAtMost, Proceeds, ReadsAtMost, StopsLeave}
 use Rattle.journal.specs.Layout.{fewest_blocks, listed, most_blocks}
-use Rattle.journal.specs.Maps.{block_in, contents, fresh}
-use Rattle.journal.proofs.Blocks.{at_below, at_none}
-use Rattle.recovery.specs.Opened.{first_of}
 use Rattle.recovery.specs.Steps.{OnlyRead}
 use Rattle.recovery.specs.Upgraded.{of_old}
 use Rattle.recovery.specs.declared.fault.OpenFault.TheVariants as image
 use Rattle.recovery.specs.declared.fault.UpgradeFault.TheVariants.{Old, New}
 use Rattle.image_care.specs.Copied.{grown}
-use Rattle.shadow.specs.Calls as newer
+use Rattle.journal.specs.PageCalls as newer
 use Rattle.shadow.specs.Formatted.{MakingLeaves}
-use Rattle.shadow.specs.Images.{IsWhole, block_of, meaning, record_of}
+use Rattle.journal.specs.PageImages.{IsWhole, meaning, record_of}
 use Rattle.shadow.specs.Label.{blocks_in, is_size}
-use Rattle.shadow.specs.Layout.{sectors_for}
-use Rattle.shadow.specs.Opened.{HasMeaning}
-use Rattle.shadow.proofs.Labels.{count_is}
+use Rattle.journal.specs.PageLayout.{sectors_for}
 use Rattle.stores.specs.Opened.{newer_refusal}
-use Rattle.stores.proofs.Suited.{stays}
-use Rattle.shadow_care.specs.Copied.{copy_refusal, copy_size_refusal, salvage_refusal}
-use Rattle.shadow_care.specs.Standing.{is_nowhere, is_other, reads_to_take, salvaged_blocks, standing_of}
-use Rattle.shadow_care.specs.declared.salvaging.Taken.{Taken}
-use Rattle.shadow_care.specs.declared.standing.Standing.{Standing}
-use Rattle.shadow_care.specs.declared.standing.Standing.TheVariants.{Current, Other, Nowhere}
-use Rattle.terminal.specs.Checked.{report}
-use Rattle.terminal.specs.Failures.{of_image}
+use Rattle.journal.proofs.Suited.{stays}
+use Rattle.image_care.specs.PageCopied.{copy_refusal, copy_size_refusal, salvage_refusal}
+use Rattle.image_care.specs.Standing.{is_nowhere, is_other, reads_to_take, salvaged_blocks, standing_of}
+use Rattle.image_care.specs.declared.pages.salvaging.Taken.{Taken}
+use Rattle.image_care.specs.declared.pages.standing.Standing.{Standing}
+use Rattle.image_care.specs.declared.pages.standing.Standing.TheVariants.{Current, Other, Nowhere}
 use Rattle.terminal.specs.Newer.{LeavesNewer}
-use Rattle.terminal.specs.NewerCare.{ChecksNewer, CopiesNewer, SalvagesNewer, ShowsNewer, blocks_on, damage_lines, damage_report, damage_told}
-use Rattle.terminal.specs.NewerCare.{damage_line, newer_block_refusal, newer_no_recovery, newer_report, standing_by}
-use Rattle.terminal.specs.Screen.{listing}
-use Rattle.terminal.specs.declared.failure.Failure.{Failure}
-use Rattle.terminal.specs.declared.failure.Failure.TheVariants.{CannotWrite, Device, NoBlock}
-use Rattle.terminal.specs.declared.orders.Layout.TheVariants.{Three}
+use Rattle.terminal.specs.Damage.{damage_line, damage_lines, damage_report, damage_told}
+use Rattle.terminal.specs.NewerCare.{CopiesNewer, SalvagesNewer, blocks_on, newer_no_recovery, standing_by}
 use Rattle.terminal.proofs.Copies.{both_true, fits, of_old_none, second_of}
 
 -- An image of this size has so many blocks.
@@ -47,68 +34,6 @@ pub newer_sized : (sectors : ℕ) → is_size sectors ≡ true → sectors ≡ s
 newer_sized sectors is =
     eqb-true sectors (sectors_for (blocks_in sectors))
     (both_true (nat_le fewest_blocks (blocks_in sectors) && nat_le (blocks_in sectors) most_blocks) (sectors == sectors_for (blocks_in sectors)) is).1
-
-module _ {D : Type 0} (G : Ghosts D) where
-  pub checked_newer : (device after : D) (n : ℕ) (digest : List ℕ) (written written' : Option (List ℕ))
-      → G.sector_count device ≡ sectors_for n → Proceeds G device after
-      → (IsTrue (G.keeps_model device) → HasMeaning n (G.disk device).content)
-      → (IsTrue (G.keeps_model device) → digest ≡ sha256 (concat (meaning n (G.disk device).content)))
-      → (IsTrue (G.keeps_model device) → G.disk after ≡ G.disk device)
-      → (IsTrue (G.keeps_model device) → StopsLeave G device after (MayLeave (G.disk device)))
-      → BeginsAtMost G device after 0 0 → ReadsAtMost G device after (5 * blocks_in (G.sector_count device) + 3)
-      → Appends written written' (report (512 * (32 + 16 * n)) Three n None digest) → ChecksNewer G written written' device after
-  checked_newer device after n digest written written' size passes meant same_digest same stops begins reads printed = record {
-    goes = record { model = stays G device after passes.sectors passes.model passes.units; time = passes.time; failures = passes.failures };
-    meant = λ keeps. subst (λ m. HasMeaning m (G.disk device).content) are (meant keeps);
-    told = λ keeps.
-        subst (λ m. Appends written written' (newer_report (G.sector_count device) m (G.disk device).content)) are
-        (subst (λ (text : List ℕ). Appends written written' text) (λ i. report (512 * sym size i) Three n None (same_digest keeps i)) printed);
-    same = same;
-    stops = stops;
-    begins = begins;
-    reads = reads;
-  }
-    where
-      are : n ≡ blocks_in (G.sector_count device)
-      are = sym (count_is n (G.sector_count device) size)
-
-  pub shown_newer : (device after : D) (b : ℕ) (bytes : List ℕ) (written written' : Option (List ℕ)) → Proceeds G device after
-      → b < blocks_on G device
-      → (IsTrue (G.keeps_model device) → bytes ≡ block_of (G.disk device).content b)
-      → (IsTrue (G.keeps_model device) → HasMeaning (blocks_on G device) (G.disk device).content)
-      → (IsTrue (G.keeps_model device) → G.disk after ≡ G.disk device)
-      → (IsTrue (G.keeps_model device) → StopsLeave G device after (MayLeave (G.disk device)))
-      → BeginsAtMost G device after 0 0 → ReadsAtMost G device after (3 * blocks_on G device + 5)
-      → Appends written written' (listing bytes) → ShowsNewer G b written written' device after
-  shown_newer device after b bytes written written' passes below read meant same stops begins reads printed = record {
-    goes = record { model = stays G device after passes.sectors passes.model passes.units; time = passes.time; failures = passes.failures };
-    meant = meant;
-    there = below;
-    listed = λ keeps.
-        subst (λ (l : List ℕ). Appends written written' (listing l))
-        (read keeps ∙ sym (contents_are (blocks_on G device) (G.disk device).content b below)) printed;
-    same = same;
-    stops = stops;
-    begins = begins;
-    reads = reads;
-  }
-    where
-      contents_are : (n : ℕ) (image : Image) (b : ℕ) → b < n → contents (fresh (meaning n image)) b ≡ block_of image b
-      contents_are n image b below =
-          ap (λ (p : Option (List ℕ)). unwrap_or p (block_in (meaning n image) b)) (at_none (meaning n image) b)
-          ∙ at_below (block_of image) n b below
-
--- A block that is there, of an image that an opening takes, isn't refused; whether its listing was printed or not.
-pub newer_block_there : (b sectors : ℕ) (image : Image) → newer_refusal sectors image ≡ None → b < blocks_in sectors
-    → newer_block_refusal b sectors image ≡ None
-newer_block_there b sectors image is below =
-    ap (λ r. first_of (option_map of_image r) (if nat_lt b (blocks_in sectors) then None else Some NoBlock)) is
-    ∙ ap (λ t. if t then None else Some NoBlock) (lt-ltb b (blocks_in sectors) below)
-
-pub printed_or_not : {T P : Type 0} (r : Result T Failure) (Q : Failure → Type 0) → P → IfErr r (λ e. e ≡ CannotWrite)
-    → MatchResult r (λ t. P) (λ e. (e ≡ Device) ⊎ (e ≡ CannotWrite) ⊎ Q e)
-printed_or_not (Ok t) Q p only = p
-printed_or_not (Err e) Q p only = inr (inl only)
 
 -- What a copy doesn't refuse has sizes of images, and an opening doesn't refuse the old one.
 pub newer_old_size : (old new : ℕ) → copy_size_refusal old new ≡ None → old ≡ sectors_for (blocks_in old)

@@ -8,7 +8,7 @@ use Rattle.recovery.specs.declared.fault.OpenFault.TheVariants as image
 use Rattle.recovery.specs.declared.fault.UpgradeFault.TheVariants.{Old, New}
 use Rattle.recovery.specs.Upgraded.{of_old}
 use Rattle.shadow.specs.Label.{is_known_size, is_size_for}
-use Rattle.shadow.specs.Layout.{sectors_for}
+use Rattle.journal.specs.PageLayout.{sectors_for}
 use Rattle.shadow.specs.Upgraded.{known_blocks, older_refusal, upgrade_refusal, upgrade_size_refusal}
 use Rattle.terminal.proofs.Copies.{both_true, fits, of_old_none, second_of}
 

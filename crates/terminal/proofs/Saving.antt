@@ -5,13 +5,13 @@ use Rattle.sector_disk.specs.Counting.{count_up}
 use Rattle.sector_disk.specs.Disk.{Image, MayLeave}
 use Rattle.sector_disk.specs.declared.device.SectorDevice.{Ghosts}
 use Rattle.sector_disk.proofs.Moments.{leaves_then}
-use Rattle.stores.specs.declared.store.Store.{Store}
+use Rattle.journal.specs.declared.store.Store.{Store}
 use Rattle.journal.specs.declared.store.StoreFault.{StoreFault}
 use Rattle.journal.specs.declared.store.StoreFault.TheVariants.{Closed, Device}
 use Rattle.journal.specs.Calls.{StopsLeave}
-use Rattle.stores.specs.Images.{Means}
+use Rattle.journal.specs.BySize.{Means}
 use Rattle.journal.specs.Maps.{Maps, latest, spilled}
-use Rattle.stores.specs.Store.{KeepsSaved, MeansBy, SavesAllOrNone, Continues, DeviceFailed, StandsFor, closed_of, device_of}
+use Rattle.journal.specs.Store.{KeepsSaved, MeansBy, SavesAllOrNone, Continues, DeviceFailed, StandsFor, closed_of, device_of}
 use Rattle.terminal.specs.Findings.{blocks_for}
 use Rattle.terminal.specs.Transfer.{as_blocks, block_of, cut, spilled_from}
 

@@ -3,8 +3,8 @@ use Rattle.std.proofs.Common.{◌≡◌, ◌∙◌, ◌++◌, ◌∷◌, ◌-◌
 use Rattle.std.proofs.lemmas.Bool.{ltb-false}
 use Rattle.terminal.specs.declared.findings.Finding.{Finding}
 use Rattle.terminal.specs.declared.failure.Failure.{Failure}
-use Rattle.terminal.specs.declared.orders.Form.{Form}
-use Rattle.terminal.specs.declared.orders.Form.TheVariants.{Text, Raw}
+use Rattle.command_line.specs.declared.orders.Form.{Form}
+use Rattle.command_line.specs.declared.orders.Form.TheVariants.{Text, Raw}
 use Rattle.terminal.specs.Findings.{all_rows, blocks_for, failure_of, findings, first_of, of_form, place, refusal, row_findings, said, told, unplaced, when}
 use Rattle.terminal.specs.Screen.{row, texts_of}
 

@@ -6,12 +6,12 @@ use Rattle.std.proofs.KnownBytes.{Appends-trans}
 use Rattle.sector_disk.specs.Disk.{Image, MayLeave}
 use Rattle.sector_disk.specs.declared.device.SectorDevice.{Ghosts}
 use Rattle.sector_disk.proofs.Moments.{elapses_refl, leaves_then}
-use Rattle.stores.specs.declared.store.Store.{Store}
-use Rattle.stores.specs.Images.{Means}
-use Rattle.stores.specs.Store.{MeansBy, device_of}
+use Rattle.journal.specs.declared.store.Store.{Store}
+use Rattle.journal.specs.BySize.{Means}
+use Rattle.journal.specs.Store.{MeansBy, device_of}
 use Rattle.journal.specs.Maps.{Maps, contents}
 use Rattle.block_words.proofs.Saves.{continues_then}
-use Rattle.terminal.specs.declared.orders.Form.{Form}
+use Rattle.command_line.specs.declared.orders.Form.{Form}
 use Rattle.terminal.specs.Screen.{shown}
 use Rattle.terminal.specs.Transfer.{ReadsStore, exported, exported_text, exports, unpadded}
 

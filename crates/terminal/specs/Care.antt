@@ -1,43 +1,13 @@
--- What `check`, `copy`, `salvage` and `list` do of an image that is only read, by the layout that its size tells.
-use Rattle.std.specs.Prelude.{◌⊎◌, ℕ, if◌then◌else◌, List, Option}
-use Rattle.sector_disk.specs.Disk.{Image}
+-- What `copy`, `salvage` and `list` do of an image that is only read, by the layout that its size tells.
+use Rattle.std.specs.Prelude.{◌⊎◌, ℕ, List, Option}
 use Rattle.sector_disk.specs.declared.device.SectorDevice.{Ghosts}
-use Rattle.recovery.specs.Label.{is_size}
-use Rattle.terminal.specs.Checked.{Checks}
+use Rattle.terminal.specs.Checked.{layout_by_size}
 use Rattle.terminal.specs.Copying.{MakesCopy, MakesSalvage}
 use Rattle.terminal.specs.Done.{DoneOn, ListsBlock}
-use Rattle.terminal.specs.NewerCare.{ChecksNewer, MakesNewerCopy, MakesNewerSalvage, ShowsNewer, newer_block_refusal}
-use Rattle.terminal.specs.Shown.{ShowsBlock, block_refusal}
-use Rattle.terminal.specs.declared.failure.Failure.{Failure}
-use Rattle.terminal.specs.declared.orders.Layout.{Layout}
-use Rattle.terminal.specs.declared.orders.Layout.TheVariants.{Two, Three}
-
--- The layout of images with so many sectors. What has the size of no image is refused by layout 3, as an opening does.
-abbrev pub layout_by_size : (sectors : ℕ) → Layout
-layout_by_size sectors = if is_size sectors then Two else Three
-
--- Why a block of an image with so many sectors isn't shown, by the layout that images of this size have.
-abbrev pub shown_refusal : (b sectors : ℕ) (image : Image) → Option Failure
-shown_refusal b sectors image = if is_size sectors then block_refusal b sectors image else newer_block_refusal b sectors image
-
-module _ {D : Type 0} (G : Ghosts D) where
-  -- An image of this layout was checked.
-  abbrev pub ChecksBy : Layout → (written written' : Option (List ℕ)) (device after : D) → Type 0
-  ChecksBy Two written written' device after = Checks G written written' device after
-  ChecksBy Three written written' device after = ChecksNewer G written written' device after
-
-  -- The image on the device was checked.
-  abbrev pub ChecksImage : (written written' : Option (List ℕ)) (device after : D) → Type 0
-  ChecksImage written written' device after = ChecksBy (layout_by_size (G.sector_count device)) written written' device after
-
-  -- A block of an image of this layout was printed.
-  abbrev pub ShowsBy : Layout → (b : ℕ) (written written' : Option (List ℕ)) (device after : D) → Type 0
-  ShowsBy Two b written written' device after = ShowsBlock G b written written' device after
-  ShowsBy Three b written written' device after = ShowsNewer G b written written' device after
-
-  -- A block of the image on the device was printed.
-  abbrev pub ShowsImage : (b : ℕ) (written written' : Option (List ℕ)) (device after : D) → Type 0
-  ShowsImage b written written' device after = ShowsBy (layout_by_size (G.sector_count device)) b written written' device after
+use Rattle.terminal.specs.NewerCare.{MakesNewerCopy, MakesNewerSalvage}
+use Rattle.terminal.specs.Shown.{ShowsImage}
+use Rattle.command_line.specs.declared.orders.Layout.{Layout}
+use Rattle.command_line.specs.declared.orders.Layout.TheVariants.{Two, Three}
 
 module _ {A B : Type 0} (G : Ghosts A) (H : Ghosts B) where
   -- A copy of an image of this layout was made, by the same layout.

@@ -9,13 +9,14 @@ use Rattle.block_words.specs.Words.{Save}
 use Rattle.recovery.specs.Formatted.{FormatLeaves, MakingLeaves, blank_blocks}
 use Rattle.recovery.specs.Upgraded.{OldLeaves}
 use Rattle.shadow.specs.Upgraded.{known_blocks}
-use Rattle.stores.specs.Images.{Means, meaning}
+use Rattle.journal.specs.BySize.{Means}
+use Rattle.stores.specs.Images.{meaning}
 use Rattle.stores.specs.Opened.{OpeningLeaves, reads_for, syncs_for, writes_for}
-use Rattle.stores.specs.Suits.{suits}
+use Rattle.journal.specs.Suits.{suits}
 use Rattle.interpreter.specs.State.{Forth}
 use Rattle.interpreter.specs.Lines.{new_forth}
 use Rattle.interpreter.specs.Promise.{Keeps}
-use Rattle.terminal.specs.declared.orders.Form.{Form}
+use Rattle.command_line.specs.declared.orders.Form.{Form}
 use Rattle.terminal.specs.Findings.{blocks_for, refusal, said, told}
 use Rattle.terminal.specs.Older as older
 use Rattle.terminal.specs.Screen.{listing, screen_of}

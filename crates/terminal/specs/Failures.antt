@@ -9,6 +9,8 @@ use Rattle.recovery.specs.declared.fault.UpgradeFault.{UpgradeFault}
 use Rattle.recovery.specs.declared.fault.UpgradeFault.TheVariants.{Old, New}
 use Rattle.terminal.specs.declared.failure.Failure.{Failure}
 use Rattle.terminal.specs.declared.failure.Failure.TheVariants.{BadSize, NoLabel, OtherVersion, WrongCount, Damaged, Device, Exists, CannotOpen, InUse, NoBlock, CannotRead, NotAScreen, CannotWrite, NoMemory}
+use Rattle.image_care.specs.declared.all_blocks.ReadFault.{ReadFault}
+use Rattle.image_care.specs.declared.all_blocks.ReadFault.TheVariants as reading
 use Rattle.sessions.specs.declared.run_fault.RunFault.{RunFault}
 use Rattle.sessions.specs.declared.run_fault.RunFault.TheVariants.{Read, Write}
 
@@ -37,6 +39,10 @@ of_image image.OtherVersion = OtherVersion
 of_image image.WrongCount = WrongCount
 of_image image.Damaged = Damaged
 of_image image.Device = Device
+
+abbrev pub of_reading : ReadFault → Failure
+of_reading (reading.Refused fault) = of_image fault
+of_reading reading.NoMemory = NoMemory
 
 -- of an upgrade, whichever of both images it is
 abbrev pub of_upgrade : UpgradeFault → Failure

@@ -1,9 +1,9 @@
 -- Devices over files that a system opened or made under a name, and stores that were opened over a device.
 use Rattle.std.specs.Prelude.{◌≡◌, ℕ, false, IsTrue}
 use Rattle.sector_disk.specs.declared.device.SectorDevice as device
-use Rattle.stores.specs.declared.store.Store.{Store}
-use Rattle.stores.specs.Store.{StandsFor, blocks_of, closed_of, device_of, pending_count}
-use Rattle.stores.specs.Suits.{suits}
+use Rattle.journal.specs.declared.store.Store.{Store}
+use Rattle.journal.specs.Store.{StandsFor, blocks_of, closed_of, device_of, pending_count}
+use Rattle.journal.specs.Suits.{suits}
 use Rattle.sector_disk.specs.Opening.{AreZeros, KeepsGoing, sectors_in}
 use Rattle.sector_disk.specs.SectorFile.{file_of, sectors_of}
 use Rattle.sector_disk.specs.declared.file.SectorFile.{SectorFile}

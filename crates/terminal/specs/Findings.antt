@@ -5,8 +5,8 @@ use Rattle.terminal.specs.declared.failure.Failure.{Failure}
 use Rattle.terminal.specs.declared.failure.Failure.TheVariants as failure
 use Rattle.terminal.specs.declared.findings.Finding.{Finding}
 use Rattle.terminal.specs.declared.findings.Finding.TheVariants.{LongLine, RunsOn, Unprintable, NoBlock, PartOfABlock, MoreBlocks}
-use Rattle.terminal.specs.declared.orders.Form.{Form}
-use Rattle.terminal.specs.declared.orders.Form.TheVariants.{Text, Raw}
+use Rattle.command_line.specs.declared.orders.Form.{Form}
+use Rattle.command_line.specs.declared.orders.Form.TheVariants.{Text, Raw}
 use Rattle.terminal.specs.Screen.{row, texts_of}
 
 -- the rows of lines

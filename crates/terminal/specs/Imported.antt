@@ -1,14 +1,14 @@
 -- Blocks of a store that were made those of a file.
 use Rattle.std.specs.Prelude.{◌≡◌, ◌⊎◌, ◌<◌, ◌≤◌, ◌+◌, ◌-◌, ◌*◌, ℕ, false, List, None, length}
 use Rattle.sector_disk.specs.declared.device.SectorDevice.{Ghosts}
-use Rattle.stores.specs.declared.store.Store.{Store}
+use Rattle.journal.specs.declared.store.Store.{Store}
 use Rattle.journal.specs.Calls.{StopsLeave}
 use Rattle.journal.specs.Maps.{Maps, committed, latest, spilled}
-use Rattle.stores.specs.Store.{DeviceBegins, DeviceReads, MeansBy, StandsFor, blocks_of, closed_of, device_of, pending_count}
+use Rattle.journal.specs.Store.{DeviceBegins, DeviceReads, MeansBy, StandsFor, blocks_of, closed_of, device_of, pending_count}
 use Rattle.terminal.specs.Done.{SavesBlocks}
 use Rattle.terminal.specs.Findings.{blocks_for, refusal, said, told}
 use Rattle.terminal.specs.Transfer.{as_blocks, spilled_from}
-use Rattle.terminal.specs.declared.orders.Form.{Form}
+use Rattle.command_line.specs.declared.orders.Form.{Form}
 
 module _ {D : Type 0} {G : Ghosts D} where
   -- Bytes were spilled as a block, by a store that no fault has closed.

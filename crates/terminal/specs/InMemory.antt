@@ -9,10 +9,10 @@ use Rattle.recovery.specs.Formatted.{blank_blocks}
 use Rattle.block_words.specs.Words.{Save}
 use Rattle.interpreter.specs.State.{Forth}
 use Rattle.interpreter.specs.Lines.{new_forth}
-use Rattle.terminal.specs.declared.orders.Order.{Order}
-use Rattle.terminal.specs.declared.orders.Order.TheVariants.{Memory}
+use Rattle.command_line.specs.declared.orders.Order.{Order}
+use Rattle.command_line.specs.declared.orders.Order.TheVariants.{Memory}
 use Rattle.sessions.specs.declared.run_fault.RunFault.{RunFault}
-use Rattle.terminal.specs.Commands.{forth83}
+use Rattle.command_line.specs.Commands.{forth83}
 use Rattle.sessions.specs.Sessions.{Completes, BreaksOff}
 
 -- the words are no command, and nothing in them is refused

@@ -1,9 +1,10 @@
 pub mod Screen
 pub mod Checked
-pub mod Commands
-pub mod CommandRows
+pub mod Compared
+pub mod OrderDone
 pub mod InMemory
 pub mod Failures
+pub mod Damage
 pub mod Done
 pub mod Older
 pub mod Newer

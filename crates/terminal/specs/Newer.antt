@@ -7,13 +7,13 @@ use Rattle.journal.specs.Images.{meaning}
 use Rattle.journal.specs.Layout as older
 use Rattle.recovery.specs.Formatted.{blank_blocks}
 use Rattle.shadow.specs.Formatted.{FormatLeaves, MakingLeaves}
-use Rattle.shadow.specs.Images.{Means}
-use Rattle.shadow.specs.Layout.{sectors_for}
+use Rattle.journal.specs.PageImages.{Means}
+use Rattle.journal.specs.PageLayout.{sectors_for}
 use Rattle.shadow.specs.Upgraded.{known_blocks, older_refusal, reads_to_list}
 use Rattle.sessions.specs.Devices.{Becomes}
 use Rattle.terminal.specs.Done.{DoneOn, MakesBlank, Upgraded, blocks_on}
-use Rattle.terminal.specs.declared.orders.Layout.{Layout}
-use Rattle.terminal.specs.declared.orders.Layout.TheVariants.{Two, Three}
+use Rattle.command_line.specs.declared.orders.Layout.{Layout}
+use Rattle.command_line.specs.declared.orders.Layout.TheVariants.{Two, Three}
 
 module _ {D : Type 0} (G : Ghosts D) where
   -- A stop now leaves these blocks, by layout 3.

@@ -1,60 +1,25 @@
--- What `check`, `copy`, `salvage` and `list` do of an image of layout 3 that is only read, on any devices.
-use Rattle.std.specs.Prelude.{◌≡◌, ℕ, zero, suc, ◌+◌, ◌*◌, ◌<◌, nat_lt, if◌then◌else◌, IsTrue, List, [], ◌++◌, Option, Some, None, codes}
-use Rattle.std.specs.Prelude.{option_and_then, option_map}
-use Rattle.std.specs.Fmt.{decimal}
+-- What `copy` and `salvage` do of an image of layout 3 that is only read, on any devices.
+use Rattle.std.specs.Prelude.{◌≡◌, ℕ, ◌+◌, ◌*◌, if◌then◌else◌, IsTrue, List, ◌++◌, Option, Some, None, codes, option_and_then}
 use Rattle.std.specs.Io.KnownBytes.{Appends}
-use Rattle.std.specs.List.{concat}
-use Rattle.sha2.specs.Sha256.{sha256}
-use Rattle.sector_disk.specs.Disk.{Image, MayLeave}
 use Rattle.sector_disk.specs.declared.device.SectorDevice.{Ghosts}
 use Rattle.journal.specs.Calls.{BeginsAtMost, ReadsAtMost, StopsLeave}
 use Rattle.journal.specs.Layout.{listed}
-use Rattle.journal.specs.Maps.{contents, fresh}
-use Rattle.recovery.specs.Opened.{first_of}
 use Rattle.recovery.specs.Steps.{OnlyRead}
 use Rattle.image_care.specs.Copied.{grown}
 use Rattle.shadow.specs.Formatted.{MakingLeaves}
-use Rattle.shadow.specs.Images.{IsWhole, meaning, record_of}
+use Rattle.journal.specs.PageImages.{IsWhole, meaning, record_of}
 use Rattle.shadow.specs.Label.{blocks_in, is_size}
-use Rattle.shadow.specs.Layout.{sectors_for}
-use Rattle.shadow.specs.Opened.{HasMeaning}
+use Rattle.journal.specs.PageLayout.{sectors_for}
 use Rattle.stores.specs.Opened.{newer_refusal}
-use Rattle.shadow_care.specs.Standing.{reads_to_take, salvaged_blocks, standing_of}
-use Rattle.shadow_care.specs.declared.salvaging.Taken.{Taken}
-use Rattle.shadow_care.specs.declared.standing.Standing.{Standing}
-use Rattle.shadow_care.specs.declared.standing.Standing.TheVariants.{Current, Other, Nowhere}
+use Rattle.image_care.specs.Standing.{reads_to_take, salvaged_blocks}
+use Rattle.image_care.specs.declared.pages.salvaging.Taken.{Taken}
+use Rattle.image_care.specs.declared.pages.standing.Standing.{Standing}
+use Rattle.image_care.specs.declared.pages.standing.Standing.TheVariants.{Current, Other, Nowhere}
 use Rattle.sessions.specs.Devices.{Becomes}
-use Rattle.terminal.specs.Checked.{line, report}
+use Rattle.terminal.specs.Checked.{line}
 use Rattle.terminal.specs.Copying.{MadeOf, copied_count, salvaged_count}
-use Rattle.terminal.specs.Failures.{of_image}
+use Rattle.terminal.specs.Damage.{damage_report}
 use Rattle.terminal.specs.Newer.{LeavesNewer}
-use Rattle.terminal.specs.Screen.{listing}
-use Rattle.terminal.specs.declared.failure.Failure.{Failure}
-use Rattle.terminal.specs.declared.failure.Failure.TheVariants.{NoBlock}
-use Rattle.terminal.specs.declared.orders.Layout.TheVariants.{Three}
-
--- what is told of an image of n blocks on a device of so many sectors: no save of it ever waits to be finished
-abbrev pub newer_report : (sectors n : ℕ) → Image → List ℕ
-newer_report sectors n image = report (512 * sectors) Three n None (sha256 (concat (meaning n image)))
-
--- what is told of block b, where it is damaged in the place that counts
-abbrev pub damage_line : (b : ℕ) → Standing → List ℕ
-damage_line b Current = []
-damage_line b Other = line (codes "block " ++ decimal b) (codes "damaged, whole in its other place")
-damage_line b Nowhere = line (codes "block " ++ decimal b) (codes "damaged in both places")
-
--- the same of the first n blocks, in rising order
-abbrev pub damage_lines : (n : ℕ) → (ℕ → Standing) → List ℕ
-damage_lines zero standing = []
-damage_lines (suc n) standing = damage_lines n standing ++ damage_line n (standing n)
-
--- the same of an image with so many sectors, if it has the size of one
-abbrev pub damage_told : (sectors : ℕ) → (ℕ → Standing) → List ℕ
-damage_told sectors standing = if is_size sectors then damage_lines (blocks_in sectors) standing else []
-
--- what is told of the blocks of a damaged image with so many sectors
-abbrev pub damage_report : (sectors : ℕ) → Image → List ℕ
-damage_report sectors image = damage_told sectors (standing_of image)
 
 -- where block b stood, by what a salvage took from other places and what it didn't have
 abbrev pub standing_by : Taken → (b : ℕ) → Standing
@@ -75,11 +40,6 @@ newer_count_for_copy sectors asked = option_and_then (λ n. copied_count n asked
 abbrev pub newer_count_for_salvage : (sectors : ℕ) → (asked : Option ℕ) → Option ℕ
 newer_count_for_salvage sectors asked = option_and_then (λ n. salvaged_count n asked) (newer_count_on sectors)
 
--- the refusal of a block of an image on so many sectors: as an opening refuses the image, and then where it has no such block
-abbrev pub newer_block_refusal : (b sectors : ℕ) → Image → Option Failure
-newer_block_refusal b sectors image =
-    first_of (option_map of_image (newer_refusal sectors image)) (if nat_lt b (blocks_in sectors) then None else Some NoBlock)
-
 module _ {D : Type 0} (G : Ghosts D) where
   -- how many blocks an image of layout 3 on the device has
   abbrev pub blocks_on : D → ℕ
@@ -88,30 +48,6 @@ module _ {D : Type 0} (G : Ghosts D) where
   -- the blocks that it means
   abbrev pub meant_by : D → List (List ℕ)
   meant_by device = meaning (blocks_on device) (G.disk device).content
-
-  -- `check`: the image on the device, which has a meaning, was told of by reads alone, and no more of them than it asks for.
-  -- Nothing was written or synced, so a stop at any moment leaves what one could leave before.
-  pub record ChecksNewer (written written' : Option (List ℕ)) (device after : D) : Type 0 where
-    pub goes : Becomes G device after
-    pub meant : IsTrue (G.keeps_model device) → HasMeaning (blocks_on device) (G.disk device).content
-    pub told : IsTrue (G.keeps_model device)
-        → Appends written written' (newer_report (G.sector_count device) (blocks_on device) (G.disk device).content)
-    pub same : IsTrue (G.keeps_model device) → G.disk after ≡ G.disk device
-    pub stops : IsTrue (G.keeps_model device) → StopsLeave G device after (MayLeave (G.disk device))
-    pub begins : BeginsAtMost G device after 0 0
-    pub reads : ReadsAtMost G device after (5 * blocks_on device + 3)
-
-  -- `list`: the listing of a block that is there was printed, as an opening finds it, by reads alone, and no more of them than it
-  -- asks for. Nothing was written or synced, so a stop at any moment leaves what one could leave before.
-  pub record ShowsNewer (b : ℕ) (written written' : Option (List ℕ)) (device after : D) : Type 0 where
-    pub goes : Becomes G device after
-    pub meant : IsTrue (G.keeps_model device) → HasMeaning (blocks_on device) (G.disk device).content
-    pub there : b < blocks_on device
-    pub listed : IsTrue (G.keeps_model device) → Appends written written' (listing (contents (fresh (meant_by device)) b))
-    pub same : IsTrue (G.keeps_model device) → G.disk after ≡ G.disk device
-    pub stops : IsTrue (G.keeps_model device) → StopsLeave G device after (MayLeave (G.disk device))
-    pub begins : BeginsAtMost G device after 0 0
-    pub reads : ReadsAtMost G device after (3 * blocks_on device + 5)
 
 module _ {A B : Type 0} (G : Ghosts A) (H : Ghosts B) where
   -- `copy`: the image on the source, which an opening takes, was only read, and the other device has become an image of its

@@ -1,10 +1,10 @@
 -- A text that was made a block of a store, whatever its bytes are.
 use Rattle.std.specs.Prelude.{◌≡◌, ◌⊎◌, ℕ, false, List, Some}
 use Rattle.sector_disk.specs.declared.device.SectorDevice.{Ghosts}
-use Rattle.stores.specs.declared.store.Store.{Store}
+use Rattle.journal.specs.declared.store.Store.{Store}
 use Rattle.journal.specs.Calls.{StopsLeave}
 use Rattle.journal.specs.Maps.{Maps, committed, latest, spilled}
-use Rattle.stores.specs.Store.{MeansBy, StandsFor, device_of}
+use Rattle.journal.specs.Store.{MeansBy, StandsFor, device_of}
 use Rattle.terminal.specs.Done.{SavesBlock}
 use Rattle.terminal.specs.Screen.{screen_of}
 

@@ -1,15 +1,18 @@
 -- A block that is printed of an image by reads alone, on any device.
-use Rattle.std.specs.Prelude.{◌≡◌, ℕ, ◌+◌, ◌<◌, nat_lt, if◌then◌else◌, IsTrue, List, Option, Some, None, option_map}
+use Rattle.std.specs.Prelude.{◌≡◌, ℕ, ◌+◌, ◌*◌, ◌<◌, nat_lt, false, if◌then◌else◌, IsTrue, List, Option, Some, None, option_map}
 use Rattle.std.specs.Io.KnownBytes.{Appends}
 use Rattle.sector_disk.specs.Disk.{Image, MayLeave}
 use Rattle.sector_disk.specs.declared.device.SectorDevice.{Ghosts}
 use Rattle.journal.specs.Calls.{BeginsAtMost, ReadsAtMost, StopsLeave}
-use Rattle.journal.specs.Chain.{HasMeaning}
 use Rattle.journal.specs.Maps.{contents}
-use Rattle.image_care.specs.Examined.{reads_to_list}
-use Rattle.recovery.specs.Label.{blocks_in}
-use Rattle.recovery.specs.Opened.{first_of, image_refusal}
-use Rattle.terminal.specs.Older.{blocks_on, maps_on}
+use Rattle.recovery.specs.Label.{is_size}
+use Rattle.recovery.specs.Opened.{first_of}
+use Rattle.shadow.specs.Label.{blocks_in}
+use Rattle.shadow.specs.Upgraded.{known_blocks}
+use Rattle.stores.specs.Images.{HasMeaning}
+use Rattle.stores.specs.Opened.{image_refusal}
+use Rattle.image_care.specs.Looked.{reads_to_look}
+use Rattle.terminal.specs.Done.{blocks_on, maps_on}
 use Rattle.terminal.specs.Failures.{of_image}
 use Rattle.terminal.specs.Screen.{listing}
 use Rattle.terminal.specs.declared.failure.Failure.{Failure}
@@ -19,19 +22,20 @@ use Rattle.sessions.specs.Devices.{Becomes}
 -- the refusal of a block of an image on so many sectors: as an opening refuses the image, and then where it has no such block
 abbrev pub block_refusal : (b sectors : ℕ) → Image → Option Failure
 block_refusal b sectors image =
-    first_of (option_map of_image (image_refusal sectors image)) (if nat_lt b (blocks_in sectors) then None else Some NoBlock)
+    first_of (option_map of_image (image_refusal sectors image)) (if nat_lt b (known_blocks sectors) then None else Some NoBlock)
 
 module _ {D : Type 0} (G : Ghosts D) where
   -- `list` of an image that may only be read: the listing of a block that is there was printed, as an opening would recover it, by
-  -- reads alone, and no more of them than it asks for. Nothing was written or synced, so a stop at any moment leaves what one
-  -- could leave before.
-  pub record ShowsBlock (b : ℕ) (written written' : Option (List ℕ)) (device after : D) : Type 0 where
+  -- reads alone, and no more of them than it asks for: of layout 3 the size alone tells how many. Nothing was written or synced, so
+  -- a stop at any moment leaves what one could leave before.
+  pub record ShowsImage (b : ℕ) (written written' : Option (List ℕ)) (device after : D) : Type 0 where
     pub goes : Becomes G device after
-    pub meant : IsTrue (G.keeps_model device) → HasMeaning (blocks_on G device) (G.disk device).content
+    pub meant : IsTrue (G.keeps_model device) → HasMeaning (G.sector_count device) (G.disk device).content
     pub there : b < blocks_on G device
     pub listed : IsTrue (G.keeps_model device) → Appends written written' (listing (contents (maps_on G device) b))
     pub same : IsTrue (G.keeps_model device) → G.disk after ≡ G.disk device
     pub stops : IsTrue (G.keeps_model device) → StopsLeave G device after (MayLeave (G.disk device))
     pub begins : BeginsAtMost G device after 0 0
     pub reads : IsTrue (G.keeps_model device)
-        → ReadsAtMost G device after (reads_to_list (blocks_on G device) (G.disk device).content + 3)
+        → ReadsAtMost G device after (reads_to_look (G.sector_count device) (G.disk device).content + 2)
+    pub few : is_size (G.sector_count device) ≡ false → ReadsAtMost G device after (3 * blocks_in (G.sector_count device) + 5)

@@ -2,11 +2,11 @@
 use Rattle.std.specs.Prelude.{◌≡◌, ℕ, zero, suc, ◌-◌, List, [], ◌∷◌, ◌++◌, length, map, replicate, take, drop}
 use Rattle.sector_disk.specs.declared.device.SectorDevice.{Ghosts}
 use Rattle.cell_machine.specs.Effects.{trimmed}
-use Rattle.stores.specs.declared.store.Store.{Store}
+use Rattle.journal.specs.declared.store.Store.{Store}
 use Rattle.journal.specs.Maps.{Maps, contents, spilled}
-use Rattle.stores.specs.Store.{Continues, DeviceBegins, DeviceReads, KeepsSaved, StandsFor, closed_of}
-use Rattle.terminal.specs.declared.orders.Form.{Form}
-use Rattle.terminal.specs.declared.orders.Form.TheVariants.{Text, Raw}
+use Rattle.journal.specs.Store.{Continues, DeviceBegins, DeviceReads, KeepsSaved, StandsFor, closed_of}
+use Rattle.command_line.specs.declared.orders.Form.{Form}
+use Rattle.command_line.specs.declared.orders.Form.TheVariants.{Text, Raw}
 use Rattle.terminal.specs.Findings.{blocks_for}
 use Rattle.terminal.specs.Screen.{shown}
 

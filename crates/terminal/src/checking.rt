@@ -1,30 +1,33 @@
 //! An image is checked: what it holds is told, and nothing of it is changed.
+//! Rule: MANUAL, forth83 check IMAGE.
 ghost use Rattle.std.specs.Prelude.{◌≡◌, ◌≢◌, ◌⊎◌, ◌+◌, ◌*◌, Some, None, string_bytes};
 ghost use Rattle.std.specs.Prelude.{IsTrue, IfErr, IfOk, MatchBool, MatchResult, OnOk, option_map};
 ghost use Rattle.std.specs.Io.KnownBytes.{Appends};
 ghost use Rattle.sector_disk.specs.Counting.{count_up};
 ghost use Rattle.sector_disk.specs.Disk.{MayLeave};
 ghost use Rattle.journal.specs.Calls.{BeginsAtMost, StopsLeave};
-ghost use Rattle.recovery.specs.Label.{is_size};
-ghost use Rattle.recovery.specs.Opened.{image_refusal};
-ghost use Rattle.stores.specs.Opened.{image_refusal as image_refusal_by_size};
-ghost use Rattle.terminal.specs.Care.{ChecksImage};
-ghost use Rattle.terminal.specs.Checked.{Checks, report, save_text};
+ghost use Rattle.shadow.specs.Label.{is_known_size};
+ghost use Rattle.stores.specs.Opened.{image_refusal};
+ghost use Rattle.terminal.specs.Checked.{ChecksImage, layout_by_size, report, save_text};
+ghost use Rattle.terminal.specs.Damage.{damage_report};
 ghost use Rattle.terminal.specs.Done.{Comes};
 ghost use Rattle.terminal.specs.Failures.{of_image};
 ghost use Rattle.terminal.specs.Files.{IsOpened};
+ghost use Rattle.command_line.specs.declared.orders.Layout.TheVariants.{Two, Three};
 
+use super::damage::tell_damage;
 use super::failure::Failure;
 use super::layouts::{layout_by_size, version_of};
-use super::newer_checking::check_newer_over;
-use super::orders::Layout;
+use command_line::orders::Layout;
 use image_care::examine;
+use recovery::OpenFault;
 use sector_disk::{HostFile, HostFiles, SectorDevice, SectorFile, open_disk};
 use sessions::streams::{flush, write_bytes};
 use std::alloc::{AllocError, Global};
 use std::io::Write;
 
-/// Prints what an image holds. Its file is opened for nothing but that, and is given back.
+/// Prints what an image holds. Its file is opened for nothing but that, and is given back. Its failures: `CannotOpen`
+/// or `InUse` where the file can't be opened for reading, then those of `check_over`.
 pub fn check_image<H: HostFile + Drop, O: HostFiles<H>, W: Write>(
     alloc: Global,
     files: &O,
@@ -36,98 +39,84 @@ pub fn check_image<H: HostFile + Drop, O: HostFiles<H>, W: Write>(
         (ChecksImage ⟦<SectorFile<H> as SectorDevice>⟧ (W.contents output.old) (W.contents output.new)) disk) }
 {
     let mut disk = open_disk(files, path)?;
-    match check_by_size(alloc, &mut disk, output) {
+    match check_over(alloc, &mut disk, output) {
         Ok(()) => Ok(disk),
         Err(failure) => Err(failure),
     }
 }
 
-/// Prints what the image on a device holds, by the layout that its size tells.
-fn check_by_size<D: SectorDevice, W: Write>(
-    alloc: Global,
-    device: &mut D,
-    output: &mut W,
-) -> Result<(), Failure>
-    ensures checks { OnOk result (ChecksImage D.SectorDevice (W.contents output.old) (W.contents output.new) device.old device.new) }
-    // Each refusal tells the first test that the image fails, by the layout of its size.
-    ensures exact { IsTrue (D.keeps_model device.old) → MatchResult result
-        (λ _. image_refusal_by_size (D.sector_count device.old) (D.disk device.old).content ≡ None)
-        (λ e. (e ≡ Failure.Device) ⊎ (e ≡ Failure.NoMemory) ⊎ (e ≡ Failure.CannotWrite) ⊎ (Some e ≡ option_map of_image
-        (image_refusal_by_size (D.sector_count device.old) (D.disk device.old).content))) }
-    // A fault of the device is told just where one of its calls failed.
-    ensures device { IfErr result (λ e. e ≡ Failure.Device → D.failures device.new ≡ count_up (D.failures device.old)) }
-    ensures refused { IfErr result (λ e. e ≢ Failure.Device → D.failures device.new ≡ D.failures device.old) }
-    ensures well { OnOk result (D.failures device.new ≡ D.failures device.old) }
-    // Where nothing is told of the image, nothing was printed.
-    ensures unprinted { IfErr result (λ e. e ≢ Failure.CannotWrite → e ≢ Failure.Damaged → output.new ≡ output.old) }
-{
-    match layout_by_size(device.sectors()) {
-        Layout::Two => check_over(alloc, device, output),
-        Layout::Three => check_newer_over(alloc, device, output),
-    }
-}
-
 /// What is told of an image.
 #[derive(Clone, Copy)]
-pub(super) struct ImageReport {
+struct ImageReport {
     /// The length of its file, in bytes.
-    pub(super) bytes: u32,
-    pub(super) layout: Layout,
-    pub(super) blocks: u16,
+    bytes: u64,
+    layout: Layout,
+    blocks: u16,
     /// How many blocks a save has that is under way, where one is.
-    pub(super) under_way: Option<u16>,
+    under_way: Option<u16>,
     /// The SHA-256 of its blocks.
-    pub(super) digest: [u8; 32],
+    digest: [u8; 32],
 }
 
-/// Prints what the image of layout 2 on a device holds. Where it is refused nothing is printed.
+/// Prints what the image on a device holds. Of a damaged one of layout 3 it prints which blocks are damaged; where an
+/// image is refused for something else, or a damaged one is of layout 2, nothing is printed. Its failures are those of
+/// an opening, the first that holds; `Device` where a call of the device failed, `NoMemory`, and `CannotWrite` where
+/// the output failed.
 pub fn check_over<D: SectorDevice, W: Write>(
     alloc: Global,
     device: &mut D,
     output: &mut W,
 ) -> Result<(), Failure>
-    ensures checks { OnOk result (Checks D.SectorDevice (W.contents output.old) (W.contents output.new) device.old device.new) }
+    ensures checks { OnOk result (ChecksImage D.SectorDevice (W.contents output.old) (W.contents output.new) device.old device.new) }
     // Each refusal tells the first test that the image fails.
     ensures exact { IsTrue (D.keeps_model device.old) → MatchResult result
         (λ _. image_refusal (D.sector_count device.old) (D.disk device.old).content ≡ None)
         (λ e. (e ≡ Failure.Device) ⊎ (e ≡ Failure.NoMemory) ⊎ (e ≡ Failure.CannotWrite) ⊎ (Some e ≡ option_map of_image
         (image_refusal (D.sector_count device.old) (D.disk device.old).content))) }
-    ensures bad_size { IfErr result (λ e. MatchBool (is_size (D.sector_count device.old))
+    ensures bad_size { IfErr result (λ e. MatchBool (is_known_size (D.sector_count device.old))
         (e ≢ Failure.BadSize) (e ≡ Failure.BadSize)) }
+    // Of a damaged image of layout 3 the damaged blocks are told.
+    ensures damaged { IsTrue (D.keeps_model device.old) → layout_by_size (D.sector_count device.old) ≡ Three
+        → IfErr result (λ e. e ≡ Failure.Damaged → Appends (W.contents output.old) (W.contents output.new)
+        (damage_report (D.sector_count device.old) (D.disk device.old).content)) }
     // A fault of the device is told just where one of its calls failed.
     ensures device { IfErr result (λ e. e ≡ Failure.Device → D.failures device.new ≡ count_up (D.failures device.old)) }
     ensures refused { IfErr result (λ e. e ≢ Failure.Device → D.failures device.new ≡ D.failures device.old) }
     ensures well { OnOk result (D.failures device.new ≡ D.failures device.old) }
-    // Where nothing is told of the image, nothing was printed.
-    ensures unprinted { IfErr result (λ e. e ≢ Failure.CannotWrite → output.new ≡ output.old) }
+    // Where nothing is told of the image, nothing was printed. Of layout 2 that is so of a damaged one too.
+    ensures unprinted { IfErr result (λ e. e ≢ Failure.CannotWrite → e ≢ Failure.Damaged → output.new ≡ output.old) }
+    ensures silent { layout_by_size (D.sector_count device.old) ≡ Two
+        → IfErr result (λ e. e ≢ Failure.CannotWrite → output.new ≡ output.old) }
     // Whatever the answer is, nothing was written or synced.
     ensures same { IsTrue (D.keeps_model device.old) → D.disk device.new ≡ D.disk device.old }
     ensures stops { IsTrue (D.keeps_model device.old)
         → StopsLeave D.SectorDevice device.old device.new (MayLeave (D.disk device.old)) }
     ensures begins { BeginsAtMost D.SectorDevice device.old device.new 0 0 }
 {
+    let sectors = device.sectors();
+    let layout = layout_by_size(sectors);
     match examine(device) {
         Ok(found) => {
             let digest = found.digest;
             let told = ImageReport {
-                bytes: 512 * (3 + 4 * found.blocks as u32),
-                layout: Layout::Two,
+                bytes: 512 * sectors as u64,
+                layout,
                 blocks: found.blocks,
                 under_way: found.under_way,
                 digest,
             };
             print_report(alloc, &told, output)
         }
+        Err(OpenFault::Damaged) => match tell_damage(alloc, device, layout, output) {
+            Ok(()) => Err(Failure::Damaged),
+            Err(untold) => Err(untold),
+        },
         Err(fault) => Err(Failure::from(fault)),
     }
 }
 
 /// Prints what is told of an image.
-pub(super) fn print_report<W: Write>(
-    alloc: Global,
-    told: &ImageReport,
-    output: &mut W,
-) -> Result<(), Failure>
+fn print_report<W: Write>(alloc: Global, told: &ImageReport, output: &mut W) -> Result<(), Failure>
     ensures ok { OnOk result (Appends (W.contents output.old) (W.contents output.new)
         (report told.now.bytes told.now.layout told.now.blocks told.now.under_way told.now.digest)) }
     ensures only { IfErr result (λ e. (e ≡ Failure.NoMemory) ⊎ (e ≡ Failure.CannotWrite)) }

@@ -1,4 +1,5 @@
 //! An image is copied, or salvaged, into a new file. The old one is opened for reading alone.
+//! Rule: MANUAL, forth83 copy OLD NEW [--blocks N].
 ghost use Rattle.std.specs.Prelude.{◌≡◌, ◌≢◌, ◌⊎◌, ◌≤◌, ℕ, Some, None, IsTrue, IfErr, IfOk, IfSome, MatchResult, OnOk, option_map};
 ghost use Rattle.std.specs.Io.KnownBytes.{Appends};
 ghost use Rattle.sector_disk.specs.Counting.{count_up};
@@ -19,7 +20,7 @@ use super::failure::Failure;
 use super::layouts::layout_by_size;
 use super::newer_copying::copy_newer_into;
 use super::newer_salvaging::salvage_newer_into;
-use super::orders::Layout;
+use command_line::orders::Layout;
 use image_care::{copy, salvage};
 use journal::layout::MOST_BLOCKS;
 use recovery::blocks_of_size;
@@ -31,9 +32,10 @@ use std::io::Write;
 const NO_RECOVERY: &str =
     "salvaged, not recovered: of a save that was under way some blocks may be old and some new\n";
 
-/// Makes an image of the blocks of one, by the same layout, in a new file, and gives both files: of `asked` blocks, or of as many
-/// as the old one has. Nothing is made where the old one has the size of no image, or where it has more blocks than are asked for;
-/// and whatever has the new name already stays as it is.
+/// Makes an image of the blocks of one, by the same layout, in a new file, and gives both files: of `asked` blocks, or
+/// of as many as the old one has. Nothing is made where the old one has the size of no image, or where it has more
+/// blocks than are asked for (`BadSize`), or where it can't be opened (`CannotOpen`, `InUse`); and whatever has the new
+/// name already stays as it is (`Exists`). Its other failures are those of `copy_over` and `copy_newer_over`.
 pub fn copy_image<K: HostFile + Drop, P: HostFiles<K>, H: HostFile + Drop, O: HostFiles<H>>(
     looking: &P,
     files: &O,
@@ -99,9 +101,12 @@ fn copy_into<A: SectorDevice, H: HostFile + Drop, O: HostFiles<H>>(
     }
 }
 
-/// Makes an image of what can be had of a damaged one, by the same layout, in a new file, tells that this is no recovery, and gives
-/// both files. Nothing is made where the old one has the size of no image, or of one of another number of blocks than is asked for;
-/// and whatever has the new name already stays as it is.
+/// Makes an image of what can be had of a damaged one, by the same layout, in a new file, tells that this is no
+/// recovery, and gives both files. Nothing is made where the old one has the size of no image, or of one of another
+/// number of blocks than is asked for (`BadSize`), or where it can't be opened (`CannotOpen`, `InUse`); and whatever
+/// has the new name already stays as it is (`Exists`). Its other failures are those of `salvage_over` and
+/// `salvage_newer_over`.
+/// Rule: MANUAL, forth83 salvage OLD NEW [--blocks N].
 pub fn salvage_image<
     K: HostFile + Drop,
     P: HostFiles<K>,
@@ -232,7 +237,10 @@ pub(super) fn salvaged_count(blocks: u16, asked: Option<u16>) -> Option<u16>
     }
 }
 
-/// Makes an image of layout 2 of the blocks of the one on another device, of as many sectors or more.
+/// Makes an image of layout 2 of the blocks of the one on another device, of as many sectors or more. Its failures:
+/// `BadSize` where the sizes don't fit, then those of an opening, the first that holds, with no call of the new device;
+/// and `Device` where a call of either failed.
+/// Rule: MANUAL, forth83 copy OLD NEW [--blocks N]; IMAGE, For another writer.
 pub fn copy_over<A: SectorDevice, B: SectorDevice>(old: &mut A, new: &mut B) -> Result<(), Failure>
     ensures copies { OnOk result (Copies A.SectorDevice B.SectorDevice old.old old.new new.old new.new) }
     // Each refusal tells the first test that fails: the sizes, and then the old image as an opening refuses it.
@@ -262,8 +270,10 @@ pub fn copy_over<A: SectorDevice, B: SectorDevice>(old: &mut A, new: &mut B) -> 
     }
 }
 
-/// Makes an image of layout 2 of what can be had of the one on another device, of as many sectors, and tells that this is no
-/// recovery.
+/// Makes an image of layout 2 of what can be had of the one on another device, of as many sectors, and tells that this
+/// is no recovery. Its failures: `BadSize` where the sizes don't fit, with no call of the new device; `Device` where a
+/// call of either failed; and `CannotWrite` where that couldn't be told, though the image is there.
+/// Rule: MANUAL, forth83 salvage OLD NEW [--blocks N].
 pub fn salvage_over<A: SectorDevice, B: SectorDevice, W: Write>(
     old: &mut A,
     new: &mut B,

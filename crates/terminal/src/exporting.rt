@@ -1,23 +1,26 @@
 //! Many blocks at once, printed.
+//! Rule: MANUAL, forth83 export IMAGE FIRST LAST [--raw].
 ghost use Rattle.std.specs.Prelude.{◌≡◌, ◌⊎◌, ◌<◌, ◌≤◌, ◌-◌, ◌+◌, ◌*◌, ◌++◌, ◌∷◌, ◌↔◌, [], length, map, take, true, OnOk, IfErr, IsErrOf};
 ghost use Rattle.std.specs.Io.KnownBytes.{Appends};
 ghost use Rattle.arrayvec.specs.ArrayVec.{array_vec_len};
 ghost use Rattle.cell_machine.specs.Effects.{trimmed};
 ghost use Rattle.journal.specs.Maps.{Maps, contents};
-ghost use Rattle.stores.specs.Store.{StandsFor, DeviceFailed, DeviceWentWell, blocks_of, closed_of};
+ghost use Rattle.journal.specs.Store.{StandsFor, DeviceFailed, DeviceWentWell, blocks_of, closed_of};
 ghost use Rattle.terminal.specs.Screen.{shown};
 ghost use Rattle.terminal.specs.Transfer.{ReadsStore, exported, exported_text, exports, unpadded};
 
 use super::failure::Failure;
-use super::orders::Form;
 use super::screen::{BLOCK, COLUMNS, LISTING, ROWS, add_line};
 use arrayvec::ArrayVec;
+use command_line::orders::Form;
 use sector_disk::SectorDevice;
 use sessions::streams::{flush, write_bytes};
 use std::io::Write;
 use stores::Store;
 
-/// Prints the blocks from `first` to `last`, one after another. Where one of them isn't there, nothing is printed.
+/// Prints the blocks from `first` to `last`, one after another. Where one of them isn't there, or `last` comes before
+/// `first`, nothing is printed: `NoBlock`. `Device` where a read failed, and `CannotWrite` where the output failed:
+/// then some may be printed.
 pub fn export_blocks<D: SectorDevice, W: Write>(
     store: &mut Store<D>,
     first: u16,
@@ -121,7 +124,7 @@ fn text_of(block: &[u8; BLOCK]) -> ArrayVec<u8, LISTING>
 }
 
 /// A line without the blanks at its end.
-fn without_blanks(line: &[u8]) -> &[u8]
+pub(super) fn without_blanks(line: &[u8]) -> &[u8]
     ensures line { result.now ≡ unpadded line.now }
     ensures short { length result.now ≤ length line.now }
 {

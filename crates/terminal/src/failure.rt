@@ -9,6 +9,7 @@ use sessions::RunFault;
 use thiserror::Error;
 
 /// Why the program didn't do what it was asked. Its text is what the user reads.
+/// Rule: MANUAL, Messages and statuses; PROGRAM, Exit status and messages.
 #[derive(Clone, Copy, Debug, PartialEq, Eq, Error)]
 pub enum Failure {
     #[error("image: bad size")]

@@ -1,8 +1,9 @@
 //! The commands over images that are files of a system: each gives back what it has opened or made.
+//! Rule: MANUAL, Commands.
 ghost use Rattle.std.specs.Prelude.{◌≡◌, ◌≢◌, ◌⊎◌, ◌<◌, ◌≤◌, ◌+◌, ◌*◌, ◌↔◌, true, OnOk, IfOk, IfErr, IsErrOf};
 ghost use Rattle.journal.specs.Layout.{sectors_for};
-ghost use Rattle.shadow.specs.Layout as newer_layout;
-ghost use Rattle.stores.specs.Store.{Continues, DeviceBegins, DeviceFailed, DeviceReads, blocks_of, closed_of, device_of, pending_count};
+ghost use Rattle.journal.specs.PageLayout as newer_layout;
+ghost use Rattle.journal.specs.Store.{Continues, DeviceBegins, DeviceFailed, DeviceReads, blocks_of, closed_of, device_of, pending_count};
 ghost use Rattle.terminal.specs.Done.{Comes, Exports, ImportsBlocks, LooksAt, MakesBlank, PutsBlock, RunsSession, Upgraded};
 ghost use Rattle.terminal.specs.Files.{IsMade, IsOpened, OpensOn};
 ghost use Rattle.terminal.specs.Newer.{MakesNewer};
@@ -12,8 +13,8 @@ use super::exporting::export_blocks;
 use super::failure::Failure;
 use super::images::{make_newer_over, make_over, open_over, put_text};
 use super::importing::{import_file, read_blocks};
-use super::orders::Form;
 use super::program::run_session;
+use command_line::orders::Form;
 use interpreter::promise::Lines;
 use journal::layout::MOST_BLOCKS_1;
 use recovery::upgrade;
@@ -24,7 +25,10 @@ use std::fs::{File, Files};
 use std::io::{BufReader, Read, Write};
 use stores::{Store, blocks_of_size};
 
-/// Makes a file that is an image of blank blocks, of layout 2. Whatever has that name already stays as it is.
+/// Makes a file that is an image of blank blocks, 32 to 3,840, of layout 2. Its failures: `Exists` where something has
+/// that name already, which stays as it is, `CannotOpen` or `InUse` where the file can't be made, then those of
+/// `make_over`.
+/// Rule: MANUAL, forth83 new IMAGE --blocks N [--layout L].
 pub fn make_image<H: HostFile + Drop, O: HostFiles<H>>(
     files: &O,
     path: &str,
@@ -46,7 +50,10 @@ pub fn make_image<H: HostFile + Drop, O: HostFiles<H>>(
     }
 }
 
-/// The same of layout 3.
+/// Makes a file that is an image of blank blocks, 32 to 3,840, of layout 3. Its failures: `Exists` where something has
+/// that name already, which stays as it is, `CannotOpen` or `InUse` where the file can't be made, then those of
+/// `make_newer_over`.
+/// Rule: MANUAL, forth83 new IMAGE --blocks N [--layout L].
 pub fn make_newer_image<H: HostFile + Drop, O: HostFiles<H>>(
     files: &O,
     path: &str,
@@ -78,7 +85,9 @@ pub(super) fn make_newer_file<H: HostFile + Drop, O: HostFiles<H>>(
     Ok(create_disk(files, path, 32 + 16 * blocks as u32)?)
 }
 
-/// Opens an image.
+/// Opens an image, after its recovery. Its failures: `CannotOpen` or `InUse` where the file can't be opened for reading
+/// and writing, then those of `open_over`.
+/// Rule: MANUAL, Messages and statuses; IMAGE, A recovery.
 pub fn open_image<H: HostFile + Drop, O: HostFiles<H>>(
     files: &O,
     path: &str,
@@ -95,7 +104,9 @@ pub fn open_image<H: HostFile + Drop, O: HostFiles<H>>(
     }
 }
 
-/// Runs the input over an image, with at most `steps` steps a line.
+/// Runs the input over an image, with at most `steps` steps a line, 1 or more. Its failures: those of `open_image`,
+/// then `NoMemory`, then `CannotRead` or `CannotWrite` where the input or the output failed.
+/// Rule: MANUAL, forth83 run IMAGE [--steps S] [--trace].
 pub fn run_image<
     H: HostFile + Drop,
     O: HostFiles<H>,
@@ -122,7 +133,9 @@ pub fn run_image<
     run_session::<SectorFile<H>, F, R, W, T>(alloc, store, steps, input, output, tracer)
 }
 
-/// Prints the blocks of an image from the one to the other. Nothing is written to the image, but by its recovery.
+/// Prints the blocks of an image from the one to the other. Nothing is written to the image, but by its recovery. Its
+/// failures: those of `open_image`, then those of `export_blocks`.
+/// Rule: MANUAL, forth83 export IMAGE FIRST LAST [--raw].
 pub fn export_image<H: HostFile + Drop, O: HostFiles<H>, W: Write>(
     files: &O,
     path: &str,
@@ -143,7 +156,10 @@ pub fn export_image<H: HostFile + Drop, O: HostFiles<H>, W: Write>(
     }
 }
 
-/// Makes the lines of a text file a block of an image, in one save.
+/// Makes the lines of a text file a block of an image, in one save. Its failures: those of `open_image`, `NoBlock`
+/// where there is no such block, `CannotRead` where the text can't be read, `NoMemory`, `NotAScreen` where it has more
+/// than 16 lines or one of more than 64 bytes, and `Device` where the save failed.
+/// Rule: MANUAL, forth83 put IMAGE BLOCK FILE.
 pub fn put_into_image<H: HostFile + Drop, O: HostFiles<H>>(
     rt: &(impl Files<File = File> + AllocGlobal),
     files: &O,
@@ -163,7 +179,9 @@ pub fn put_into_image<H: HostFile + Drop, O: HostFiles<H>>(
 }
 
 /// Makes the blocks that a file says those of an image from `first` on, in one save. What keeps it from that is told in
-/// lines of `errors`, and then nothing is written to the image, but by its recovery.
+/// lines of `errors`, and then nothing is written to the image, but by its recovery. Its failures: those of
+/// `open_image`, then those of `import_file`.
+/// Rule: MANUAL, forth83 import IMAGE FIRST FILE [--raw] [--check].
 pub fn import_image<H: HostFile + Drop, O: HostFiles<H>, E: Write>(
     rt: &(impl Files<File = File> + AllocGlobal),
     files: &O,
@@ -184,8 +202,10 @@ pub fn import_image<H: HostFile + Drop, O: HostFiles<H>, E: Write>(
     }
 }
 
-/// Tells in lines of `errors` whatever is told of a file that would be imported. Of the image only the size is looked at, and no
-/// call of its device is made.
+/// Tells in lines of `errors` whatever is told of a file that would be imported. Of the image only the size is looked
+/// at, and no call of its device is made. Its failures: `CannotOpen` or `InUse` where the image can't be opened,
+/// `BadSize` where it has the size of none, then those of `read_blocks`.
+/// Rule: MANUAL, forth83 import IMAGE FIRST FILE [--raw] [--check].
 pub fn check_import<H: HostFile + Drop, O: HostFiles<H>, E: Write>(
     rt: &(impl Files<File = File> + AllocGlobal),
     files: &O,
@@ -209,8 +229,10 @@ pub fn check_import<H: HostFile + Drop, O: HostFiles<H>, E: Write>(
     }
 }
 
-/// Makes an image of layout 2, in a new file, of the blocks of one of layout 1, and gives both files. Nothing is made where
-/// the old one has the size of no such image, and whatever has the new name already stays as it is.
+/// Makes an image of layout 2, in a new file, of the blocks of one of layout 1, and gives both files. Nothing is made
+/// where the old one has the size of no such image (`BadSize`) or can't be opened (`CannotOpen`, `InUse`), and whatever
+/// has the new name already stays as it is (`Exists`). Then its failures are those of `recovery::upgrade`.
+/// Rule: MANUAL, forth83 upgrade OLD NEW [--layout L]; IMAGE, Layout 1, and an upgrade.
 pub fn upgrade_image<H: HostFile + Drop, O: HostFiles<H>>(
     files: &O,
     old: &str,

@@ -1,4 +1,5 @@
 //! A file as blocks, and what is told of it.
+//! Rule: MANUAL, forth83 import IMAGE FIRST FILE [--raw] [--check].
 ghost use Rattle.std.specs.Prelude.{◌≡◌, ◌⊎◌, ◌==◌, ◌%◌, ◌&&◌, ◌++◌, ◌∷◌, [], false, not, length, map, replicate, Some, None, IfErr, IfOk, OnOk, MatchResult};
 ghost use Rattle.std.specs.List.{list_all};
 ghost use Rattle.sessions.specs.Cut.{blank_for_tab};
@@ -6,8 +7,8 @@ ghost use Rattle.terminal.specs.Screen.{row, texts_of};
 ghost use Rattle.terminal.specs.Findings.{all_rows, blocks_for, failure_of, begins_a_word, findings, is_full, is_printable, of_form, place, refusal, row_findings, said, told, unplaced, when};
 
 use super::failure::Failure;
-use super::orders::Form;
 use super::screen::{BLOCK, COLUMNS, ROWS};
+use command_line::orders::Form;
 use number_io::take_text;
 use sessions::cut::{blank_for_tab, text};
 use std::alloc::{AllocError, Global};
@@ -37,7 +38,8 @@ pub enum Finding {
 }
 
 impl Finding {
-    /// The failure for which nothing of the file is imported, where it is one.
+    /// The failure for which nothing of the file is imported, where it is one: `NotAScreen` for a line that is too long
+    /// and for bytes that aren't whole blocks, `NoBlock` where blocks are missing.
     pub fn refusal(self) -> Result<(), Failure>
         ensures exact { MatchResult result (λ _. failure_of self ≡ None) (λ e. failure_of self ≡ Some e) }
         ensures only { IfErr result (λ e. (e ≡ Failure.NotAScreen) ⊎ (e ≡ Failure.NoBlock)) }
@@ -50,7 +52,7 @@ impl Finding {
     }
 }
 
-/// The first refusal.
+/// The failure of the first refusal among them: `NotAScreen` or `NoBlock`. Ok where none is one.
 pub fn refusal(found: &[Finding]) -> Result<(), Failure>
     ensures exact { MatchResult result (λ _. refusal found.now ≡ None) (λ e. refusal found.now ≡ Some e) }
     ensures only { IfErr result (λ e. (e ≡ Failure.NotAScreen) ⊎ (e ≡ Failure.NoBlock)) }
@@ -74,7 +76,7 @@ pub struct Screens {
     pub found: Vec<Finding>,
 }
 
-/// What a file says, where so many blocks are there for it.
+/// What a file says, where `room` blocks are there for it, and what is told of that. It fails where memory is refused.
 pub fn read_screens(
     alloc: Global,
     form: Form,

@@ -1,20 +1,19 @@
 //! The commands over an image on any device.
-ghost use Rattle.std.specs.Prelude.{◌≡◌, ◌≢◌, ◌⊎◌, ◌<◌, ◌≤◌, ◌+◌, ◌*◌, ◌↔◌, ℕ, List, length, true, false, Some, None};
-ghost use Rattle.std.specs.Prelude.{IsTrue, OnOk, IfOk, IfErr, IsErrOf, MatchBool, MatchResult, option_map};
+//! Rule: MANUAL, Commands.
+ghost use Rattle.std.specs.Prelude.{◌≡◌, ◌≢◌, ◌⊎◌, ◌<◌, ◌≤◌, ◌+◌, ◌*◌, ◌↔◌, ℕ, List, length, true, false, Some, None, IsTrue, OnOk, IfOk, IfErr, IsErrOf, MatchBool, MatchResult, option_map};
 ghost use Rattle.std.specs.Io.KnownBytes.{Appends, Consumes, IsAtEnd};
 ghost use Rattle.arrayvec.specs.ArrayVec.{array_vec_len};
 ghost use Rattle.sector_disk.specs.Disk.{Image, MayLeave};
 ghost use Rattle.sector_disk.specs.Counting.{count_up};
 ghost use Rattle.journal.specs.Calls.{BeginsAtMost, ReadsAtMost, StopsLeave};
 ghost use Rattle.journal.specs.Maps.{Maps, contents, fresh, latest, spilled, committed, shut};
-ghost use Rattle.stores.specs.Store.{blocks_of, closed_of, device_of, disk_of, pending_count, MeansBy, StandsFor, DeviceBegins, DeviceReads};
-ghost use Rattle.stores.specs.Store.{Continues, DeviceFailed, KeepsSaved};
+ghost use Rattle.journal.specs.Store.{blocks_of, closed_of, device_of, disk_of, pending_count, MeansBy, StandsFor, DeviceBegins, DeviceReads, Continues, DeviceFailed, KeepsSaved};
 ghost use Rattle.recovery.specs.Formatted.{blank_blocks};
 ghost use Rattle.recovery.specs.Label.{is_size_for};
 ghost use Rattle.shadow.specs.Label as newer_label;
 ghost use Rattle.shadow.specs.Label.{is_known_size};
 ghost use Rattle.stores.specs.Opened.{image_refusal};
-ghost use Rattle.stores.specs.Suits.{suits};
+ghost use Rattle.journal.specs.Suits.{suits};
 ghost use Rattle.terminal.specs.Done.{ListsBlock, MakesBlank};
 ghost use Rattle.terminal.specs.Failures.{of_image};
 ghost use Rattle.terminal.specs.Files.{OpensAs};
@@ -33,10 +32,14 @@ use sessions::streams::{flush, read_byte, write_bytes};
 use std::io::{Read, Write};
 use stores::{Store, open};
 
-/// One byte more than the longest text of a screen: each of its 16 lines has 64 bytes, a carriage return and a line feed.
+/// One byte more than the longest text of a screen: each of its 16 lines has 64 bytes, a carriage return and a line
+/// feed.
 const TEXT_ROOM: usize = 1057;
 
-/// Makes a device an image of blank blocks, of layout 2. A failure hands the device back.
+/// Makes a device an image of blank blocks, of layout 2. A failure hands the device back: `BadSize` where it hasn't
+/// `3 + 4 * blocks` sectors, for 32 to 3,840 blocks, and then it wasn't called, else `Device` where a call of it
+/// failed.
+/// Rule: IMAGE, A format.
 pub fn make_over<D: SectorDevice + Drop>(device: D, blocks: u16) -> Result<Store<D>, (Failure, D)>
     ensures made { IfOk result (λ store. MakesBlank D.SectorDevice blocks device (device_of store)) }
     ensures stands { IsTrue (D.keeps_sectors device) → IfOk result (λ store. StandsFor store (fresh (blank_blocks blocks))) }
@@ -49,12 +52,14 @@ pub fn make_over<D: SectorDevice + Drop>(device: D, blocks: u16) -> Result<Store
     ensures device { IfErr result (λ e. e.0 ≡ Failure.Device → D.failures e.1 ≡ count_up (D.failures device)) }
 {
     match format(device, blocks) {
-        Ok(store) => Ok(Store::from(store)),
+        Ok(store) => Ok(store),
         Err((fault, device)) => Err((Failure::from(fault), device)),
     }
 }
 
-/// The same by layout 3.
+/// Makes a device an image of blank blocks, of layout 3. A failure hands the device back: `BadSize` where it hasn't
+/// `32 + 16 * blocks` sectors, for 32 to 3,840 blocks, else `Device` where a call of it failed.
+/// Rule: IMAGE, Layout 3, A format.
 pub fn make_newer_over<D: SectorDevice + Drop>(
     device: D,
     blocks: u16,
@@ -68,12 +73,15 @@ pub fn make_newer_over<D: SectorDevice + Drop>(
     ensures device { IfErr result (λ e. e.0 ≡ Failure.Device → D.failures e.1 ≡ count_up (D.failures device)) }
 {
     match shadow::format(device, blocks) {
-        Ok(store) => Ok(Store::from(store)),
+        Ok(store) => Ok(store),
         Err((fault, device)) => Err((Failure::from(fault), device)),
     }
 }
 
-/// Opens the image on a device: what a stop has left is recovered first. A failure hands the device back.
+/// Opens the image on a device: what a stop has left is recovered first. A failure hands the device back: `BadSize`,
+/// `NoLabel`, `OtherVersion`, `WrongCount` or `Damaged`, the first that holds of the image, or `Device` where a call of
+/// it failed.
+/// Rule: IMAGE, A recovery; IMAGE, Layout 3, An opening.
 pub fn open_over<D: SectorDevice + Drop>(device: D) -> Result<Store<D>, (Failure, D)>
     ensures opened { IfOk result (λ store. OpensAs D.SectorDevice device store) }
     // Ok only where no call failed.
@@ -95,7 +103,9 @@ pub fn open_over<D: SectorDevice + Drop>(device: D) -> Result<Store<D>, (Failure
     }
 }
 
-/// Prints a block of the image on a device. Nothing is written to it, but by its recovery.
+/// Prints a block of the image on a device. Nothing is written to it, but by its recovery. Its failures: those of
+/// `open_over`, then those of `list_block`.
+/// Rule: MANUAL, forth83 list IMAGE BLOCK.
 pub fn list_over<D: SectorDevice + Drop, W: Write>(
     device: D,
     block: u16,
@@ -114,7 +124,9 @@ pub fn list_over<D: SectorDevice + Drop, W: Write>(
     }
 }
 
-/// Prints a block as the lines of a screen.
+/// Prints a block as the lines of a screen. `NoBlock` where there is no such block; `Device` where a read failed, and
+/// then nothing is printed; `CannotWrite` where the output failed.
+/// Rule: MANUAL, forth83 list IMAGE BLOCK.
 pub fn list_block<D: SectorDevice, W: Write>(
     store: &mut Store<D>,
     block: u16,
@@ -151,7 +163,10 @@ fn print<W: Write>(bytes: &[u8], output: &mut W) -> Result<(), Failure>
     flush(output).map_err(|_| Failure::CannotWrite)
 }
 
-/// Makes the lines of a text a block, in one save.
+/// Makes the lines of a text a block, which is there, in one save. `CannotRead` where the text can't be read,
+/// `NotAScreen` where it isn't at most 16 lines of at most 64 bytes, and then nothing is saved; `Device` where a call
+/// of the device failed, or the store is closed.
+/// Rule: MANUAL, forth83 put IMAGE BLOCK FILE.
 pub fn put_text<D: SectorDevice, R: Read>(
     store: &mut Store<D>,
     block: u16,

@@ -1,18 +1,19 @@
 //! Many blocks at once, saved.
+//! Rule: MANUAL, forth83 import IMAGE FIRST FILE [--raw] [--check].
 ghost use Rattle.std.specs.Prelude.{◌≡◌, ◌≢◌, ◌⊎◌, ◌<◌, ◌≤◌, ◌+◌, ◌-◌, ◌*◌, ◌++◌, ℕ, List, Some, None, length, take, drop, replicate, true, false, OnOk, IfErr, IfOk, MatchResult, vec_len};
 ghost use Rattle.std.specs.Io.KnownBytes.{Consumes, IsAtEnd};
 ghost use Rattle.journal.specs.Calls.{StopsLeave};
 ghost use Rattle.journal.specs.Maps.{Maps, latest};
-ghost use Rattle.stores.specs.Store.{Continues, DeviceBegins, DeviceFailed, DeviceReads, DeviceWentWell, KeepsSaved, MeansBy, StandsFor, blocks_of, closed_of, device_of, pending_count};
+ghost use Rattle.journal.specs.Store.{Continues, DeviceBegins, DeviceFailed, DeviceReads, DeviceWentWell, KeepsSaved, MeansBy, StandsFor, blocks_of, closed_of, device_of, pending_count};
 ghost use Rattle.terminal.specs.Findings.{blocks_for, refusal, said, told};
 ghost use Rattle.terminal.specs.Imported.{Imports, ImportsSome, LeavesImported, Spills, SpillsNext};
 ghost use Rattle.terminal.specs.Transfer.{as_blocks, block_of, spilled_from};
 
 use super::failure::Failure;
 use super::findings::{Finding, Screens, read_screens, refusal};
-use super::orders::Form;
 use super::screen::{BLOCK, add_blanks};
 use arrayvec::ArrayVec;
+use command_line::orders::Form;
 use sector_disk::SectorDevice;
 use sessions::streams::read_byte;
 use std::alloc::Global;
@@ -23,8 +24,9 @@ use stores::Store;
 /// The bytes of the longest text for an image: 61,440 lines of 64 bytes, a carriage return and a line feed.
 const MOST_BYTES: usize = 4_055_040;
 
-/// Makes the blocks that a file says those of a store from `first` on, in one save. What keeps it from that is told in lines
-/// of `errors`, and then nothing is written.
+/// Makes the blocks that a file says those of a store from `first` on, in one save. What keeps it from that is told in
+/// lines of `errors`, and then nothing is written. Its failures: those of `read_blocks`, and `Device` where a call of
+/// the device failed, or the store is closed.
 pub fn import_file<D: SectorDevice, E: Write>(
     rt: &(impl Files<File = File> + AllocGlobal),
     store: &mut Store<D>,
@@ -46,8 +48,10 @@ pub fn import_file<D: SectorDevice, E: Write>(
     }
 }
 
-/// The bytes of the blocks that a file says, where it says some for which there are blocks from `first` on. Its refusals are
-/// told in lines of `errors`, and with `all` whatever else is told of it.
+/// The bytes of the blocks that a file says, where it says some for which there are blocks from `first` on, of `blocks`
+/// in all. Its refusals are told in lines of `errors`, and with `all` whatever else is told of it. Its failures:
+/// `NoBlock` where `first` isn't there, `CannotRead` where the file can't be read, `NoMemory`, then that of the first
+/// refusal: `NotAScreen` or `NoBlock`.
 pub fn read_blocks<E: Write>(
     rt: &(impl Files<File = File> + AllocGlobal),
     blocks: u16,

@@ -1,13 +1,14 @@
 //! The blocks of an image of layout 3 are copied into a new file.
+//! Rule: IMAGE, Layout 3, A copy.
 ghost use Rattle.std.specs.Prelude.{◌≡◌, ◌≢◌, ◌⊎◌, ◌≤◌, ℕ, Some, None, IsTrue, IfErr, IfOk, IfSome, MatchResult, OnOk, option_map};
 ghost use Rattle.sector_disk.specs.Counting.{count_up};
 ghost use Rattle.journal.specs.Calls.{StopsLeave};
 ghost use Rattle.recovery.specs.Steps.{OnlyRead, WentWell};
 ghost use Rattle.image_care.specs.Copied.{grown};
 ghost use Rattle.shadow.specs.Formatted.{MakingLeaves};
-ghost use Rattle.shadow.specs.Images.{meaning};
-ghost use Rattle.shadow.specs.Layout.{sectors_for};
-ghost use Rattle.shadow_care.specs.Copied.{copy_refusal};
+ghost use Rattle.journal.specs.PageImages.{meaning};
+ghost use Rattle.journal.specs.PageLayout.{sectors_for};
+ghost use Rattle.image_care.specs.PageCopied.{copy_refusal};
 ghost use Rattle.terminal.specs.Failures.{of_upgrade};
 ghost use Rattle.terminal.specs.Files.{IsMade};
 ghost use Rattle.terminal.specs.NewerCare.{CopiesNewer, MakesNewerCopy, newer_count_for_copy};
@@ -15,9 +16,9 @@ ghost use Rattle.terminal.specs.NewerCare.{CopiesNewer, MakesNewerCopy, newer_co
 use super::copying::copied_count;
 use super::failure::Failure;
 use super::files::make_newer_file;
+use image_care::pages::copy;
 use sector_disk::{HostFile, HostFiles, SectorDevice, SectorFile};
 use shadow::blocks_of_new;
-use shadow_care::copy;
 
 /// Makes a copy of the image of layout 3 on a device, in a new file.
 pub(super) fn copy_newer_into<A: SectorDevice, H: HostFile + Drop, O: HostFiles<H>>(
@@ -52,7 +53,10 @@ fn newer_count_for_copy(sectors: u32, asked: Option<u16>) -> Option<u16>
     copied_count(blocks, asked)
 }
 
-/// Makes an image of layout 3 of the blocks of the one on another device, of as many sectors or more.
+/// Makes an image of layout 3 of the blocks of the one on another device, of as many sectors or more. Its failures:
+/// `BadSize` where the sizes don't fit, then those of an opening, the first that holds, with no call of the new device;
+/// and `Device` where a call of either failed.
+/// Rule: IMAGE, Layout 3, A copy; MANUAL, forth83 copy OLD NEW [--blocks N].
 pub fn copy_newer_over<A: SectorDevice, B: SectorDevice>(
     old: &mut A,
     new: &mut B,

@@ -1,30 +1,30 @@
 //! What can be had of a damaged image of layout 3 is put into a new file, and what is damaged is told.
-ghost use Rattle.std.specs.Prelude.{◌≡◌, ◌≢◌, ◌⊎◌, ◌<◌, ◌≤◌, ◌++◌, ℕ, Some, None, string_bytes};
-ghost use Rattle.std.specs.Prelude.{IsTrue, IfErr, IfOk, IfSome, MatchResult, OnOk, option_map};
+//! Rule: IMAGE, Layout 3, What can be had of a damaged image.
+ghost use Rattle.std.specs.Prelude.{◌≡◌, ◌≢◌, ◌⊎◌, ◌<◌, ◌≤◌, ◌++◌, ℕ, Some, None, string_bytes, IsTrue, IfErr, IfOk, IfSome, MatchResult, OnOk, option_map};
 ghost use Rattle.std.specs.Io.KnownBytes.{Appends};
 ghost use Rattle.sector_disk.specs.Counting.{count_up};
 ghost use Rattle.journal.specs.Calls.{StopsLeave};
-ghost use Rattle.journal.specs.Layout.{listed, most_blocks};
+ghost use Rattle.journal.specs.Layout.{most_blocks};
 ghost use Rattle.recovery.specs.Steps.{OnlyRead, WentWell};
 ghost use Rattle.shadow.specs.Formatted.{MakingLeaves};
-ghost use Rattle.shadow.specs.Layout.{sectors_for};
-ghost use Rattle.shadow_care.specs.Copied.{salvage_refusal};
-ghost use Rattle.shadow_care.specs.Standing.{salvaged_blocks};
-ghost use Rattle.terminal.specs.NewerCare.{MakesNewerSalvage, SalvagesNewer, damage_told, newer_count_for_salvage};
-ghost use Rattle.terminal.specs.NewerCare.{newer_no_recovery, standing_by};
+ghost use Rattle.journal.specs.PageLayout.{sectors_for};
+ghost use Rattle.image_care.specs.PageCopied.{salvage_refusal};
+ghost use Rattle.image_care.specs.Standing.{salvaged_blocks};
+ghost use Rattle.terminal.specs.Damage.{damage_told};
+ghost use Rattle.terminal.specs.NewerCare.{MakesNewerSalvage, SalvagesNewer, newer_count_for_salvage, newer_no_recovery, standing_by};
 ghost use Rattle.terminal.specs.Failures.{of_upgrade};
 ghost use Rattle.terminal.specs.Files.{IsMade};
 ghost use Rattle.terminal.specs.Newer.{LeavesNewer};
 
 use super::checking::print;
 use super::copying::salvaged_count;
+use super::damage::add_damage_line;
 use super::failure::Failure;
 use super::files::make_newer_file;
-use super::newer_checking::add_damage_line;
+use image_care::pages::{Standing, Taken, salvage};
 use journal::layout::is_listed;
 use sector_disk::{HostFile, HostFiles, SectorDevice, SectorFile};
 use shadow::blocks_of_new;
-use shadow_care::{Standing, Taken, salvage};
 use std::alloc::{AllocError, Global};
 use std::io::Write;
 
@@ -64,8 +64,11 @@ fn newer_count_for_salvage(sectors: u32, asked: Option<u16>) -> Option<u16>
     salvaged_count(blocks, asked)
 }
 
-/// Makes an image of layout 3 of what can be had of the one on another device, of as many sectors, tells which blocks are damaged,
-/// and that this is no recovery.
+/// Makes an image of layout 3 of what can be had of the one on another device, of as many sectors, tells which blocks
+/// are damaged, and that this is no recovery. Its failures: `BadSize` where the sizes don't fit, with no call of the
+/// new device; `Device` where a call of either failed; and `NoMemory` or `CannotWrite` where that couldn't be told,
+/// though the image is there.
+/// Rule: IMAGE, Layout 3, What can be had of a damaged image; MANUAL, forth83 salvage OLD NEW [--blocks N].
 pub fn salvage_newer_over<A: SectorDevice, B: SectorDevice, W: Write>(
     alloc: Global,
     old: &mut A,
@@ -104,7 +107,8 @@ pub fn salvage_newer_over<A: SectorDevice, B: SectorDevice, W: Write>(
     }
 }
 
-/// Tells which blocks of an image on so many sectors were taken from their other places or weren't had, and that this is no recovery.
+/// Tells which blocks of an image on so many sectors were taken from their other places or weren't had, and that this
+/// is no recovery.
 fn tell_salvage<W: Write>(
     alloc: Global,
     sectors: u32,

@@ -1,4 +1,5 @@
 //! An image of layout 1 or 2 is upgraded to layout 3, in a new file.
+//! Rule: IMAGE, Layout 3, An upgrade.
 ghost use Rattle.std.specs.Prelude.{◌≡◌, ◌≢◌, ◌⊎◌, ℕ, Some, None, IsTrue, IfErr, IfOk, MatchResult, OnOk, option_map};
 ghost use Rattle.sector_disk.specs.Counting.{count_up};
 ghost use Rattle.sector_disk.specs.Disk.{MayLeave};
@@ -6,7 +7,7 @@ ghost use Rattle.journal.specs.Calls.{BeginsAtMost, StopsLeave};
 ghost use Rattle.journal.specs.Images.{meaning};
 ghost use Rattle.recovery.specs.Steps.{WentWell};
 ghost use Rattle.shadow.specs.Formatted.{MakingLeaves};
-ghost use Rattle.shadow.specs.Layout.{sectors_for};
+ghost use Rattle.journal.specs.PageLayout.{sectors_for};
 ghost use Rattle.shadow.specs.Upgraded.{upgrade_refusal};
 ghost use Rattle.terminal.specs.Failures.{of_upgrade};
 ghost use Rattle.terminal.specs.Files.{IsMade, IsOpened};
@@ -18,8 +19,10 @@ use sector_disk::{HostFile, HostFiles, SectorDevice, SectorFile, open_disk};
 use shadow::upgrade;
 use stores::blocks_of_size;
 
-/// Makes an image of layout 3, in a new file, of the blocks of one of layout 1 or 2, and gives both files. Nothing is made where
-/// the old one has the size of no image, and whatever has the new name already stays as it is.
+/// Makes an image of layout 3, in a new file, of the blocks of one of layout 1 or 2, and gives both files. Nothing is
+/// made where the old one has the size of no image (`BadSize`) or can't be opened (`CannotOpen`, `InUse`), and whatever
+/// has the new name already stays as it is (`Exists`). Then its failures are those of `upgrade_over`.
+/// Rule: MANUAL, forth83 upgrade OLD NEW [--layout L]; IMAGE, Layout 3, An upgrade.
 pub fn upgrade_to_newer<H: HostFile + Drop, O: HostFiles<H>>(
     files: &O,
     old: &str,
@@ -43,7 +46,9 @@ pub fn upgrade_to_newer<H: HostFile + Drop, O: HostFiles<H>>(
     }
 }
 
-/// Makes an image of layout 3 of the blocks of the image of layout 1 or 2 on another device.
+/// Makes an image of layout 3 of the blocks of the image of layout 1 or 2 on another device. Its failures: `BadSize`
+/// where the sizes don't fit, then those of an opening by the old image's layout, the first that holds, with no call of
+/// the new device; and `Device` where a call of either failed.
 pub fn upgrade_over<A: SectorDevice, B: SectorDevice>(
     old: &mut A,
     new: &mut B,

@@ -1,13 +1,15 @@
 //! The program: words, streams and files to an exit status.
+//! Rule: PROGRAM, Exit status and messages; MANUAL, Commands.
 ghost use Rattle.std.specs.Prelude.{◌≡◌, ◌≢◌, ◌⊎◌, ◌<◌, ◌≤◌, List, [], map, Err, IsOk, IsErr, IfOk, IfErr, IsErrOf, MatchResult, OnOk};
 ghost use Rattle.clap.specs.Words.{fault_of, kind_of};
 ghost use Rattle.journal.specs.Maps.{Maps};
-ghost use Rattle.stores.specs.Store.{StandsFor, device_of};
+ghost use Rattle.journal.specs.Store.{StandsFor, device_of};
 ghost use Rattle.block_words.specs.Words.{Save};
 ghost use Rattle.interpreter.specs.State.{Forth as Abstract};
 ghost use Rattle.interpreter.specs.Lines.{new_forth};
 ghost use Rattle.sessions.specs.declared.run_fault.RunFault.{RunFault as AbstractFault};
-ghost use Rattle.terminal.specs.Commands.{IsInRange, forth83, IsDone, OrderIsDone};
+ghost use Rattle.command_line.specs.Commands.{IsInRange, forth83};
+ghost use Rattle.terminal.specs.OrderDone.{IsDone, OrderIsDone};
 ghost use Rattle.terminal.specs.Done.{RunsFrom};
 ghost use Rattle.sessions.specs.Devices.{Becomes};
 ghost use Rattle.terminal.specs.Failures.{status_of};
@@ -17,18 +19,20 @@ ghost use Rattle.terminal.specs.InMemory.{AsksForNothing, IsForMemory, Completes
 ghost use Rattle.sessions.specs.Sessions.{BreaksOff};
 
 use super::checking::check_image;
+use super::comparing::compare_images;
 use super::copying::{copy_image, salvage_image};
+use super::digests::digest_image;
 use super::failure::Failure;
 use super::files::{
     check_import, export_image, import_image, make_image, make_newer_image, put_into_image,
     run_image, upgrade_image,
 };
 use super::newer_upgrading::upgrade_to_newer;
-use super::orders::{Layout, Order};
-use super::reading::order;
 use super::showing::list_image;
 use clap::Error;
 use clap::error::ErrorKind;
+use command_line::order;
+use command_line::orders::{Layout, Order};
 use image_care::ReadingFiles;
 use interpreter::Memory;
 use interpreter::promise::Lines;
@@ -48,9 +52,10 @@ const STEPS: u32 = 1_000_000;
 const BLOCKS: u16 = 32;
 
 /// Does what the words ask for, of which the first is the name of the program, and answers the exit status: 0, 2 where
-/// the words are no command, 3 for a fault of the image, 4 where the input can't be read or the output can't be written, 5
-/// where there is no memory. A fault is told in one line of `errors`. An image is run by a system `F`, blocks in memory by
-/// one `M`. Input is read byte by byte and a reply is written piece by piece, so both should be buffered.
+/// the words are no command, 3 for a fault of the image, 4 where the input can't be read or the output can't be
+/// written, 5 where there is no memory. A fault is told in one line of `errors`. An image is run by a system `F`,
+/// blocks in memory by one `M`. Input is read byte by byte and a reply is written piece by piece, so both should be
+/// buffered.
 pub fn command<F: Lines<FileDisk>, M: Lines<MemoryDisk>, S: AsStr, R: Read, W: Write, E: Write>(
     rt: &(impl Files<File = File> + AllocGlobal),
     words: &[S],
@@ -69,8 +74,8 @@ pub fn command<F: Lines<FileDisk>, M: Lines<MemoryDisk>, S: AsStr, R: Read, W: W
     command_over::<_, _, _, _, F, M, S, R, W, E>(rt, &files, &looking, words, input, output, errors)
 }
 
-/// The same over the images of any system of files, and of one for those that are read alone. The text for `put` is a file of
-/// this one.
+/// Does what the words ask for, and answers the exit status, as `command`, over the images of any system of files, and
+/// of one for those that are read alone. The text for `put` is a file of this one.
 pub fn command_over<
     H: HostFile + Drop,
     O: HostFiles<H>,
@@ -182,6 +187,10 @@ fn perform<
             rt, files, path, first, source, form, errors,
         )),
         Order::Check(path) => closed(check_image::<K, P, W>(rt.alloc(), looking, path, output)),
+        Order::Digests(path) => closed(digest_image::<K, P, W>(rt.alloc(), looking, path, output)),
+        Order::Diff(old, new) => {
+            closed(compare_images::<K, P, W>(rt.alloc(), looking, old, new, output))
+        }
         Order::Upgrade(old, new, layout) => upgrade_by::<H, O>(files, old, new, layout),
         Order::Copy(old, new, asked) => {
             closed(copy_image::<K, P, H, O>(looking, files, old, new, asked))
@@ -257,7 +266,7 @@ fn run_in_memory<M: Lines<MemoryDisk>, R: Read, W: Write>(
         Ok(disk) => match format(disk, BLOCKS) {
             Ok(store) => closed(run_session::<MemoryDisk, M, R, W, Untraced>(
                 rt.alloc(),
-                Store::from(store),
+                store,
                 STEPS,
                 input,
                 output,

@@ -1,4 +1,5 @@
 //! A block as the lines of a screen.
+//! Rule: MANUAL, forth83 put IMAGE BLOCK FILE; MANUAL, forth83 list IMAGE BLOCK.
 ghost use Rattle.std.specs.Prelude.{◌≡◌, ◌≤◌, ◌<◌, ◌-◌, ◌+◌, ◌++◌, ◌∷◌, [], ℕ, suc, length, map, replicate, None, option_map, IfSome, IfNone, OnSome};
 ghost use Rattle.arrayvec.specs.ArrayVec.{array_vec_len};
 ghost use Rattle.sessions.specs.Cut.{blank_for_tab};
@@ -20,8 +21,9 @@ pub const BLOCK: usize = 1024;
 /// Bytes of a listing, with a line feed for each row.
 pub const LISTING: usize = 1040;
 
-/// The block that a text says: its lines, each filled with blanks, and blank lines after the last. `None` where there are
-/// more than 16 lines, or one has more than 64 bytes.
+/// The block that a text says: its lines, each filled with blanks, and blank lines after the last, 1,024 bytes in all.
+/// `None` where there are more than 16 lines, or one has more than 64 bytes.
+/// Rule: MANUAL, forth83 put IMAGE BLOCK FILE.
 pub fn screen_of(bytes: &[u8]) -> Option<ArrayVec<u8, BLOCK>>
     ensures { option_map (λ block. block.items) result ≡ screen_of bytes.now }
 {
@@ -77,7 +79,7 @@ fn add_text(block: &mut ArrayVec<u8, BLOCK>, text: &[u8])
     }
 }
 
-/// Adds so many blanks.
+/// Adds so many blanks, for which there is room.
 pub fn add_blanks(block: &mut ArrayVec<u8, BLOCK>, count: usize)
     requires { array_vec_len block.old + count ≤ 1024 }
     ensures { block.new.items ≡ block.old.items ++ replicate count 32 }
@@ -90,6 +92,7 @@ pub fn add_blanks(block: &mut ArrayVec<u8, BLOCK>, count: usize)
 }
 
 /// A block as 16 lines of 64 characters, with a point for each byte that isn't printable ASCII.
+/// Rule: MANUAL, forth83 list IMAGE BLOCK.
 pub fn listing(block: &[u8; BLOCK]) -> ArrayVec<u8, LISTING>
     ensures { result.items ≡ listing block.now }
 {
@@ -103,7 +106,7 @@ pub fn listing(block: &[u8; BLOCK]) -> ArrayVec<u8, LISTING>
     lines
 }
 
-/// Adds a row and a line feed.
+/// Adds a row, with a point for each byte that isn't printable ASCII, and a line feed, for which there is room.
 pub fn add_line(lines: &mut ArrayVec<u8, LISTING>, row: &[u8])
     requires { array_vec_len lines.old + length row.now < 1040 }
     ensures items { lines.new.items ≡ lines.old.items ++ map shown row.now ++ 10 ∷ [] }

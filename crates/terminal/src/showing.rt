@@ -1,29 +1,29 @@
 //! A block of an image is printed: of one whose file can't be opened for writing by reads alone.
+//! Rule: MANUAL, forth83 list IMAGE BLOCK.
 ghost use Rattle.std.specs.Prelude.{◌≡◌, ◌≢◌, ◌⊎◌, ◌<◌, ◌≤◌, ◌+◌, Some, None, IsTrue, IfErr, IfOk, MatchBool, MatchResult, OnOk, Err};
 ghost use Rattle.sector_disk.specs.Counting.{count_up};
 ghost use Rattle.sector_disk.specs.Disk.{MayLeave};
 ghost use Rattle.journal.specs.Calls.{BeginsAtMost, StopsLeave};
-ghost use Rattle.recovery.specs.Label.{blocks_in, is_size};
-ghost use Rattle.terminal.specs.Care.{ListDone, ShowsImage, shown_refusal};
+ghost use Rattle.shadow.specs.Label.{is_known_size};
+ghost use Rattle.shadow.specs.Upgraded.{known_blocks};
+ghost use Rattle.terminal.specs.Care.{ListDone};
 ghost use Rattle.terminal.specs.Done.{Comes, DoneOn, ListsBlock};
 ghost use Rattle.terminal.specs.Failures.{of_file};
 ghost use Rattle.terminal.specs.Files.{IsOpened};
-ghost use Rattle.terminal.specs.Shown.{ShowsBlock, block_refusal};
+ghost use Rattle.terminal.specs.Shown.{ShowsImage, block_refusal};
 
 use super::checking::print;
 use super::failure::Failure;
 use super::images::list_over;
-use super::layouts::layout_by_size;
-use super::newer_showing::show_newer_over;
-use super::orders::Layout;
 use super::program::closed;
 use super::screen::listing;
 use image_care::read_block;
 use sector_disk::{FileFault, HostFile, HostFiles, SectorDevice, SectorFile, open_disk};
 use std::io::Write;
 
-/// Prints a block of an image: after its recovery where its file can be opened for writing, and by reads alone where it can't.
-/// What was opened is closed.
+/// Prints a block of an image: after its recovery where its file can be opened for writing, and by reads alone where it
+/// can't. What was opened is closed. Its failures: `InUse`, or `CannotOpen` where it can't be opened for reading
+/// either, then those of `list_over` or `show_over`.
 pub fn list_image<
     H: HostFile + Drop,
     O: HostFiles<H>,
@@ -38,7 +38,9 @@ pub fn list_image<
     list_opened::<H, K, P, W>(open_disk(files, path), looking, path, block, output)
 }
 
-/// The same, once the file was opened for writing or wasn't: it is opened for reading only where the system refused that.
+/// Prints a block of an image, as `list_image`, once its file was opened for writing or wasn't: it is opened for
+/// reading only where the system refused that. Its failures: `InUse`, or `CannotOpen` where it can't be opened for
+/// reading either, then those of `list_over` or `show_over`.
 pub fn list_opened<H: HostFile + Drop, K: HostFile + Drop, P: HostFiles<K>, W: Write>(
     opened: Result<SectorFile<H>, FileFault>,
     looking: &P,
@@ -63,7 +65,8 @@ pub fn list_opened<H: HostFile + Drop, K: HostFile + Drop, P: HostFiles<K>, W: W
     }
 }
 
-/// Prints a block of an image. Its file is opened for nothing but that, and is given back.
+/// Prints a block of an image. Its file is opened for nothing but that, and is given back. Its failures: `CannotOpen`
+/// or `InUse` where the file can't be opened for reading, then those of `show_over`.
 pub fn show_image<H: HostFile + Drop, O: HostFiles<H>, W: Write>(
     files: &O,
     path: &str,
@@ -75,56 +78,32 @@ pub fn show_image<H: HostFile + Drop, O: HostFiles<H>, W: Write>(
         (ShowsImage ⟦<SectorFile<H> as SectorDevice>⟧ block (W.contents output.old) (W.contents output.new)) disk) }
 {
     let mut disk = open_disk(files, path)?;
-    match show_by_size(&mut disk, block, output) {
+    match show_over(&mut disk, block, output) {
         Ok(()) => Ok(disk),
         Err(failure) => Err(failure),
     }
 }
 
-/// Prints a block of the image on a device, by the layout that its size tells.
-fn show_by_size<D: SectorDevice, W: Write>(
+/// Prints a block of the image on a device, by reads alone. Where it is refused nothing is printed. Its failures are
+/// those of an opening, the first that holds, then `NoBlock` where there is no such block; `Device` where a call
+/// failed, and `CannotWrite` where the output failed.
+pub fn show_over<D: SectorDevice, W: Write>(
     device: &mut D,
     block: u16,
     output: &mut W,
 ) -> Result<(), Failure>
     ensures shows { OnOk result (ShowsImage D.SectorDevice block (W.contents output.old) (W.contents output.new)
         device.old device.new) }
-    // Each refusal tells the first test that fails, by the layout of the image's size.
-    ensures exact { IsTrue (D.keeps_model device.old) → MatchResult result
-        (λ _. shown_refusal block (D.sector_count device.old) (D.disk device.old).content ≡ None)
-        (λ e. (e ≡ Failure.Device) ⊎ (e ≡ Failure.CannotWrite)
-        ⊎ (shown_refusal block (D.sector_count device.old) (D.disk device.old).content ≡ Some e)) }
-    // A fault of the device is told just where one of its calls failed.
-    ensures device { IfErr result (λ e. e ≡ Failure.Device → D.failures device.new ≡ count_up (D.failures device.old)) }
-    ensures refused { IfErr result (λ e. e ≢ Failure.Device → D.failures device.new ≡ D.failures device.old) }
-    ensures well { OnOk result (D.failures device.new ≡ D.failures device.old) }
-    // Where nothing is told of the block, nothing was printed.
-    ensures unprinted { IfErr result (λ e. e ≢ Failure.CannotWrite → output.new ≡ output.old) }
-{
-    match layout_by_size(device.sectors()) {
-        Layout::Two => show_over(device, block, output),
-        Layout::Three => show_newer_over(device, block, output),
-    }
-}
-
-/// Prints a block of the image of layout 2 on a device. Where it is refused nothing is printed.
-pub fn show_over<D: SectorDevice, W: Write>(
-    device: &mut D,
-    block: u16,
-    output: &mut W,
-) -> Result<(), Failure>
-    ensures shows { OnOk result (ShowsBlock D.SectorDevice block (W.contents output.old) (W.contents output.new)
-        device.old device.new) }
     // Each refusal tells the first test that fails: those of an opening, and then whether the block is there.
     ensures exact { IsTrue (D.keeps_model device.old) → MatchResult result
         (λ _. block_refusal block (D.sector_count device.old) (D.disk device.old).content ≡ None)
         (λ e. (e ≡ Failure.Device) ⊎ (e ≡ Failure.CannotWrite)
         ⊎ (block_refusal block (D.sector_count device.old) (D.disk device.old).content ≡ Some e)) }
-    ensures bad_size { IfErr result (λ e. MatchBool (is_size (D.sector_count device.old))
+    ensures bad_size { IfErr result (λ e. MatchBool (is_known_size (D.sector_count device.old))
         (e ≢ Failure.BadSize) (e ≡ Failure.BadSize)) }
     // No block is told just where it isn't there.
-    ensures no_block { IfErr result (λ e. e ≡ Failure.NoBlock → blocks_in (D.sector_count device.old) ≤ block) }
-    ensures there { OnOk result (block < blocks_in (D.sector_count device.old)) }
+    ensures no_block { IfErr result (λ e. e ≡ Failure.NoBlock → known_blocks (D.sector_count device.old) ≤ block) }
+    ensures there { OnOk result (block < known_blocks (D.sector_count device.old)) }
     // A fault of the device is told just where one of its calls failed.
     ensures device { IfErr result (λ e. e ≡ Failure.Device → D.failures device.new ≡ count_up (D.failures device.old)) }
     ensures refused { IfErr result (λ e. e ≢ Failure.Device → D.failures device.new ≡ D.failures device.old) }

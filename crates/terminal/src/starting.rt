@@ -1,12 +1,16 @@
 //! The program as it is started: its words, its streams, its status.
+//! Rule: PROGRAM, Exit status and messages.
 ghost use Rattle.std.specs.Prelude.{◌↔◌, ◌≤ℤ◌, pos, IsTrue};
 
+use super::attending::{advise, greet};
+use super::hints::hint;
 use super::program::command;
 use interpreter::promise::Lines;
 use sector_disk::{FileDisk, MemoryDisk};
 use sessions::ByteReader;
+use std::alloc::Global;
 use std::fs::{File, Files};
-use std::io::{BufWriter, ErrorKind, Read, Write};
+use std::io::{BufWriter, ErrorKind, IsTerminal, Read, Write};
 use std::os::fd::AsRawFd;
 use std::os::unix::fs::MetadataExt;
 use std::rt::Env;
@@ -15,13 +19,16 @@ use std::{env, fs, io};
 /// The number of the standard error, the last of the standard streams.
 const LAST_STREAM: i32 = 2;
 
-/// Does what the words ask for that the program was started with, between these streams, and answers the exit status.
-pub fn start<F: Lines<FileDisk>, M: Lines<MemoryDisk>, R: Read + Drop, W: Write + Drop, E: Write>(
-    rt: &(impl Files<File = File> + Env + AllocGlobal),
-    input: R,
-    output: W,
-    errors: &mut E,
-) -> u8 {
+/// Does what the words ask for that the program was started with, between these streams, and answers the exit status, 0
+/// to 5 but 1. Where the standard error is a terminal, a person is told more there: how a session is left, where each
+/// fault came, and of which file a failure is.
+pub fn start<
+    F: Lines<FileDisk>,
+    M: Lines<MemoryDisk>,
+    R: Read + IsTerminal + Drop,
+    W: Write + Drop,
+    E: Write + IsTerminal,
+>(rt: &(impl Files<File = File> + Env + AllocGlobal), input: R, output: W, errors: &mut E) -> u8 {
     match call_program::<F, M, R, W, E>(rt, input, output, errors) {
         Ok(status) => status,
         Err(error) if error.kind() == ErrorKind::OutOfMemory => {
@@ -39,14 +46,14 @@ pub fn start<F: Lines<FileDisk>, M: Lines<MemoryDisk>, R: Read + Drop, W: Write 
     }
 }
 
-/// Calls the program, with a buffer on each of both streams: so a piece of the input is one read, and a reply one write. The
-/// numbers of closed streams are taken all the while.
+/// Calls the program, with a buffer on each of both streams: so a piece of the input is one read, and a reply one
+/// write. The numbers of closed streams are taken all the while.
 fn call_program<
     F: Lines<FileDisk>,
     M: Lines<MemoryDisk>,
-    R: Read + Drop,
+    R: Read + IsTerminal + Drop,
     W: Write + Drop,
-    E: Write,
+    E: Write + IsTerminal,
 >(
     rt: &(impl Files<File = File> + Env + AllocGlobal),
     input: R,
@@ -54,21 +61,69 @@ fn call_program<
     errors: &mut E,
 ) -> io::Result<u8> {
     let _taken = taken_streams(rt)?;
-    let words: Vec<String> = env::args(rt)?.collect(rt.alloc())?;
+    let mut words: Vec<String> = env::args(rt)?.collect(rt.alloc())?;
+    let is_attended = errors.is_terminal();
+    let is_typed = is_attended && input.is_terminal();
+    if is_attended {
+        ask_for_traces(rt.alloc(), &mut words)?;
+    }
     let mut input = ByteReader::new(input);
     let mut output = BufWriter::new(rt.alloc(), output)?;
     let words = words.as_slice();
-    let mut errors = Messages { rt, words, errors };
-    let status = command::<F, M, _, _, _, _>(rt, words, &mut input, &mut output, &mut errors);
+    if is_typed {
+        greet(rt, words, errors);
+    }
+    let status = called::<F, M, _, _, _>(rt, words, is_typed, &mut input, &mut output, errors);
+    if is_attended {
+        advise(rt, words, status, errors);
+    }
     Ok(status)
 }
 
-/// The standard error, but where it is a file that one of the words names: an image that is refused for that has to stay as it
-/// is, so no message is written over it, and the status alone tells.
+/// Calls the program with these words, which writes no message over a file that they name.
+fn called<F: Lines<FileDisk>, M: Lines<MemoryDisk>, R: Read, W: Write, E: Write>(
+    rt: &(impl Files<File = File> + AllocGlobal),
+    words: &[String],
+    is_typed: bool,
+    input: &mut R,
+    output: &mut W,
+    errors: &mut E,
+) -> u8 {
+    let mut messages = Messages {
+        rt,
+        words,
+        is_typed,
+        errors,
+    };
+    command::<F, M, _, _, _, _>(rt, words, input, output, &mut messages)
+}
+
+/// Has `run` tell where faults come, as with `--trace`, where it isn't asked for that already.
+fn ask_for_traces(alloc: Global, words: &mut Vec<String>) -> io::Result<()> {
+    if words.len() < 2 {
+        return Ok(());
+    }
+    if words[1].as_str() != "run" {
+        return Ok(());
+    }
+    if words
+        .iter()
+        .any(|word| word.as_str().starts_with("--trace"))
+    {
+        return Ok(());
+    }
+    words.insert(2, String::from_str(alloc, "--trace")?)?;
+    Ok(())
+}
+
+/// The standard error, but where it is a file that one of the words names: an image that is refused for that has to
+/// stay as it is, so no message is written over it, and the status alone tells. Where lines are typed, hints come
+/// behind it.
 #[derive(Drop)]
 struct Messages<'a, R, E> {
     rt: &'a R,
     words: &'a [String],
+    is_typed: bool,
     errors: &'a mut E,
 }
 
@@ -77,7 +132,11 @@ impl<R: Files<File = File>, E: Write> Write for Messages<'_, R, E> {
         if are_errors_named(self.rt, self.words) {
             return Ok(bytes.len());
         }
-        self.errors.write(bytes)
+        let count = self.errors.write(bytes)?;
+        if self.is_typed && count == bytes.len() {
+            hint(bytes, self.errors);
+        }
+        Ok(count)
     }
 
     fn flush(&mut self) -> io::Result<()> {
@@ -97,9 +156,10 @@ fn are_errors_named(rt: &impl Files<File = File>, words: &[String]) -> bool {
         })
 }
 
-/// Takes the numbers of the standard streams that were closed when the program began. A file that is opened gets the lowest
-/// free number: without this an image would be what is read as the input, or what the replies are written over. What is
-/// taken can be neither read nor written. Where one number is free no more, none is: so mostly one folder is opened.
+/// Takes the numbers of the standard streams that were closed when the program began. A file that is opened gets the
+/// lowest free number: without this an image would be what is read as the input, or what the replies are written over.
+/// What is taken can be neither read nor written. Where one number is free no more, none is: so mostly one folder is
+/// opened.
 fn taken_streams(rt: &impl Files<File = File>) -> io::Result<[Option<File>; 3]> {
     let first = taken_stream(rt)?;
     if first.is_none() {

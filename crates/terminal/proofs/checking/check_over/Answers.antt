@@ -1,4 +1,7 @@
+use Rattle.std.proofs.Common.{◌∙◌, ◌*◌, List, ℕ, ap, subst}
 use Rattle.std.proofs.lemmas.Result.{on_ok_weaker}
+use Rattle.std.specs.Io.KnownBytes.{Appends}
+use Rattle.terminal.specs.Checked.{layout_by_size, report}
 use Rattle.terminal.proofs.Examining.{checked}
 use Rattle.terminal.proofs.checking.check_over.Goals as goal
 
@@ -7,6 +10,8 @@ returns-in-Ok-clause-checks g c =
     let found = c.in-Ok.found in
     let examined = c.in-Ok.ensures in
     on_ok_weaker c.print_report.result
-    (checked g.D.SectorDevice c.args.device.now c.examine.new.device found.blocks found.under_way found.digest _ _ examined.size examined.passes
-    examined.meaning examined.under_way examined.digest examined.disk examined.stops examined.begins examined.reads)
+    (λ printed. checked g.D.SectorDevice c.args.device.now c.examine.new.device found.blocks found.under_way found.digest _ _ examined.size examined.passes
+    examined.meaning examined.under_way examined.digest examined.disk examined.stops examined.begins examined.reads examined.few
+    (subst (λ (text : List ℕ). Appends (g.W.Write.contents c.args.output.now) (g.W.Write.contents c.print_report.new.output) text)
+    (λ i. report (512 * c.sectors-sectors.ensures i) ((c.layout_by_size-layout.ensures ∙ ap layout_by_size c.sectors-sectors.ensures) i) found.blocks found.under_way found.digest) printed))
     c.print_report.ensures.ok

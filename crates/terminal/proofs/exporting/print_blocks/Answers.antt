@@ -1,5 +1,5 @@
 use Rattle.std.proofs.Common.{◌∙◌, arith}
-use Rattle.stores.specs.Store.{device_of}
+use Rattle.journal.specs.Store.{device_of}
 use Rattle.terminal.proofs.Transferring.{exported_more, reads_then}
 use Rattle.terminal.proofs.exporting.print_blocks.Goals as goal
 

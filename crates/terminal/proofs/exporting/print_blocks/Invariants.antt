@@ -1,7 +1,7 @@
 use Rattle.std.proofs.Common.{◌-◌, ◌*◌}
 use Rattle.std.specs.Io.KnownBytes.{Appends}
 use Rattle.journal.specs.Maps.{Maps}
-use Rattle.stores.specs.Store.{StandsFor, DeviceWentWell}
+use Rattle.journal.specs.Store.{StandsFor, DeviceWentWell}
 use Rattle.terminal.specs.Transfer.{ReadsStore, exports}
 use Rattle.terminal.proofs.exporting.print_blocks.Given as goal
 

@@ -1,4 +1,4 @@
-use Rattle.stores.specs.Store.{device_of}
+use Rattle.journal.specs.Store.{device_of}
 use Rattle.terminal.proofs.Becoming.{session_done}
 use Rattle.terminal.proofs.files.run_image.Goals as goal
 

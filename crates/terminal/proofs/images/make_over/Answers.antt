@@ -2,21 +2,19 @@ use Rattle.std.proofs.Common.{◌≡◌, ◌∙◌, ap, sym}
 use Rattle.journal.specs.Layout.{sectors_for}
 use Rattle.journal.specs.Maps.{fresh}
 use Rattle.recovery.specs.Formatted.{blank_blocks}
-use Rattle.stores.proofs.Stores.{journaled}
-use Rattle.stores.proofs.Suited.{stays}
+use Rattle.journal.specs.Technique.{is_journal}
+use Rattle.journal.proofs.Techniques.{journal_sectors}
+use Rattle.journal.proofs.Suited.{stays}
 use Rattle.terminal.proofs.images.make_over.Goals as goal
 
 pub returns-in-Ok-clause-made : goal.returns-in-Ok-clause-made
 returns-in-Ok-clause-made g c =
     let sized : g.D.SectorDevice.sector_count c.args.device ≡ sectors_for c.args.blocks =
-    sym c.in-Ok.ensures.sectors ∙ c.in-Ok.store.size ∙ ap sectors_for c.in-Ok.ensures.blocks in
-    rw c.from.ensures (record {
+    sym c.in-Ok.ensures.sectors ∙ c.in-Ok.store.size ∙ journal_sectors _ _ (ap is_journal c.in-Ok.ensures.technique) ∙ ap sectors_for c.in-Ok.ensures.blocks in
+    record {
       goes = record { model = stays g.D.SectorDevice c.args.device _ c.in-Ok.ensures.sectors c.in-Ok.ensures.model c.in-Ok.ensures.units; time = c.in-Ok.ensures.time; failures = c.in-Ok.ensures.failures };
       stops = λ keeps. c.in-Ok.ensures.stops keeps c.args.blocks sized;
       blank = c.in-Ok.ensures.after;
       begins = c.in-Ok.ensures.begins;
       reads = c.in-Ok.ensures.reads;
-    })
-
-pub returns-in-Ok-clause-stands : goal.returns-in-Ok-clause-stands
-returns-in-Ok-clause-stands g c = λ keeps. rw c.from.ensures (journaled (fresh (blank_blocks c.args.blocks)) c.in-Ok.store (c.in-Ok.ensures.ok keeps))
+    }

@@ -1,4 +1,4 @@
-use Rattle.stores.specs.Store.{blocks_of, is_pending}
+use Rattle.journal.specs.Store.{blocks_of, is_pending}
 use Rattle.terminal.proofs.Becoming.{none_below}
 use Rattle.terminal.proofs.images.open_over.Goals as goal
 

@@ -2,9 +2,9 @@ use Rattle.std.proofs.Common.{◌⊎◌, inl, subst, arith}
 use Rattle.terminal.proofs.Pending.{spilled_one}
 use Rattle.sector_disk.proofs.Moments.{leaves_then}
 use Rattle.journal.specs.Maps.{latest, spilled}
-use Rattle.stores.specs.Images.{Means}
-use Rattle.stores.specs.Store.{by_older, device_of, pending_count}
-use Rattle.stores.proofs.Stores.{most_begins, most_reads}
+use Rattle.journal.specs.BySize.{Means}
+use Rattle.journal.specs.Store.{by_older, device_of, pending_count}
+use Rattle.journal.proofs.Costs.{most_begins, most_reads}
 use Rattle.terminal.proofs.images.put_block.Goals as goal
 
 pub returns-in-Ok-clause-ok : goal.returns-in-Ok-clause-ok

@@ -1,7 +1,7 @@
 use Rattle.std.proofs.Common.{◌≡◌, ◌∙◌, ℕ, List, Option, Some, sym, ap, subst, inl, inr, ⊎_elim}
 use Rattle.std.specs.Io.KnownBytes.{Consumes}
 use Rattle.terminal.specs.Screen.{screen_of}
-use Rattle.stores.specs.Store.{closed_of}
+use Rattle.journal.specs.Store.{closed_of}
 use Rattle.std.proofs.lemmas.Bool.{false_from_ne_true}
 use Rattle.terminal.proofs.ScreenLemmas.{same_screen}
 use Rattle.terminal.proofs.images.put_text.Goals as goal

@@ -1,6 +1,6 @@
 use Rattle.std.proofs.Common.{Err, ap, arith}
-use Rattle.stores.specs.Store.{by_older, device_of, pending_count}
-use Rattle.stores.proofs.Stores.{most_begins, most_reads}
+use Rattle.journal.specs.Store.{by_older, device_of, pending_count}
+use Rattle.journal.proofs.Costs.{most_begins, most_reads}
 use Rattle.terminal.specs.Transfer.{as_blocks, spilled_from}
 use Rattle.terminal.proofs.Saving.{fails_then, saves_then}
 use Rattle.terminal.proofs.importing.import_bytes.Goals as goal

@@ -1,6 +1,6 @@
 use Rattle.std.proofs.Common.{◌≡◌, ◌∙◌, ◌+◌, ◌-◌, ◌<◌, ◌≤◌, ℕ, List, None, inl, inr, ⊎_elim, length, subst}
 use Rattle.std.proofs.lemmas.Result.{on_ok_weaker}
-use Rattle.stores.specs.Store.{MeansBy}
+use Rattle.journal.specs.Store.{MeansBy}
 use Rattle.journal.specs.Maps.{latest}
 use Rattle.terminal.specs.Findings.{blocks_for, refusal, said, told}
 use Rattle.terminal.specs.Imported.{Imports}

@@ -3,7 +3,7 @@ use Rattle.std.proofs.lemmas.Grind.{common_steps}
 use Rattle.sector_disk.proofs.Moments.{elapses_refl}
 use Rattle.block_words.proofs.Saves.{continues_then}
 use Rattle.journal.specs.Maps.{spilled}
-use Rattle.stores.specs.Store.{StandsFor, device_of}
+use Rattle.journal.specs.Store.{StandsFor, device_of}
 use Rattle.terminal.specs.Imported.{Spills}
 use Rattle.terminal.specs.Transfer.{as_blocks, block_of, spilled_from}
 use Rattle.terminal.proofs.Saving.{blocks_done, blocks_next, keeps_none, keeps_then, none_left, spilled_more}

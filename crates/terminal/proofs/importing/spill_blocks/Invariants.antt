@@ -1,6 +1,6 @@
 use Rattle.std.proofs.Common.{◌≡◌, ◌≤◌, ◌+◌, ◌-◌, ◌*◌, ◌++◌, ℕ, List, length}
 use Rattle.journal.specs.Maps.{Maps}
-use Rattle.stores.specs.Store.{StandsFor, Continues, DeviceBegins, DeviceReads, DeviceWentWell, KeepsSaved, closed_of, pending_count}
+use Rattle.journal.specs.Store.{StandsFor, Continues, DeviceBegins, DeviceReads, DeviceWentWell, KeepsSaved, closed_of, pending_count}
 use Rattle.terminal.specs.Transfer.{as_blocks, spilled_from}
 use Rattle.terminal.proofs.importing.spill_blocks.Given as goal
 

@@ -2,7 +2,7 @@ use Rattle.terminal.proofs.Pending.{spilled_one}
 use Rattle.std.proofs.Common.{◌∙◌, ◌++◌, ◌-◌, ap, subst, length, replicate}
 use Rattle.journal.specs.Maps.{spilled}
 use Rattle.std.proofs.lemmas.Bool.{false_from_ne_true}
-use Rattle.stores.specs.Store.{StandsFor, closed_of}
+use Rattle.journal.specs.Store.{StandsFor, closed_of}
 use Rattle.terminal.proofs.importing.spill_next.Goals as goal
 
 pub returns-in-Ok-clause-spilled : goal.returns-in-Ok-clause-spilled

@@ -1,7 +1,8 @@
 use Rattle.std.proofs.Common.{◌∙◌, ◌++◌, ℕ, subst}
 use Rattle.std.proofs.lemmas.Result.{IfErr-weaker, on_ok_weaker}
 use Rattle.std.specs.Io.KnownBytes.{Appends}
-use Rattle.terminal.specs.NewerCare.{damage_told, newer_no_recovery, standing_by}
+use Rattle.terminal.specs.Damage.{damage_told}
+use Rattle.terminal.specs.NewerCare.{newer_no_recovery, standing_by}
 use Rattle.terminal.proofs.NewerCare.{salvaged_newer}
 use Rattle.terminal.proofs.newer_salvaging.salvage_newer_over.Goals as goal
 

@@ -1,8 +1,8 @@
 use Rattle.std.proofs.Common.{◌≡◌}
-use Rattle.shadow.specs.Layout.{sectors_for}
+use Rattle.journal.specs.PageLayout.{sectors_for}
 use Rattle.shadow.specs.Upgraded.{known_blocks}
 use Rattle.terminal.proofs.NewerSizes.{newer_size, older_sound}
-use Rattle.stores.proofs.Suited.{stays}
+use Rattle.journal.proofs.Suited.{stays}
 use Rattle.terminal.proofs.newer_upgrading.upgrade_over.Goals as goal
 
 pub returns-in-Ok-clause-upgrades : goal.returns-in-Ok-clause-upgrades

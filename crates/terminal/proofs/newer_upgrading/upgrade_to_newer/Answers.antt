@@ -1,5 +1,5 @@
 use Rattle.std.proofs.Common.{◌≡◌, ◌∙◌, ℕ, ap, subst}
-use Rattle.shadow.specs.Layout.{sectors_for}
+use Rattle.journal.specs.PageLayout.{sectors_for}
 use Rattle.shadow.specs.Upgraded.{known_blocks}
 use Rattle.terminal.specs.Files.{IsMade}
 use Rattle.terminal.proofs.newer_upgrading.upgrade_to_newer.Goals as goal

@@ -1,4 +1,4 @@
-use Rattle.stores.specs.Store.{device_of}
+use Rattle.journal.specs.Store.{device_of}
 use Rattle.terminal.proofs.Closing.{done_of}
 use Rattle.terminal.proofs.program.make_by.Goals as goal
 

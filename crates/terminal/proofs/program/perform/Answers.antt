@@ -1,4 +1,4 @@
-use Rattle.stores.specs.Store.{device_of}
+use Rattle.journal.specs.Store.{device_of}
 use Rattle.terminal.proofs.Closing.{done_of}
 use Rattle.terminal.proofs.program.perform.Goals as goal
 
@@ -38,6 +38,14 @@ returns-in-CheckImport-clause-done g c =
 pub returns-in-Check-clause-done : goal.returns-in-Check-clause-done
 returns-in-Check-clause-done g c =
     rw c.in-Check.is (done_of c.check_image.result c.closed-in-Check.result c.closed-in-Check.ensures _ _ (λ disk checked. (disk, checked)) c.check_image.ensures.checked)
+
+pub returns-in-Digests-clause-done : goal.returns-in-Digests-clause-done
+returns-in-Digests-clause-done g c =
+    rw c.in-Digests.is (done_of c.digest_image.result c.closed-in-Digests.result c.closed-in-Digests.ensures _ _ (λ disk told. (disk, told)) c.digest_image.ensures.told)
+
+pub returns-in-Diff-clause-done : goal.returns-in-Diff-clause-done
+returns-in-Diff-clause-done g c =
+    rw c.in-Diff.is (done_of c.compare_images.result c.closed-in-Diff.result c.closed-in-Diff.ensures _ _ (λ both made. (both.0, both.1, made)) c.compare_images.ensures.compared)
 
 pub returns-in-Copy-clause-done : goal.returns-in-Copy-clause-done
 returns-in-Copy-clause-done g c =

@@ -1,17 +1,16 @@
 use Rattle.std.proofs.Common.{refl}
 use Rattle.journal.specs.Maps.{fresh}
-use Rattle.stores.specs.Store.{device_of}
+use Rattle.journal.specs.Store.{device_of}
 use Rattle.recovery.specs.Formatted.{blank_blocks}
-use Rattle.stores.proofs.Stores.{journaled}
 use Rattle.terminal.proofs.Closing.{done_of, failed_of}
 use Rattle.terminal.proofs.program.run_in_memory.Goals as goal
 
 pub returns-in-Ok-format-clause-well : goal.returns-in-Ok-format-clause-well
 returns-in-Ok-format-clause-well g c =
     done_of c.run_session.result c.closed.result c.closed.ensures _ _ (λ end run. (run.closing, run.made, _, device_of end, refl, refl, run.completes))
-    (c.run_session.ensures.well (fresh (blank_blocks 32)) (rw c.from.ensures (journaled (fresh (blank_blocks 32)) c.in-Ok-format.store (c.in-Ok-format.ensures.ok c.in-Ok.ensures.model))))
+    (c.run_session.ensures.well (fresh (blank_blocks 32)) (c.in-Ok-format.ensures.ok c.in-Ok.ensures.model))
 
 pub returns-in-Ok-format-clause-broken : goal.returns-in-Ok-format-clause-broken
 returns-in-Ok-format-clause-broken g c =
     failed_of c.run_session.result c.closed.result c.closed.ensures _ _ (λ e run other. let broken = run other in (broken.0, broken.1, broken.2, _, broken.3, refl, refl, broken.4))
-    (c.run_session.ensures.broken (fresh (blank_blocks 32)) (rw c.from.ensures (journaled (fresh (blank_blocks 32)) c.in-Ok-format.store (c.in-Ok-format.ensures.ok c.in-Ok.ensures.model))))
+    (c.run_session.ensures.broken (fresh (blank_blocks 32)) (c.in-Ok-format.ensures.ok c.in-Ok.ensures.model))

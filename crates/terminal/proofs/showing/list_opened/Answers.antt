@@ -1,5 +1,5 @@
 use Rattle.std.proofs.Common.{refl}
-use Rattle.stores.specs.Store.{device_of}
+use Rattle.journal.specs.Store.{device_of}
 use Rattle.terminal.proofs.Closing.{done_of}
 use Rattle.terminal.proofs.showing.list_opened.Goals as goal
 

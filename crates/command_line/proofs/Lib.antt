@@ -1,0 +1,4 @@
+pub mod Given
+pub mod CommandRows
+pub mod Alone
+pub mod Building

@@ -1,0 +1,246 @@
+-- What the words of a command line may be, and the order that they give.
+use Rattle.std.specs.Prelude.{◌≡◌, ◌≢◌, ◌≤◌, ℕ, pos, true, List, [], ◌∷◌, Option, Some, None, codes, ⊤}
+use Rattle.std.specs.Str.Parse.{IsNumeral, digits_value, without_leading_plus}
+use Rattle.clap.specs.Words.{App, Row, Rule, Text, fault_of, first_of, is_simple, is_simple_and_free, new_app, new_rule, one_of, subcommand_of, with_rule, with_subcommand}
+use Rattle.clap.specs.declared.builder.action.ArgAction.TheVariants.{Set, SetTrue}
+use Rattle.clap.specs.declared.builder.value_parser.ValueParser.TheVariants as vp
+use Rattle.command_line.specs.declared.orders.Form.{Form}
+use Rattle.command_line.specs.declared.orders.Form.TheVariants.{Text as Lines, Raw}
+use Rattle.command_line.specs.declared.orders.Layout.{Layout}
+use Rattle.command_line.specs.declared.orders.Layout.TheVariants.{Two, Three}
+use Rattle.command_line.specs.declared.orders.Order.{Order}
+use Rattle.command_line.specs.declared.orders.Order.TheVariants.{Memory, New, Run, Trace, List as ListBlock, Put, Export, Import, CheckImport, Check, Digests, Diff, Upgrade, Copy, Salvage}
+
+-- an argument that has to be there
+abbrev pub wanted : Text → Rule
+wanted id = record (new_rule id) { required = true; action = Some Set }
+
+abbrev pub image : Rule
+image = wanted (codes "IMAGE")
+
+abbrev pub old_image : Rule
+old_image = wanted (codes "OLD")
+
+abbrev pub new_image : Rule
+new_image = wanted (codes "NEW")
+
+-- a number of a block
+abbrev pub number : Text → Rule
+number id = record (wanted id) { parser = Some (vp.Signed (pos 0) (pos 65535)) }
+
+abbrev pub block : Rule
+block = number (codes "BLOCK")
+
+abbrev pub first_block : Rule
+first_block = number (codes "FIRST")
+
+abbrev pub last_block : Rule
+last_block = number (codes "LAST")
+
+-- an option without a value
+abbrev pub flag : Text → Rule
+flag id = record (new_rule id) { long = Some id; action = Some SetTrue }
+
+abbrev pub raw : Rule
+raw = flag (codes "raw")
+
+abbrev pub check : Rule
+check = flag (codes "check")
+
+abbrev pub trace : Rule
+trace = flag (codes "trace")
+
+abbrev pub each_block : Rule
+each_block = flag (codes "blocks")
+
+abbrev pub file : Rule
+file = wanted (codes "FILE")
+
+abbrev pub blocks : Rule
+blocks = record (wanted (codes "blocks")) {
+  long = Some (codes "blocks");
+  value_names = 1;
+  parser = Some (vp.Signed (pos 32) (pos 3840));
+}
+
+-- the same, where it may be left out
+abbrev pub asked_blocks : Rule
+asked_blocks = record (new_rule (codes "blocks")) {
+  long = Some (codes "blocks");
+  value_names = 1;
+  action = Some Set;
+  parser = Some (vp.Signed (pos 32) (pos 3840));
+}
+
+abbrev pub steps : Rule
+steps = record (new_rule (codes "steps")) {
+  long = Some (codes "steps");
+  value_names = 1;
+  action = Some Set;
+  parser = Some (vp.Signed (pos 1) (pos 1000000000));
+  defaults = codes "1000000" ∷ [];
+}
+
+abbrev pub asked_layout : Rule
+asked_layout = record (new_rule (codes "layout")) {
+  long = Some (codes "layout");
+  value_names = 1;
+  action = Some Set;
+  parser = Some (vp.Signed (pos 2) (pos 3));
+  defaults = codes "2" ∷ [];
+}
+
+abbrev pub new_app_of : App
+new_app_of = with_rule (with_rule (with_rule (new_app (codes "new")) image) blocks) asked_layout
+
+abbrev pub run_app : App
+run_app = with_rule (with_rule (with_rule (new_app (codes "run")) image) steps) trace
+
+abbrev pub list_app : App
+list_app = with_rule (with_rule (new_app (codes "list")) image) block
+
+abbrev pub put_app : App
+put_app = with_rule (with_rule (with_rule (new_app (codes "put")) image) block) file
+
+abbrev pub export_app : App
+export_app = with_rule (with_rule (with_rule (with_rule (new_app (codes "export")) image) first_block) last_block) raw
+
+abbrev pub import_without_flags : App
+import_without_flags = with_rule (with_rule (with_rule (new_app (codes "import")) image) first_block) file
+
+abbrev pub import_app : App
+import_app = with_rule (with_rule import_without_flags raw) check
+
+abbrev pub check_app : App
+check_app = with_rule (with_rule (new_app (codes "check")) image) each_block
+
+abbrev pub diff_app : App
+diff_app = with_rule (with_rule (new_app (codes "diff")) old_image) new_image
+
+abbrev pub upgrade_app : App
+upgrade_app = with_rule (with_rule (with_rule (new_app (codes "upgrade")) old_image) new_image) asked_layout
+
+abbrev pub copy_app : App
+copy_app = with_rule (with_rule (with_rule (new_app (codes "copy")) old_image) new_image) asked_blocks
+
+abbrev pub salvage_app : App
+salvage_app = with_rule (with_rule (with_rule (new_app (codes "salvage")) old_image) new_image) asked_blocks
+
+-- a program that tells its version
+abbrev pub with_version : App → App
+with_version app = record app { top = record app.top { has_version = true } }
+
+-- the commands over the blocks of an image
+abbrev pub over_blocks : App → App
+over_blocks app =
+    with_subcommand (with_subcommand (with_subcommand (with_subcommand app list_app.top) put_app.top) export_app.top) import_app.top
+
+-- the program without a command
+abbrev pub program : App
+program = with_version (new_app (codes "forth83"))
+
+-- the commands that make an image of another one
+abbrev pub making : App → App
+making app = with_subcommand (with_subcommand (with_subcommand app upgrade_app.top) copy_app.top) salvage_app.top
+
+-- the commands that look at images
+abbrev pub looking : App → App
+looking app = with_subcommand (with_subcommand app check_app.top) diff_app.top
+
+-- the program with its eleven commands
+abbrev pub forth83 : App
+forth83 = making (looking (over_blocks (with_subcommand (with_subcommand program new_app_of.top) run_app.top)))
+
+-- One program makes of the words what the other does, by simple rules.
+pub record ReadsAs (a b : App) (words : List Text) : Type 0 where
+  pub simple : is_simple a ≡ true
+  pub free : is_simple_and_free a ≡ true
+  pub subcommand : subcommand_of a words ≡ subcommand_of b words
+  pub fault : fault_of a words ≡ fault_of b words
+
+-- Words whose second one is this name are read by this program as by the one with all commands.
+abbrev pub SufficesFor : App → Text → Type 0
+SufficesFor app name = (first : Text) (rest : List Text) → ReadsAs app forth83 (first ∷ name ∷ rest)
+
+-- the text that was given under this id
+abbrev pub HasText : List Row → Text → Text → Type 0
+HasText rows id text = first_of id rows ≡ Some text
+
+-- the number that was given under this id, in digits
+abbrev pub HasNumber : List Row → Text → ℕ → Type 0
+HasNumber rows id n = (text : Text) × (one_of id rows ≡ Some text) × IsNumeral 10 (without_leading_plus text)
+    × (n ≡ digits_value 10 (without_leading_plus text))
+
+-- the number of blocks that was given, or that none was
+abbrev pub HasBlocks : List Row → Option ℕ → Type 0
+HasBlocks rows None = first_of (codes "blocks") rows ≡ None
+HasBlocks rows (Some n) = HasNumber rows (codes "blocks") n
+
+-- the number of a layout
+abbrev pub layout_number : Layout → ℕ
+layout_number Two = 2
+layout_number Three = 3
+
+-- the layout that was given by its number
+abbrev pub HasLayout : List Row → Layout → Type 0
+HasLayout rows layout = HasNumber rows (codes "layout") (layout_number layout)
+
+-- the form that the flag `--raw` gives
+abbrev pub HasForm : List Row → Form → Type 0
+HasForm rows form = (one_of (codes "raw") rows ≡ Some (codes "true") → form ≡ Raw)
+    × (one_of (codes "raw") rows ≡ Some (codes "false") → form ≡ Lines)
+
+-- the flag isn't given, or is
+abbrev pub IsUnset : List Row → Text → Type 0
+IsUnset rows id = one_of id rows ≢ Some (codes "true")
+
+abbrev pub IsSet : List Row → Text → Type 0
+IsSet rows id = one_of id rows ≢ Some (codes "false")
+
+-- the order that a command with these arguments gives
+abbrev pub Orders : Option (Text × List Row) → Order → Type 0
+Orders None Memory = ⊤
+Orders (Some given) (New path n layout) = (given.0 ≡ codes "new") × HasText given.1 (codes "IMAGE") path.now
+    × HasNumber given.1 (codes "blocks") n × HasLayout given.1 layout
+Orders (Some given) (Run path n) = (given.0 ≡ codes "run") × HasText given.1 (codes "IMAGE") path.now
+    × HasNumber given.1 (codes "steps") n × IsUnset given.1 (codes "trace")
+Orders (Some given) (Trace path n) = (given.0 ≡ codes "run") × HasText given.1 (codes "IMAGE") path.now
+    × HasNumber given.1 (codes "steps") n × IsSet given.1 (codes "trace")
+Orders (Some given) (ListBlock path b) = (given.0 ≡ codes "list") × HasText given.1 (codes "IMAGE") path.now
+    × HasNumber given.1 (codes "BLOCK") b
+Orders (Some given) (Put path b text) = (given.0 ≡ codes "put") × HasText given.1 (codes "IMAGE") path.now
+    × HasNumber given.1 (codes "BLOCK") b × HasText given.1 (codes "FILE") text.now
+Orders (Some given) (Export path first last form) = (given.0 ≡ codes "export") × HasText given.1 (codes "IMAGE") path.now
+    × HasNumber given.1 (codes "FIRST") first × HasNumber given.1 (codes "LAST") last × HasForm given.1 form
+Orders (Some given) (Import path first source form) = (given.0 ≡ codes "import") × HasText given.1 (codes "IMAGE") path.now
+    × HasNumber given.1 (codes "FIRST") first × HasText given.1 (codes "FILE") source.now × HasForm given.1 form × IsUnset given.1 (codes "check")
+Orders (Some given) (CheckImport path first source form) = (given.0 ≡ codes "import") × HasText given.1 (codes "IMAGE") path.now
+    × HasNumber given.1 (codes "FIRST") first × HasText given.1 (codes "FILE") source.now × HasForm given.1 form × IsSet given.1 (codes "check")
+Orders (Some given) (Check path) = (given.0 ≡ codes "check") × HasText given.1 (codes "IMAGE") path.now × IsUnset given.1 (codes "blocks")
+Orders (Some given) (Digests path) = (given.0 ≡ codes "check") × HasText given.1 (codes "IMAGE") path.now × IsSet given.1 (codes "blocks")
+Orders (Some given) (Diff old new) = (given.0 ≡ codes "diff") × HasText given.1 (codes "OLD") old.now × HasText given.1 (codes "NEW") new.now
+Orders (Some given) (Upgrade old new layout) = (given.0 ≡ codes "upgrade") × HasText given.1 (codes "OLD") old.now
+    × HasText given.1 (codes "NEW") new.now × HasLayout given.1 layout
+Orders (Some given) (Copy old new asked) = (given.0 ≡ codes "copy") × HasText given.1 (codes "OLD") old.now
+    × HasText given.1 (codes "NEW") new.now × HasBlocks given.1 asked
+Orders (Some given) (Salvage old new asked) = (given.0 ≡ codes "salvage") × HasText given.1 (codes "OLD") old.now
+    × HasText given.1 (codes "NEW") new.now × HasBlocks given.1 asked
+Orders _ _ = ⊥
+
+-- the words give the order
+abbrev pub IsOrderOf : List Text → Order → Type 0
+IsOrderOf words order = Orders (subcommand_of forth83 words) order
+
+-- an image may have so many blocks, where a number is given
+abbrev pub AreInRange : Option ℕ → Type 0
+AreInRange None = ⊤
+AreInRange (Some n) = (32 ≤ n) × (n ≤ 3840)
+
+-- its numbers lie in their ranges
+abbrev pub IsInRange : Order → Type 0
+IsInRange (New path n layout) = (32 ≤ n) × (n ≤ 3840)
+IsInRange (Run path n) = (1 ≤ n) × (n ≤ 1000000000)
+IsInRange (Trace path n) = (1 ≤ n) × (n ≤ 1000000000)
+IsInRange (Copy old new asked) = AreInRange asked
+IsInRange (Salvage old new asked) = AreInRange asked
+IsInRange order = ⊤

@@ -1,0 +1,248 @@
+//! What a person at a terminal is told besides: how a session is left, and which file a failure is about. It goes to
+//! standard error, and only where that is a terminal, so a script reads nothing of it.
+
+use command_line::order;
+use command_line::orders::Order;
+use std::convert::AsStr;
+use std::fs::{self, File, Files, OpenOptions};
+use std::io::{ErrorKind, Read, Write};
+
+/// How many bytes of a file are looked at to tell whether it is a text.
+const BEGINNING: usize = 512;
+
+/// The smallest image: 32 blocks by layout 1 or 2.
+const SMALLEST_IMAGE: u64 = 131 * 512;
+
+/// What a file is, as it is just after a failure.
+#[derive(Clone, Copy, PartialEq, Eq)]
+enum Cause {
+    Missing,
+    Folder,
+    NotReadable,
+    NotWritable,
+    /// It is there, and begins as a text does.
+    Text,
+    /// It is there, and no image has so few bytes.
+    Short(u64),
+}
+
+/// Tells once, before a session that these words ask for, over what it runs and how it is left.
+pub(super) fn greet<S: AsStr, E: Write>(
+    rt: &(impl Files<File = File> + AllocGlobal),
+    words: &[S],
+    errors: &mut E,
+) {
+    match order(rt.alloc(), words) {
+        Ok(asked) => greet_over(rt, asked, errors),
+        Err(_) => {}
+    }
+}
+
+/// Tells over what an order runs its lines, and how the session is left.
+fn greet_over<E: Write>(rt: &impl Files<File = File>, asked: Order<'_>, errors: &mut E) {
+    let over = match asked {
+        Order::Memory => "32 blocks in memory, which are not kept",
+        Order::Run(path, _) | Order::Trace(path, _) if is_file(rt, path) => path,
+        _ => return,
+    };
+    let _ = writeln!(
+        errors,
+        "forth83 over {over}. Words are in capital letters; Ctrl-D ends the session."
+    );
+}
+
+/// Tells after a failure of this status which file it was about, of those that these words name, and what is wrong with
+/// that.
+pub(super) fn advise<S: AsStr, E: Write>(
+    rt: &(impl Files<File = File> + AllocGlobal),
+    words: &[S],
+    status: u8,
+    errors: &mut E,
+) {
+    match order(rt.alloc(), words) {
+        Ok(asked) => advise_on(rt, asked, status, errors),
+        Err(_) => {}
+    }
+}
+
+/// Tells after a failure of an order which file it was about, by the status, and what is wrong with that.
+fn advise_on<E: Write>(rt: &impl Files<File = File>, asked: Order<'_>, status: u8, errors: &mut E) {
+    match status {
+        3 => tell_of_images(rt, asked, errors),
+        4 => tell_of_text(rt, asked, errors),
+        _ => {}
+    }
+}
+
+/// Tells of the images of an order.
+fn tell_of_images<E: Write>(rt: &impl Files<File = File>, asked: Order<'_>, errors: &mut E) {
+    match asked {
+        Order::Memory => {}
+        Order::New(path, _, _) => tell_of_new(rt, path, errors),
+        Order::Run(path, _)
+        | Order::Trace(path, _)
+        | Order::List(path, _)
+        | Order::Put(path, _, _)
+        | Order::Export(path, _, _, _)
+        | Order::Import(path, _, _, _)
+        | Order::CheckImport(path, _, _, _)
+        | Order::Check(path)
+        | Order::Digests(path) => tell_of_old(rt, path, is_written(asked), errors),
+        Order::Diff(old, new) => tell_of_two(rt, old, new, errors),
+        Order::Upgrade(old, new, _) | Order::Copy(old, new, _) | Order::Salvage(old, new, _) => {
+            tell_of_both(rt, old, new, is_written(asked), errors)
+        }
+    }
+}
+
+/// Whether the image of an order is opened for writing too: one that is listed may be read alone.
+fn is_written(asked: Order<'_>) -> bool {
+    !matches!(
+        asked,
+        Order::List(..)
+            | Order::Check(_)
+            | Order::Digests(_)
+            | Order::Diff(..)
+            | Order::Copy(..)
+            | Order::Salvage(..)
+    )
+}
+
+/// Tells of two images that were to be read: of the first that can be seen not to be one.
+fn tell_of_two<E: Write>(rt: &impl Files<File = File>, old: &str, new: &str, errors: &mut E) {
+    if cause_of_image(rt, old, false).is_some() {
+        tell_of_old(rt, old, false, errors)
+    } else if cause_of_image(rt, new, false).is_some() {
+        tell_of_old(rt, new, false, errors)
+    } else {
+        let _ = writeln!(errors, "  {old}, {new}");
+    }
+}
+
+/// Tells of an image and of the one that was to be made of it. The first is looked at first, as the order does.
+fn tell_of_both<E: Write>(
+    rt: &impl Files<File = File>,
+    old: &str,
+    new: &str,
+    is_written: bool,
+    errors: &mut E,
+) {
+    if cause_of_image(rt, old, is_written).is_some() {
+        tell_of_old(rt, old, is_written, errors)
+    } else if fs::metadata(rt, new).is_ok() {
+        tell_of_new(rt, new, errors)
+    } else {
+        let _ = writeln!(errors, "  {old}, {new}");
+    }
+}
+
+/// Tells of the file of an image that was to be opened, for writing too or for reading alone.
+fn tell_of_old<E: Write>(
+    rt: &impl Files<File = File>,
+    path: &str,
+    is_written: bool,
+    errors: &mut E,
+) {
+    let _ = match cause_of_image(rt, path, is_written) {
+        Some(Cause::Missing) => writeln!(errors, "  {path}: no such file"),
+        Some(Cause::Folder) => writeln!(errors, "  {path}: a folder"),
+        Some(Cause::NotReadable) => writeln!(errors, "  {path}: no right to read it"),
+        Some(Cause::NotWritable) => writeln!(errors, "  {path}: no right to write it"),
+        Some(Cause::Text) => writeln!(
+            errors,
+            "  {path}: it begins as a text does; the image comes first"
+        ),
+        Some(Cause::Short(bytes)) => {
+            writeln!(errors, "  {path}: {bytes} bytes, fewer than an image has")
+        }
+        None => writeln!(errors, "  {path}"),
+    };
+}
+
+/// Tells of the file of an image that was to be made.
+fn tell_of_new<E: Write>(rt: &impl Files<File = File>, path: &str, errors: &mut E) {
+    let _ = if fs::metadata(rt, path).is_ok() {
+        writeln!(errors, "  {path}: there is a file of this name")
+    } else {
+        writeln!(errors, "  {path}: it can't be made there")
+    };
+}
+
+/// Tells of the text of an order.
+fn tell_of_text<E: Write>(rt: &impl Files<File = File>, asked: Order<'_>, errors: &mut E) {
+    let (Order::Put(_, _, path)
+    | Order::Import(_, _, path, _)
+    | Order::CheckImport(_, _, path, _)) = asked
+    else {
+        return;
+    };
+    let _ = match cause_of_file(rt, path) {
+        Some(Cause::Missing) => writeln!(errors, "  {path}: no such file"),
+        Some(Cause::Folder) => writeln!(errors, "  {path}: a folder"),
+        Some(Cause::NotReadable) => writeln!(errors, "  {path}: no right to read it"),
+        _ => writeln!(errors, "  {path}"),
+    };
+}
+
+/// What keeps a file from being read, if anything does.
+fn cause_of_file(rt: &impl Files<File = File>, path: &str) -> Option<Cause> {
+    match fs::metadata(rt, path) {
+        Ok(of) if of.is_dir() => Some(Cause::Folder),
+        // (an opening of a pipe could wait for its other end)
+        Ok(of) if !of.is_file() => None,
+        Ok(_) => match File::open(rt, path) {
+            Err(error) if error.kind() == ErrorKind::PermissionDenied => Some(Cause::NotReadable),
+            _ => None,
+        },
+        Err(error) if error.kind() == ErrorKind::NotFound => Some(Cause::Missing),
+        Err(error) if error.kind() == ErrorKind::PermissionDenied => Some(Cause::NotReadable),
+        Err(_) => None,
+    }
+}
+
+/// What keeps a file from being an image that can be opened, if anything of that can be seen.
+fn cause_of_image(rt: &impl Files<File = File>, path: &str, is_written: bool) -> Option<Cause> {
+    if let Some(cause) = cause_of_file(rt, path) {
+        return Some(cause);
+    }
+    if !is_file(rt, path) {
+        return None;
+    }
+    if is_written && !is_writable(rt, path) {
+        return Some(Cause::NotWritable);
+    }
+    if begins_as_a_text(rt, path) {
+        return Some(Cause::Text);
+    }
+    match fs::metadata(rt, path) {
+        Ok(of) if of.is_file() && of.len() < SMALLEST_IMAGE => Some(Cause::Short(of.len())),
+        _ => None,
+    }
+}
+
+fn is_file(rt: &impl Files<File = File>, path: &str) -> bool {
+    match fs::metadata(rt, path) {
+        Ok(of) => of.is_file(),
+        Err(_) => false,
+    }
+}
+
+/// Whether a file may be written: it is opened for that, and nothing is.
+fn is_writable(rt: &impl Files<File = File>, path: &str) -> bool {
+    match OpenOptions::new().write(true).open(rt, path) {
+        Err(error) => error.kind() != ErrorKind::PermissionDenied,
+        Ok(_) => true,
+    }
+}
+
+/// Whether a file has bytes, and no byte below a tab at its beginning. An image's label has zeros.
+fn begins_as_a_text(rt: &impl Files<File = File>, path: &str) -> bool {
+    let Ok(mut file) = File::open(rt, path) else {
+        return false;
+    };
+    let mut bytes = [0; BEGINNING];
+    match file.read(&mut bytes) {
+        Ok(count) => 0 < count && bytes[..count].iter().all(|byte| *byte >= b'\t'),
+        Err(_) => false,
+    }
+}
