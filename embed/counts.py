@@ -1,11 +1,12 @@
 #!/usr/bin/env python3
-"""Prints what `blocks`, `sessions`, `flash` and boards/trial.c have to print: how many stops, images and recoveries there are.
+"""Prints what `blocks`, `opened`, `sessions`, `flash` and boards/trial.c have to print: how many stops, images and recoveries there are.
 
-    counts.py blocks|sessions
+    counts.py blocks|opened|sessions
     counts.py flash|trial LAYOUT
 
 It shares no code with the library. The disk, the store and the block words are those of crates/stop_texts/totals.py, which are written by docs/IMAGE.md.
 """
+import hashlib
 import importlib.util
 import itertools
 import os
@@ -80,19 +81,27 @@ def blank():
     return MODEL.Disk(disk.now)
 
 
-def count(call):
+def count(call, first=0):
+    """What a call comes to that is stopped before each of its device calls, from the first one that is told."""
     start = blank()
     save(start, OLD)
     images = news = most = recoveries = 0
-    for at in itertools.count():
+    for at in itertools.count(first):
         disk, is_stopped = stopped(lambda it: call(it, NEW), start.now, at)
         if not is_stopped:
-            return at, images, images - news, news, most, recoveries
+            return at - first, images, images - news, news, most, recoveries
         ways = list(left(disk))
         most = max(most, len(ways))
         for sectors in ways:
             new, calls = is_new(sectors)
             images, news, recoveries = images + 1, news + new, recoveries + calls
+
+
+def opening():
+    """How many calls an opening makes of an image whose save is finished."""
+    disk = blank()
+    MODEL.Older(disk, BLOCKS)
+    return disk.calls
 
 
 BLOCKS_TEXT = """a disk that was never formatted is refused: well
@@ -105,18 +114,29 @@ a save of which a call fails says so: well
 calls that failed {0}
 a sync that lies is noticed: well
 """
+OPENED_TEXT = """a save to an open store is read back: well
+a store that isn't open is refused: well
+a read of an open store makes 2 calls: well
+refused arguments leave the store open: well
+a fault of the device closes the store: well
+saves after each other are read back: well
+a save to an open store that loses power is all or none: well
+stops {0}, images {1} ({2} old, {3} new)
+"""
 SESSIONS_TEXT = """a session that loses power is all or none: well
 stops {0}, images {1} ({2} old, {3} new)
 """
 
 
-
 class Checked(MODEL.Older):
-    """A store of layout 2 that refuses a damaged image."""
+    """A store of layout 2 that refuses a damaged image. It looks at what the disk holds, and makes no call for it."""
 
     def open(self):
-        if self.disk.now[1][:8] == MODEL.OPEN[:8] and self.digest(self.disk.now[2][:480]) != self.disk.now[2][480:]:
-            raise ValueError("the image is damaged")
+        if MODEL.is_open(self.disk.now):
+            record = self.disk.now[2]
+            slots = b"".join(self.disk.now[self.free(b) + half] for b in MODEL.listed(record, self.blocks) for half in (0, 1))
+            if hashlib.sha256(record[:480] + slots).digest() != record[480:]:
+                raise ValueError("the image is damaged")
         super().open()
 
 
@@ -220,10 +240,13 @@ def ended(call):
 
 
 def trial(layout):
-    """Stops of a save on a board, those that left the old pair and the new one, and stops of the recoveries after them."""
+    """Stops of a save on a board, those that left the old pair and the new one, and stops of the recoveries after them: after the first stop, and after
+    each before which a write was made."""
     start = MODEL.Disk(formed(layout, SECTORS[layout]))
     saved(start, layout, [(4, b"K" * 1024)])
     olds = news = recoveries = 0
+    # (how many writes were begun, the one that is stopped too)
+    writes = [-1, 0]
     for stop in itertools.count():
         saved(start, layout, of_pair(b"O"))
         disk = MODEL.Disk(start.now, "from", stop + 1)
@@ -231,7 +254,8 @@ def trial(layout):
             return stop, olds, news, recoveries
         after = MODEL.Disk(disk.now)
         STORES[layout](after, BLOCKS)
-        recoveries += after.calls
+        recoveries += after.calls * (writes[-1] > writes[-2])
+        writes.append(disk.writes)
         is_new = found(after.now, layout)[PAIR[0]] == b"N" * 1024
         olds, news = olds + (not is_new), news + is_new
 
@@ -244,7 +268,11 @@ TRIAL_TEXT = "stops {0} ({1} old, {2} new), stopped recoveries {3}: well\n"
 
 def text_of(words):
     """What is to be printed, or None where the words ask for nothing."""
-    texts = {"blocks": lambda: BLOCKS_TEXT.format(*count(save)), "sessions": lambda: SESSIONS_TEXT.format(*count(session))}
+    texts = {
+        "blocks": lambda: BLOCKS_TEXT.format(*count(save)),
+        "opened": lambda: OPENED_TEXT.format(*count(save, opening())),
+        "sessions": lambda: SESSIONS_TEXT.format(*count(session)),
+    }
     if len(words) == 1 and words[0] in texts:
         return texts[words[0]]()
     if len(words) == 2 and words[0] in ("flash", "trial") and words[1] in ("2", "3"):
@@ -257,5 +285,5 @@ def text_of(words):
 if __name__ == "__main__":
     text = text_of(sys.argv[1:])
     if text is None:
-        sys.exit("usage: counts.py blocks|sessions\n       counts.py flash|trial LAYOUT")
+        sys.exit("usage: counts.py blocks|opened|sessions\n       counts.py flash|trial LAYOUT")
     print(text, end="")

@@ -33,12 +33,16 @@ static int emit(void *context, const uint8_t *text, size_t n) {
 static uint8_t answer;
 static uint8_t bytes[4 * BLOCK_BYTES];
 static const uint16_t four[4] = {1, 2, 3, 4};
+static struct silgwyrad_store store;
 
 static void nothing(void) {}
 static void format(void) { answer = silgwyrad_format(DEVICE, SECTORS, BLOCKS); }
 static void recover(void) { answer = silgwyrad_recover(DEVICE, SECTORS); }
 static void read_one(void) { answer = silgwyrad_read(DEVICE, SECTORS, 1, bytes, BLOCK_BYTES); }
 static void save_four(void) { answer = silgwyrad_save(DEVICE, SECTORS, four, 4, bytes, sizeof bytes); }
+static void open_store(void) { answer = silgwyrad_open(DEVICE, SECTORS, &store); }
+static void read_open(void) { answer = silgwyrad_read_open(&store, 1, bytes, BLOCK_BYTES); }
+static void save_open(void) { answer = silgwyrad_save_open(&store, four, 4, bytes, sizeof bytes); }
 static void session(void) { answer = silgwyrad_run(DEVICE, SECTORS, CONSOLE, CONSOLE, STEPS); }
 
 static int told(const char *name, void (*call)(void)) {
@@ -61,5 +65,6 @@ int measure(const struct silgwyrad_device *device) {
     silgwyrad_use_console(CONSOLE, &console);
     left_of_text = DEEP;
     return told("(no call)", nothing) + told("format", format) + told("recover", recover) + told("read", read_one)
-        + told("save of four blocks", save_four) + told("session", session) + told_steps();
+        + told("save of four blocks", save_four) + told("open", open_store) + told("read of an open store", read_open)
+        + told("save of four blocks to an open store", save_open) + told("session", session) + told_steps();
 }

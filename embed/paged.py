@@ -1,14 +1,14 @@
 #!/usr/bin/env python3
-"""Prints what `blocks --paged` and `sessions --paged` have to print over a blank image of layout 3: how many stops, images and recoveries there are.
+"""Prints what `blocks`, `opened` and `sessions` have to print with --paged over a blank image of layout 3: how many stops, images and recoveries there are.
 
-    paged.py blocks|sessions
+    paged.py blocks|opened|sessions
 
 It shares no code with the library. The disk, the store and the block words are those of crates/stop_texts/totals.py, which are written by docs/IMAGE.md.
 """
 import itertools
 import sys
 
-from counts import BLOCKS, MODEL, NEW, OLD, PAIR, SESSIONS_TEXT, TORN
+from counts import BLOCKS, MODEL, NEW, OLD, OPENED_TEXT, PAIR, SESSIONS_TEXT, TORN
 
 # every how many calls an opening is stopped
 EACH = 16
@@ -80,14 +80,21 @@ def is_new(sectors):
     return held == {NEW[:512]}, (calls + EACH - 1) // EACH
 
 
-def count(call):
+def opening():
+    """How many calls an opening makes."""
+    disk = paged(blank())
+    MODEL.Newer(disk, BLOCKS)
+    return disk.calls
+
+
+def count(call, first=0):
     start = paged(blank())
     save(start, OLD)
     images = news = most = recoveries = 0
-    for at in itertools.count():
+    for at in itertools.count(first):
         disk, is_stopped = stopped(lambda it: call(it, NEW), start.now, at)
         if not is_stopped:
-            return at, images, images - news, news, most, recoveries
+            return at - first, images, images - news, news, most, recoveries
         ways = list(left(disk))
         most = max(most, len(ways))
         for sectors in ways:
@@ -98,6 +105,8 @@ def count(call):
 def main():
     if sys.argv[1:] == ["blocks"]:
         print(BLOCKS_TEXT.format(*count(save)), end="")
+    elif sys.argv[1:] == ["opened"]:
+        print(OPENED_TEXT.format(*count(save, opening())), end="")
     elif sys.argv[1:] == ["sessions"]:
         print(SESSIONS_TEXT.format(*count(session)), end="")
     else:

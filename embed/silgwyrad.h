@@ -30,7 +30,11 @@
  * - A device has the sectors that the call says, of 512 bytes each, and nothing else writes to them. To keep the disk model: a
  *   read gives what was last written. A write changes no other sector; until a sync has succeeded, a loss of power may leave
  *   any bytes in it (with an image of layout 3, in each of the eight sectors of its page), and so may a write that failed. A
- *   sync that answers 0 makes all stay that was written before it, also where an earlier sync failed. */
+ *   sync that answers 0 makes all stay that was written before it, also where an earlier sync failed.
+ * - A console gives each byte of its input once, in order, and then its end; where it fails, none was lost. Bytes that it answered 0 for stay
+ *   written, in order; of those that it refused some may have come through.
+ * - An open store is what silgwyrad_open or a later call left in its memory, or zeros, and its number is that of the same device.
+ * - The heap of silgwyrad_run gives blocks aligned to 16 bytes. The stack has what docs/EMBEDDING.md measures: no call looks at its end. */
 #ifndef SILGWYRAD_H
 #define SILGWYRAD_H
 
@@ -55,16 +59,17 @@ enum silgwyrad_answer {
     SILGWYRAD_NO_STEPS = 9,      /* a line may take no step; nothing was called */
     SILGWYRAD_INPUT = 10,        /* the input failed */
     SILGWYRAD_OUTPUT = 11,       /* the output failed */
-    SILGWYRAD_NO_MEMORY = 12     /* there is no memory for a session; nothing of the input was read */
+    SILGWYRAD_NO_MEMORY = 12,    /* there is no memory for a session; nothing of the input was read */
+    SILGWYRAD_NOT_OPEN = 13      /* no store is open there; no device was called */
 };
 
 /* The numbers of a call have the same bits on each target: a length has 64 also where a pointer has 32. */
 
-/* Makes an image of layout 2 of so many blank blocks, on a device of 3 + 4 * blocks sectors. A stop leaves the blank image, the old
- * one, or one without a label. The calls below take images of either layout. */
+/* Makes an image of so many blank blocks: of layout 2 on a device of 3 + 4 * blocks sectors, of layout 3 on one of 32 + 16 * blocks. A stop
+ * leaves the blank image, the old one, or one without a label. The calls below take images of either layout. */
 uint8_t silgwyrad_format(int32_t device, uint32_t sectors, uint16_t blocks);
 
-/* Finishes a save that a stop left half done. Each of the calls below does so first. */
+/* Finishes a save that a stop left half done. silgwyrad_read, silgwyrad_save, silgwyrad_open and silgwyrad_run do so first. */
 uint8_t silgwyrad_recover(int32_t device, uint32_t sectors);
 
 /* Reads the 1024 bytes of a block, as it was saved last. At any other answer than 0, out is as it was. n is 1024. */
@@ -73,6 +78,27 @@ uint8_t silgwyrad_read(int32_t device, uint32_t sectors, uint16_t block, uint8_t
 /* Saves `count` blocks, all or none, whenever it is stopped. n is 1024 for each. Of a block that stands twice the last bytes count. */
 uint8_t silgwyrad_save(int32_t device, uint32_t sectors, const uint16_t *blocks, uint64_t count, const uint8_t *bytes,
                        uint64_t n);
+
+/* An open store between two calls, in memory of the program's: 524 bytes, of which it looks at nothing. Zeros are one that isn't open. */
+struct silgwyrad_store {
+    int32_t device;
+    uint32_t sectors;
+    uint32_t state;
+    uint8_t listing[512];
+};
+
+/* Opens an image as silgwyrad_recover does, for the three calls below, which don't open it again. As long as it is open, nothing else writes to the
+ * image, and no silgwyrad_run uses it. Where the answer isn't 0 the store isn't open. */
+uint8_t silgwyrad_open(int32_t device, uint32_t sectors, struct silgwyrad_store *store);
+
+/* silgwyrad_read of an open store: 2 reads of the device. After SILGWYRAD_DEVICE the store isn't open any more; after another refusal it is. */
+uint8_t silgwyrad_read_open(struct silgwyrad_store *store, uint16_t block, uint8_t *out, uint64_t n);
+
+/* silgwyrad_save to an open store. After SILGWYRAD_DEVICE the store isn't open any more; after another refusal it is. */
+uint8_t silgwyrad_save_open(struct silgwyrad_store *store, const uint16_t *blocks, uint64_t count, const uint8_t *bytes, uint64_t n);
+
+/* Closes it. Nothing is left to be done, and no device is called: a store that is just left is as good. */
+void silgwyrad_close(struct silgwyrad_store *store);
 
 /* Runs a session of a new Forth system over the image: the lines that `input` gives, to the end of the input, at most `steps`
  * steps a line, 1 or more. The replies are written to `output`, which may be the same console. */

@@ -26,10 +26,12 @@ finish() {
 parts_of() {
     case $1 in
         blocks) echo blocks.c disk.c host.c ;;
+        opened) echo opened.c disk.c host.c ;;
         logger) echo logger.c host.c ;;
         forth) echo forth.c host.c heap.c ;;
         sessions) echo sessions.c disk.c host.c heap.c ;;
         flash) echo flash.c host.c ;;
+        shared) echo shared.c disk.c host.c heap.c ;;
     esac
 }
 
@@ -42,7 +44,7 @@ build() {
 # Runs the hosts that were built in a folder, under an emulator where one is named.
 run_hosts() {
     what=$1 in=$2 emulator=${3:-}
-    for host in blocks sessions; do
+    for host in blocks opened sessions; do
         $emulator "$in/$host" > "$in/$host.out"
         told $? "$what: $host"
         ./counts.py $host | diff - "$in/$host.out"
@@ -60,6 +62,8 @@ run_hosts() {
     printf '1 BLOCK 8 + 9 SWAP ! UPDATE FLUSH\n' | $emulator "$in/forth" "$in/log" > "$in/edited.out"
     [ "$($emulator "$in/logger" "$in/log" | tail -n 1)" = '2: 9' ]
     told $? "$what: logger reads what forth saved"
+    $emulator "$in/shared" | cmp - expected/shared
+    told $? "$what: C and Forth share blocks"
     ./image.py 2 32 "$in/host.img" 1=host.scr
     ask_host $emulator "$in/forth" "$in/host.img"
     told $? "$what: words of forth ask the host"
@@ -74,7 +78,7 @@ ask_host() {
 run_paged() {
     what=$1 in=$2 emulator=${3:-}
     ./image.py 3 32 "$in/paged.img"
-    for host in blocks sessions; do
+    for host in blocks opened sessions; do
         $emulator "$in/$host" --paged "$in/paged.img" > "$in/$host.paged"
         told $? "$what: $host over pages"
         ./paged.py $host | diff - "$in/$host.paged"
@@ -104,7 +108,7 @@ kill_logger() {
 try_all() {
     what=$1 compiler=$2 flags=$3 library=$4 in=$5 emulator=${6:-}
     mkdir -p "$in"
-    for host in blocks sessions flash forth logger; do
+    for host in blocks opened sessions flash forth logger shared; do
         build "$compiler" "$flags" "$library" $host "$in/$host"
         told $? "$what: $host is built"
     done
@@ -151,8 +155,9 @@ else
     echo 'crates/forth83/out/forth83 is not built: its words do not ask the host'
 fi
 try_all sanitized gcc "$sanitizers" "$folder/libsilgwyrad.a" "$folder/sanitized"
-if command -v aarch64-linux-gnu-gcc > /dev/null && command -v qemu-aarch64 > /dev/null; then
-    mkdir -p "$folder/arm"
+mkdir -p "$folder/arm"
+# (a compiler without the C library of its processor is installed too)
+if command -v qemu-aarch64 > /dev/null && aarch64-linux-gnu-gcc -static -x c - -o "$folder/arm/main" <<< 'int main(void) { return 0; }' 2> /dev/null; then
     if ./library.sh "$folder/arm" aarch64-unknown-linux-gnu > "$folder/arm/library.log" 2>&1; then
         told 0 '64-bit ARM: the library is built'
         try_all '64-bit ARM' aarch64-linux-gnu-gcc '-O2 -static' "$folder/arm/libsilgwyrad.a" "$folder/arm" qemu-aarch64
@@ -161,7 +166,7 @@ if command -v aarch64-linux-gnu-gcc > /dev/null && command -v qemu-aarch64 > /de
         told 1 '64-bit ARM: the library is built'
     fi
 else
-    echo 'aarch64-linux-gnu-gcc and qemu-aarch64 are not both installed here: 64-bit ARM is not tried'
+    echo 'aarch64-linux-gnu-gcc, its C library and qemu-aarch64 are not all installed here: 64-bit ARM is not tried'
 fi
 ./measure.sh "$folder"
 told $? 'what the calls take is within the limits'

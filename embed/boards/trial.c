@@ -1,6 +1,7 @@
 /* A save of two blocks that the board's reset stops, before each device call in turn; the recovery after it is stopped in the same way, and
  * recovered. Each byte of both blocks has to hold the old number or each the new one, and a third block what was saved to it at first. Where
- * the trial is, RAM keeps over the reset.
+ * the trial is, RAM keeps over the reset. Where the call before a stop of the save was no write, the disk is as the stop before left it: then
+ * the recovery isn't stopped again.
  *
  * A reset loses nothing that the disk has taken. What a loss of power may leave of sectors that weren't synced is tried by ../blocks.c. */
 #include "board.h"
@@ -18,6 +19,8 @@ static struct {
     uint32_t stop_again;   /* the call of the recovery after it before which the board is reset once more */
     uint32_t is_recovery;  /* it is the recovery that was stopped */
     uint32_t has_written;  /* and it had written */
+    uint32_t wrote_last;   /* the last call of the disk was a write */
+    uint32_t is_as_before; /* the stop of the save left what the one before it did */
     uint32_t recoveries;   /* that were stopped */
     uint32_t olds, news;   /* stops of the save that left the old number, the new one */
     uint8_t old;           /* the new number is the next one */
@@ -26,26 +29,27 @@ static struct {
 static uint32_t calls, reset_at;
 static uint8_t bytes[2][BLOCK_BYTES];
 
-static void begin_call(void) {
+static void begin_call(uint32_t is_write) {
     if (calls++ == reset_at) board_reset();
+    kept.has_written |= is_write;
+    kept.wrote_last = is_write;
 }
 
 static int read_sector(void *context, uint32_t sector, uint8_t out[SECTOR_BYTES]) {
     (void)context;
-    begin_call();
+    begin_call(0);
     return board_read(sector, out);
 }
 
 static int write_sector(void *context, uint32_t sector, const uint8_t of_sector[SECTOR_BYTES]) {
     (void)context;
-    begin_call();
-    kept.has_written = 1;
+    begin_call(1);
     return board_write(sector, of_sector);
 }
 
 static int sync_all(void *context) {
     (void)context;
-    begin_call();
+    begin_call(0);
     return board_sync();
 }
 
@@ -116,7 +120,7 @@ static void begin_trial(void) {
 /* Stops the recovery, and comes to the next stop of the save where the recovery ended before. */
 static void try_recovery(void) {
     kept.is_recovery = 1;
-    reset_before(kept.stop_again);
+    reset_before(kept.is_as_before ? UINT32_MAX : kept.stop_again);
     expect(!silgwyrad_recover(DEVICE, kept.sectors), "the image is refused");
     is_new() ? kept.news++ : kept.olds++;
     kept.stop++;
@@ -128,6 +132,8 @@ static void go_on(void) {
     if (kept.is_recovery) {
         kept.recoveries++;
         kept.stop_again++;
+    } else if (kept.stop_again == 0) {
+        kept.is_as_before = kept.stop > 0 && !kept.wrote_last;
     }
     if (kept.is_recovery && kept.has_written)
         is_new();

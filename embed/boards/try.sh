@@ -50,6 +50,11 @@ screens() {
     sed -nE 's#^\$ forth83 put lib.img ([0-9]+) ((library|examples)/.*)#\1=../../\2#p' ../../library/README.md
 }
 
+# The lines by which its page runs the tests.
+typed_for_tests() {
+    sed -nE "s/^[$] printf '(.*)REPORT.n' [|] forth83 run lib.img$/\1REPORT/p" ../../library/README.md | sed 's/\\n/\n/g'
+}
+
 try_starts() {
     local board=$1
     give_disk "$board"
@@ -71,13 +76,13 @@ try_forth() {
     give_disk "$board"
     talks "$board" 'the Forth answers, and saves' '> 1 2 + .
 3  ok
-> 7 1 BLOCK ! UPDATE SAVE-BUFFERS EMPTY-BUFFERS 1 BLOCK @ .
+> 7 1 BLOCK ! UPDATE FLUSH 1 BLOCK @ .
 7  ok'
     mapfile -t texts < <(screens)
     report=$(grep -E '^[0-9]+ TESTS, 0 WRONG ok$' ../../library/README.md)
     for layout in 2 3; do
-        give_disk "$board" $layout 64 "${texts[@]}"
-        [ "$(printf '%s\n' '43 LOAD 1 LOAD' '44 53 THRU' REPORT | ./talk.py ./board.sh boot "$board" "$folder/$board/forth.elf" "$folder/$board" | tail -n 1)" = "$report" ]
+        give_disk "$board" $layout 96 "${texts[@]}"
+        [ "$(typed_for_tests | ./talk.py ./board.sh boot "$board" "$folder/$board/forth.elf" "$folder/$board" | tail -n 1)" = "$report" ]
         told $? "$board: the library's tests, by layout $layout"
     done
 }

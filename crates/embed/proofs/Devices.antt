@@ -1,5 +1,5 @@
 -- What a call makes of a device, of what its parts make of it.
-use Rattle.std.proofs.Common.{◌≡◌, ◌≢◌, ℕ, ◌≤◌, Bool, true, false, refl, sym, subst, inl, ◌∙◌, arith}
+use Rattle.std.proofs.Common.{◌≡◌, ◌≢◌, ℕ, ◌≤◌, Bool, true, false, IsTrue, refl, sym, subst, inl, ◌∙◌, arith}
 use Rattle.std.specs.Prelude.{MatchBool}
 use Rattle.sector_disk.specs.Disk.{Image, MayLeave}
 use Rattle.sector_disk.specs.declared.device.SectorDevice.{Ghosts}
@@ -10,6 +10,8 @@ use Rattle.recovery.specs.Opened.{RecoveryLeaves}
 use Rattle.recovery.specs.declared.fault.OpenFault.{OpenFault}
 use Rattle.recovery.specs.declared.fault.OpenFault.TheVariants.{BadSize}
 use Rattle.shadow.specs.Label.{is_known_size}
+use Rattle.journal.specs.Suits.{suits}
+use Rattle.journal.proofs.Suited.{newer_suits, older_suits}
 use Rattle.sessions.specs.Devices.{Becomes}
 use Rattle.embed.specs.Calls.{MayRecover}
 
@@ -48,3 +50,11 @@ module _ {D : Type 0} (G : Ghosts D) where
           → StopsLeave G old new (MayRecover G old)
       by_size true is other = stops is
       by_size false is bad = subst (λ d. StopsLeave G old d (MayRecover G old)) (sym (same bad)) (untouched old only_now)
+
+-- A device of which nothing is assumed suits no store.
+pub never_suits : {D : Type 0} (G : Ghosts D) (d : D) → G.keeps_model d ≡ false → G.keeps_sectors d ≡ false → IsTrue (suits G d) → ⊥
+never_suits G d model units keeps = by (older.is_size (G.sector_count d)) refl
+  where
+    by : (b : Bool) → older.is_size (G.sector_count d) ≡ b → ⊥
+    by true is = let no : IsTrue false = subst IsTrue (older_suits G d is ∙ units) keeps in cc
+    by false isnt = let no : IsTrue false = subst IsTrue (newer_suits G d isnt ∙ model) keeps in cc

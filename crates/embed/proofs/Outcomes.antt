@@ -6,9 +6,9 @@ use Rattle.recovery.specs.Opened.{first_of}
 use Rattle.recovery.specs.declared.fault.OpenFault.{OpenFault}
 use Rattle.recovery.specs.declared.fault.OpenFault.TheVariants as image
 use Rattle.embed.specs.Calls.{device_after}
-use Rattle.embed.specs.Refusals.{IsOfImage, of_image}
+use Rattle.embed.specs.Refusals.{IsOfImage, IsOfSession, of_image}
 use Rattle.embed.specs.declared.refusal.Refusal.{Refusal}
-use Rattle.embed.specs.declared.refusal.Refusal.TheVariants.{Device}
+use Rattle.embed.specs.declared.refusal.Refusal.TheVariants.{BadSize, NoLabel, OtherVersion, WrongCount, Device, Damaged, NoBlock, BadLength, NoSteps, Input, Output, NoMemory}
 
 module _ {D : Type 0} where
   pub ok_after : (r : Result D (Refusal × D)) (P : D → Type 0) → P (device_after r) → IfOk r P
@@ -61,3 +61,18 @@ lies_with_image image.OtherVersion = tt
 lies_with_image image.WrongCount = tt
 lies_with_image image.Device = tt
 lies_with_image image.Damaged = tt
+
+-- What lies with the session doesn't lie with the image.
+pub not_both : (e : Refusal) → IsOfImage e → IsOfSession e → ⊥
+not_both BadSize of_image_is of_session_is = of_session_is
+not_both NoLabel of_image_is of_session_is = of_session_is
+not_both OtherVersion of_image_is of_session_is = of_session_is
+not_both WrongCount of_image_is of_session_is = of_session_is
+not_both Device of_image_is of_session_is = of_session_is
+not_both Damaged of_image_is of_session_is = of_session_is
+not_both NoBlock of_image_is of_session_is = of_image_is
+not_both BadLength of_image_is of_session_is = of_image_is
+not_both NoSteps of_image_is of_session_is = of_image_is
+not_both Input of_image_is of_session_is = of_image_is
+not_both Output of_image_is of_session_is = of_image_is
+not_both NoMemory of_image_is of_session_is = of_image_is

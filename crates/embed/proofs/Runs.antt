@@ -1,12 +1,12 @@
 -- A session over a store that was opened on a device.
-use Rattle.std.proofs.Common.{◌≡◌, ◌∙◌, ◌≤◌, ℕ, List, Option, IsTrue, Result, Ok, Err, refl, ap, sym, subst}
+use Rattle.std.proofs.Common.{◌≡◌, ◌≢◌, ◌∙◌, ◌≤◌, ◌++◌, ℕ, List, Option, IsTrue, Result, Ok, Err, refl, ap, sym, subst}
 use Rattle.std.specs.Prelude.{IfErr, OnOk}
 use Rattle.sector_disk.specs.declared.device.SectorDevice.{Ghosts}
 use Rattle.sector_disk.specs.Moments.{Elapses}
-use Rattle.stores.specs.declared.store.Store.{Store}
+use Rattle.journal.specs.declared.store.Store.{Store}
 use Rattle.journal.specs.Maps.{fresh}
-use Rattle.stores.specs.Store.{StandsFor, device_of}
-use Rattle.stores.specs.Suits.{suits}
+use Rattle.journal.specs.Store.{StandsFor, device_of}
+use Rattle.journal.specs.Suits.{suits}
 use Rattle.block_words.specs.Words.{Save}
 use Rattle.interpreter.specs.State.{Forth}
 use Rattle.interpreter.specs.Promise.{Keeps}
@@ -14,13 +14,16 @@ use Rattle.sessions.specs.declared.run_fault.RunFault.{RunFault}
 use Rattle.sessions.specs.declared.run_fault.RunFault.TheVariants as run
 use Rattle.sessions.specs.Devices.{Becomes}
 use Rattle.sessions.specs.Sessions.{Completes, BreaksOff, Runs}
-use Rattle.sessions.proofs.Ended.{ended}
+use Rattle.sessions.proofs.Ended.{ended_beside}
+use Rattle.sessions.proofs.Rising.{told_in_all}
 use Rattle.embed.specs.Calls.{OpensOn, meant_by}
-use Rattle.embed.specs.Refusals.{IsOfImage, of_run}
+use Rattle.embed.specs.Costs.{OpeningBegins}
+use Rattle.embed.specs.Refusals.{IsOfImage, IsOfSession, of_run}
+use Rattle.embed.proofs.Counts.{session_begins}
 use Rattle.embed.specs.Sessions.{BegunOn, EndsOn, BreaksSession, RunsSession, system_on}
 use Rattle.embed.proofs.Devices.{Widens, becomes_then}
 use Rattle.embed.specs.declared.refusal.Refusal.{Refusal}
-use Rattle.embed.specs.declared.refusal.Refusal.TheVariants.{Input, NoMemory, NoSteps, Output}
+use Rattle.embed.specs.declared.refusal.Refusal.TheVariants.{Input, NoSteps, Output}
 
 -- which fault of a run it was, by what is told
 pub was_read : (fault : RunFault) (e : Refusal) → e ≡ of_run fault → e ≡ Input → fault ≡ run.Read
@@ -36,9 +39,14 @@ pub not_image : (fault : RunFault) → IsOfImage (of_run fault) → ⊥
 not_image run.Read is = is
 not_image run.Write is = is
 
-pub not_memory : (fault : RunFault) → of_run fault ≡ NoMemory → ⊥
-not_memory run.Read is = let no : Input ≡ NoMemory = is in cc
-not_memory run.Write is = let no : Output ≡ NoMemory = is in cc
+pub of_session : (fault : RunFault) → IsOfSession (of_run fault)
+of_session run.Read = tt
+of_session run.Write = tt
+
+-- it is one of the input or the output
+pub not_either : (fault : RunFault) → of_run fault ≢ Input → of_run fault ≢ Output → ⊥
+not_either run.Read input output = input refl
+not_either run.Write input output = output refl
 
 pub not_steps : (fault : RunFault) → of_run fault ≡ NoSteps → ⊥
 not_steps run.Read is = let no : Input ≡ NoSteps = is in cc
@@ -60,9 +68,10 @@ module _ {D A : Type 0} (G : Ghosts D) (device : D) (steps : ℕ) (left left' wr
       × IfErr outcome (λ fault. BreaksOff G fault (system_on G steps device) closing left left' written written' (device_of store) (device_of end) made)
 
   pub has_run : (after : D) (store end : Store D G) (outcome : Result A RunFault) (done : A) → outcome ≡ Ok done → after ≡ device_of end
-      → OpensOn G device store → Becomes G (device_of store) (device_of end) → (IsTrue (suits G device) → Ends store end outcome)
+      → OpensOn G device store → (IsTrue (suits G device) → OpeningBegins G device (device_of store)) → Becomes G (device_of store) (device_of end) → (IsTrue (suits G device) → Ends store end outcome)
       → RunsSession G steps left left' written written' device after
-  has_run after store end outcome done well is opens goes ends =
+  has_run after store end outcome done well is opens opening goes ends =
+      let completed = λ (keeps : IsTrue (suits G device)). on_ok outcome done _ well (ends keeps).4 in
       subst (RunsSession G steps left left' written written' device) (sym is) (record {
         begun = device_of store;
         goes = opens.goes;
@@ -71,16 +80,21 @@ module _ {D A : Type 0} (G : Ghosts D) (device : D) (steps : ℕ) (left left' wr
         runs = λ keeps. let ended = ends keeps in record {
           closing = ended.0;
           made = ended.1;
-          completes = on_ok outcome done _ well ended.4;
+          completes = completed keeps;
           keeps = ended.3;
           saved = λ closed. ended.2.left (sym ended.2.closed ∙ closed);
         };
+        begins = λ keeps.
+            session_begins G device (device_of store) (device_of end) _ opens.sectors (opening keeps)
+            (told_in_all G (device_of store) (device_of end) (completed keeps).turns (completed keeps).told).1;
       })
 
   pub has_broken : (after : D) (store end : Store D G) (outcome : Result A RunFault) (fault told : RunFault) → outcome ≡ Err fault → fault ≡ told
-      → after ≡ device_of end → OpensOn G device store → Becomes G (device_of store) (device_of end) → IsTrue (suits G device) → Ends store end outcome
+      → after ≡ device_of end → OpensOn G device store → (IsTrue (suits G device) → OpeningBegins G device (device_of store))
+      → Becomes G (device_of store) (device_of end) → IsTrue (suits G device) → Ends store end outcome
       → BreaksSession G told steps left left' written written' device after
-  has_broken after store end outcome fault told broken is at opens goes keeps ended =
+  has_broken after store end outcome fault told broken is at opens opening goes keeps ended =
+      let cut = if_err outcome fault _ broken ended.5 in
       subst (λ d. BreaksSession G told steps left left' written written' device d) (sym at) (subst (λ it. BreaksSession G it steps left left' written written' device (device_of end)) is (record {
         begun = device_of store;
         goes = opens.goes;
@@ -88,8 +102,11 @@ module _ {D A : Type 0} (G : Ghosts D) (device : D) (steps : ℕ) (left left' wr
         closing = ended.0;
         made = ended.1;
         stops = opens.stops keeps;
-        breaks = if_err outcome fault _ broken ended.5;
+        breaks = cut;
         keeps = ended.3;
+        begins =
+            session_begins G device (device_of store) (device_of end) _ opens.sectors (opening keeps)
+            (told_in_all G (device_of store) (device_of end) (cut.turns ++ cut.last) cut.told).1;
       }))
 
 -- a run of a system that was begun on a device, and ended
@@ -121,15 +138,15 @@ module _ {D F A : Type 0} (G : Ghosts D) (stands : F → Forth → Type 0) (soun
     run_ends keeps =
         let well = rw (first, last) at ok in
         let broken = rw (first, last) at err in
-        ended outcome _ _ _ _ _ _ ends.means (system_on G steps device) (stood keeps) well broken
+        ended_beside outcome _ _ _ _ _ _ _ _ (λ opening closing made it. it) (λ fault opening closing made it. it) ends.means (system_on G steps device) (stood keeps) well broken
 
     pub ran : (done : A) → outcome ≡ Ok done → RunsSession G steps left left' written written' device end
-    ran done well = has_run G device steps left left' written written' end begun.store ends.store outcome done well ends.left begun.opens goes run_ends
+    ran done well = has_run G device steps left left' written written' end begun.store ends.store outcome done well ends.left begun.opens begun.opening goes run_ends
 
     pub broke : (fault told : RunFault) → outcome ≡ Err fault → fault ≡ told → IsTrue (suits G device)
         → BreaksSession G told steps left left' written written' device end
     broke fault told broken is keeps =
-        has_broken G device steps left left' written written' end begun.store ends.store outcome fault told broken is ends.left begun.opens goes keeps (run_ends keeps)
+        has_broken G device steps left left' written written' end begun.store ends.store outcome fault told broken is ends.left begun.opens begun.opening goes keeps (run_ends keeps)
 
     pub came : Widens G → Becomes G device end
     came widens = subst (λ d. Becomes G device d) (sym ends.left) (becomes_then G device (device_of begun.store) (device_of ends.store) widens begun.opens.goes goes)

@@ -1,9 +1,9 @@
 -- Spills one after another, and what a commit of them saves.
 use Rattle.std.proofs.Common.{◌≡◌, ◌∙◌, ℕ, zero, suc, ◌+◌, ◌<◌, Bool, true, false, List, [], ◌∷◌, length, drop, take, refl, ap, subst, sym, ◌*◌, arith}
-use Rattle.std.specs.Prelude.{Option, Some, unwrap_or, slice_set, slice_index, ◌&&◌}
+use Rattle.std.specs.Prelude.{Option, Some, None, unwrap_or, slice_set, slice_index, ◌&&◌}
 use Rattle.std.specs.List.{list_all}
 use Rattle.std.proofs.lemmas.List.{length-drop, length-set}
-use Rattle.journal.specs.Maps.{Maps, fresh, latest, none_pending, overridden, spilled}
+use Rattle.journal.specs.Maps.{Maps, committed, fresh, latest, none_pending, overridden, spilled}
 use Rattle.embed.specs.Saving.{with_blocks}
 use Rattle.embed.specs.Spilling.{all_spilled}
 
@@ -43,6 +43,29 @@ saved_same m (b ∷ blocks) bytes = saved_same (spilled m b (take 1024 bytes)) b
 pub closed_same : (m : Maps) (blocks bytes : List ℕ) → (all_spilled m blocks bytes).closed ≡ m.closed
 closed_same m [] bytes = refl
 closed_same m (b ∷ blocks) bytes = closed_same (spilled m b (take 1024 bytes)) blocks (drop 1024 bytes)
+
+none_same : {A B : Type 0} (xs : List A) (ys : List B) → length xs ≡ length ys → none_pending xs ≡ none_pending ys
+none_same [] [] same = refl
+none_same [] (y ∷ ys) same = absurd (omega (arith, same))
+none_same (x ∷ xs) [] same = absurd (omega (arith, same))
+none_same (x ∷ xs) (y ∷ ys) same = ap (λ l. None ∷ l) (none_same xs ys (omega (arith, same)))
+
+length_pending : (m : Maps) (blocks bytes : List ℕ) → length (all_spilled m blocks bytes).pending ≡ length m.pending
+length_pending m [] bytes = refl
+length_pending m (b ∷ blocks) bytes =
+    length_pending (spilled m b (take 1024 bytes)) blocks (drop 1024 bytes) ∙ length-set m.pending b (Some (take 1024 bytes))
+
+length_with : (saved : List (List ℕ)) (blocks bytes : List ℕ) → length (with_blocks saved blocks bytes) ≡ length saved
+length_with saved [] bytes = refl
+length_with saved (b ∷ blocks) bytes =
+    length_with (slice_set saved b (take 1024 bytes)) blocks (drop 1024 bytes) ∙ length-set saved b (take 1024 bytes)
+
+-- After a commit of these spills the store is as one that was just opened.
+pub committed_fresh : (saved : List (List ℕ)) (blocks bytes : List ℕ) → committed (all_spilled (fresh saved) blocks bytes) ≡ fresh (with_blocks saved blocks bytes)
+committed_fresh saved blocks bytes =
+    let none = none_same (all_spilled (fresh saved) blocks bytes).pending (with_blocks saved blocks bytes)
+    (length_pending (fresh saved) blocks bytes ∙ length_none saved ∙ sym (length_with saved blocks bytes)) in
+    λ i. record { saved = saves saved blocks bytes i; pending = none i; closed = closed_same (fresh saved) blocks bytes i }
 
 -- what holds of all holds of the next
 pub next_of : (test : ℕ → Bool) (xs : List ℕ) (i : ℕ) → i < length xs → list_all test (drop i xs) ≡ true

@@ -2,11 +2,11 @@
 use Rattle.std.proofs.Common.{◌≡◌, ◌⊎◌, ℕ, List, false, sym, subst, inl, inr, ⊎_elim, ◌∙◌, arith}
 use Rattle.sector_disk.specs.declared.device.SectorDevice.{Ghosts}
 use Rattle.sector_disk.proofs.Moments.{elapses_then, leaves_then}
-use Rattle.stores.specs.declared.store.Store.{Store}
+use Rattle.journal.specs.declared.store.Store.{Store}
 use Rattle.journal.specs.Calls.{StopsLeave}
-use Rattle.stores.specs.Images.{Means}
+use Rattle.journal.specs.BySize.{Means}
 use Rattle.journal.specs.Maps.{Maps, fresh, latest}
-use Rattle.stores.specs.Store.{Continues, KeepsSaved, MeansBy, SavesAllOrNone, StandsFor, closed_of, device_of}
+use Rattle.journal.specs.Store.{Continues, KeepsSaved, MeansBy, SavesAllOrNone, StandsFor, closed_of, device_of}
 use Rattle.sessions.specs.Devices.{Becomes}
 use Rattle.embed.specs.Calls.{AllOrNone, KeepsBlocks, LeavesBlocks, MayRecover, MeansOn, meant_by}
 use Rattle.embed.specs.Spilling.{all_spilled}

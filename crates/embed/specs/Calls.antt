@@ -2,15 +2,17 @@
 use Rattle.std.specs.Prelude.{◌≡◌, ◌⊎◌, ℕ, false, IsTrue, List, Result, Ok, Err}
 use Rattle.sector_disk.specs.Disk.{Image, MayLeave}
 use Rattle.sector_disk.specs.declared.device.SectorDevice.{Ghosts}
-use Rattle.stores.specs.declared.store.Store.{Store}
+use Rattle.journal.specs.declared.store.Store.{Store}
 use Rattle.journal.specs.Calls.{StopsLeave}
 use Rattle.journal.specs.Images as older_images
+use Rattle.journal.specs.PageImages as newer_images
 use Rattle.journal.specs.Maps.{fresh}
-use Rattle.stores.specs.Store.{StandsFor, blocks_of, closed_of, device_of, is_pending}
+use Rattle.journal.specs.Store.{StandsFor, blocks_of, closed_of, device_of, is_pending}
 use Rattle.shadow.specs.Upgraded.{known_blocks}
-use Rattle.stores.specs.Images.{Means, meaning}
+use Rattle.journal.specs.BySize.{Means}
+use Rattle.stores.specs.Images.{meaning}
 use Rattle.stores.specs.Opened.{OpeningLeaves}
-use Rattle.stores.specs.Suits.{suits}
+use Rattle.journal.specs.Suits.{suits}
 use Rattle.sessions.specs.Devices.{Becomes}
 use Rattle.embed.specs.declared.refusal.Refusal.{Refusal}
 use Rattle.embed.specs.Saving.{with_blocks}
@@ -40,6 +42,10 @@ module _ {D : Type 0} (G : Ghosts D) where
   -- A stop now leaves these blocks, by layout 2.
   abbrev pub LeavesOlder : D → List (List ℕ) → Type 0
   LeavesOlder device blocks = (image : Image) → MayLeave (G.disk device) image → older_images.Means blocks image
+
+  -- The same by layout 3.
+  abbrev pub LeavesNewer : D → List (List ℕ) → Type 0
+  LeavesNewer device blocks = (image : Image) → MayLeave (G.disk device) image → newer_images.Means blocks image
 
   -- A stop of an opening of the device may leave the image: by layout 2 it follows one that a stop may leave now, and by layout 3 it
   -- is one.

@@ -1,4 +1,7 @@
 pub mod Calls
+pub mod Costs
+pub mod Keeping
+pub mod Making
 pub mod Refusals
 pub mod Requests
 pub mod Saving

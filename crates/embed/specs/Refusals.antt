@@ -1,6 +1,7 @@
 -- Why a call is refused, by its arguments or by the image, and the number that C is told.
-use Rattle.std.specs.Prelude.{ℕ, ◌*◌, ◌==◌, not, nat_lt, if◌then◌else◌, List, length, Option, Some, None, option_map, Result, Ok, Err, ⊤}
+use Rattle.std.specs.Prelude.{◌≡◌, ◌⊎◌, ℕ, ◌*◌, ◌==◌, not, nat_lt, if◌then◌else◌, List, length, Option, Some, None, option_map, Result, Ok, Err, ⊤}
 use Rattle.std.specs.List.{list_all}
+use Rattle.sector_disk.specs.Counting.{count_up}
 use Rattle.sector_disk.specs.Disk.{Image}
 use Rattle.recovery.specs.declared.fault.OpenFault.{OpenFault}
 use Rattle.recovery.specs.declared.fault.OpenFault.TheVariants as image
@@ -30,6 +31,19 @@ code_of NoMemory = 12
 abbrev pub answer_of : {D : Type 0} → Result D (Refusal × D) → ℕ
 answer_of (Ok device) = 0
 answer_of (Err refused) = code_of refused.0
+
+-- the number of the first test that failed, if one did
+abbrev pub number_of : Option Refusal → ℕ
+number_of None = 0
+number_of (Some e) = code_of e
+
+-- What was told is the first test that failed, or that a call of the device did.
+abbrev pub TellsFirst : (answer : ℕ) → Option Refusal → Type 0
+TellsFirst answer first = (answer ≡ code_of Device) ⊎ (answer ≡ number_of first)
+
+-- how many calls of the device failed, of what was told: one where that is the device, and else none
+abbrev pub failures_told : (answer failures : ℕ) → ℕ
+failures_told answer failures = if answer == 5 then count_up failures else failures
 
 -- a fault of an image is told under its own name
 abbrev pub of_image : OpenFault → Refusal
@@ -71,3 +85,10 @@ IsOfImage Input = ⊥
 IsOfImage Output = ⊥
 IsOfImage NoMemory = ⊥
 IsOfImage refusal = ⊤
+
+-- It lies with the session, over an image that was opened.
+abbrev pub IsOfSession : Refusal → Type 0
+IsOfSession Input = ⊤
+IsOfSession Output = ⊤
+IsOfSession NoMemory = ⊤
+IsOfSession refusal = ⊥

@@ -1,4 +1,5 @@
 //! What a call is given, looked at before the device is asked for anything.
+//! Rule: EMBEDDING, What is proved.
 ghost use Rattle.std.specs.Prelude.{◌≡◌, ◌<◌, ◌*◌, ◌==◌, true, nat_lt, None, Some, length, OnOk, MatchResult};
 ghost use Rattle.std.specs.List.{list_all};
 ghost use Rattle.shadow.specs.Label.{is_known_size};
@@ -11,7 +12,8 @@ use stores::blocks_of_size;
 /// The bytes of a block.
 pub const BLOCK: usize = 1024;
 
-/// Refuses to read a block that isn't there, or to a place of another size.
+/// Refuses to read where no image has so many sectors (`BadSize`), then a block that isn't there (`NoBlock`), then a
+/// place of other than 1,024 bytes (`BadLength`).
 pub fn check_read(sectors: u32, block: u16, room: usize) -> Result<(), Refusal>
     ensures exact { MatchResult result (λ _. read_refusal sectors block room ≡ None)
         (λ e. read_refusal sectors block room ≡ Some e) }
@@ -31,7 +33,8 @@ pub fn check_read(sectors: u32, block: u16, room: usize) -> Result<(), Refusal>
     Ok(())
 }
 
-/// Refuses to save blocks that aren't there, or of other than 1,024 bytes each.
+/// Refuses to save where no image has so many sectors (`BadSize`), then where one of the blocks isn't there
+/// (`NoBlock`), then other than 1,024 bytes for each (`BadLength`).
 pub fn check_save(sectors: u32, blocks: &[u16], room: usize) -> Result<(), Refusal>
     ensures exact { MatchResult result (λ _. save_refusal sectors blocks.now room ≡ None)
         (λ e. save_refusal sectors blocks.now room ≡ Some e) }

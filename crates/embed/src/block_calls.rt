@@ -1,18 +1,17 @@
-//! Blocks on a device: made, recovered, read, and saved all or none. Each call opens the image anew and takes no memory.
-ghost use Rattle.std.specs.Prelude.{◌≡◌, ◌≢◌, ◌⊎◌, ◌<◌, ◌*◌, ℕ, true, false, None, Some, length, nat_lt, IsTrue, OnOk, OnErr, IfOk, IfErr, IfSome, MatchBool, MatchResult, Err};
+//! Blocks on a device: recovered, read, and saved all or none. Each call opens the image anew and takes no memory.
+//! Rule: EMBEDDING, What is proved.
+ghost use Rattle.std.specs.Prelude.{◌≡◌, ◌≢◌, ◌⊎◌, ◌<◌, ◌≤◌, ◌+◌, ◌*◌, ℕ, true, false, None, Some, length, nat_lt, IsTrue, OnOk, OnErr, IfOk, IfErr, IfSome, MatchBool, MatchResult, Err};
 ghost use Rattle.std.specs.List.{list_all};
 ghost use Rattle.sector_disk.specs.Counting.{count_up};
-ghost use Rattle.journal.specs.Calls.{StopsLeave};
-ghost use Rattle.journal.specs.Layout.{sectors_for};
-ghost use Rattle.journal.specs.Maps.{Maps, block_in, contents, latest};
-ghost use Rattle.stores.specs.Store.{MeansBy, StandsFor, Continues, KeepsSaved, DeviceFailed, DeviceWentWell, blocks_of, closed_of, device_of};
-ghost use Rattle.stores.specs.Suits.{suits};
-ghost use Rattle.recovery.specs.Formatted.{FormatLeaves, blank_blocks};
-ghost use Rattle.recovery.specs.Label.{is_size_for};
+ghost use Rattle.journal.specs.Calls.{StopsLeave, BeginsAtMost, ReadsAtMost};
+ghost use Rattle.journal.specs.Maps.{Maps, block_in, committed, contents, latest};
+ghost use Rattle.journal.specs.Store.{MeansBy, StandsFor, Continues, DeviceBegins, DeviceReads, KeepsSaved, DeviceFailed, DeviceWentWell, blocks_of, closed_of, device_of, is_pending, pending_count};
+ghost use Rattle.journal.specs.Suits.{suits};
 ghost use Rattle.recovery.specs.Opened.{first_of};
 ghost use Rattle.shadow.specs.Label.{is_known_size};
 ghost use Rattle.sessions.specs.Devices.{Becomes};
-ghost use Rattle.embed.specs.Calls.{AllOrNone, KeepsBlocks, LeavesBlocks, LeavesOlder, MayRecover, OpensOn, blocks_on, device_after, meant_by};
+ghost use Rattle.embed.specs.Calls.{AllOrNone, KeepsBlocks, LeavesBlocks, MayRecover, OpensOn, blocks_on, device_after, meant_by};
+ghost use Rattle.embed.specs.Costs.{OpeningBegins, ReadingBegins, SavingBegins, SavesAtMost};
 ghost use Rattle.embed.specs.Refusals.{IsOfImage, read_refusal, save_refusal, refusal_of};
 ghost use Rattle.embed.specs.Saving.{with_blocks};
 ghost use Rattle.embed.specs.Spilling.{all_spilled};
@@ -20,32 +19,13 @@ ghost use Rattle.embed.specs.Spilling.{all_spilled};
 use crate::arguments::{BLOCK, check_read, check_save};
 use crate::refusal::Refusal;
 use journal::StoreFault;
-use recovery::format;
 use sector_disk::SectorDevice;
 use stores::{Store, open};
 
-/// Makes an image of `blocks` blank blocks. A refusal hands the device back.
-pub fn make_image<D: SectorDevice>(device: D, blocks: u16) -> Result<D, (Refusal, D)>
-    ensures blank { IsTrue (D.keeps_sectors device)
-        → IfOk result (λ after. LeavesOlder D.SectorDevice after (blank_blocks blocks)) }
-    // At any moment a stop leaves no good label, or the blank image, or what was there.
-    ensures stops { IsTrue (D.keeps_sectors device) → (n : ℕ) → D.sector_count device ≡ sectors_for n
-        → StopsLeave D.SectorDevice device (device_after result) (FormatLeaves n (D.disk device)) }
-    ensures sized { IfOk result (λ _. is_size_for blocks (D.sector_count device) ≡ true) }
-    ensures refusal { IfErr result (λ e. MatchBool (is_size_for blocks (D.sector_count device))
-        (e.0 ≡ Refusal.Device) (e.0 ≡ Refusal.BadSize)) }
-    ensures unasked { IfErr result (λ e. e.0 ≡ Refusal.BadSize → e.1 ≡ device) }
-    ensures well { IfOk result (λ after. D.failures after ≡ D.failures device) }
-    ensures failed { IfErr result (λ e. e.0 ≡ Refusal.Device → D.failures e.1 ≡ count_up (D.failures device)) }
-    ensures goes { Becomes D.SectorDevice device (device_after result) }
-{
-    match format(device, blocks) {
-        Ok(store) => Ok(store.into_device()),
-        Err((fault, device)) => Err((Refusal::from(fault), device)),
-    }
-}
-
-/// Opens the image: what a stop has left half done is finished first.
+/// Opens the image: what a stop has left half done is finished first. A refusal hands the device back: `BadSize`, with
+/// no call of it, `NoLabel`, `OtherVersion`, `WrongCount` or `Damaged`, the first that holds, or `Device` where a call
+/// of it failed.
+/// Rule: IMAGE, A recovery; IMAGE, Layout 3, An opening.
 pub fn opened<D: SectorDevice>(device: D) -> Result<Store<D>, (Refusal, D)>
     ensures ok { IfOk result (λ store. OpensOn D.SectorDevice device store) }
     ensures sized { IfOk result (λ _. is_known_size (D.sector_count device) ≡ true) }
@@ -65,6 +45,8 @@ pub fn opened<D: SectorDevice>(device: D) -> Result<Store<D>, (Refusal, D)>
     ensures goes { IfErr result (λ e. Becomes D.SectorDevice device e.1) }
     ensures stops { IsTrue (suits D.SectorDevice device) → IfErr result (λ e.
         StopsLeave D.SectorDevice device e.1 (MayRecover D.SectorDevice device)) }
+    ensures begins { IsTrue (suits D.SectorDevice device) → MatchResult result
+        (λ store. OpeningBegins D.SectorDevice device (device_of store)) (λ e. OpeningBegins D.SectorDevice device e.1) }
 {
     match open(device) {
         Ok(store) => Ok(store),
@@ -72,7 +54,7 @@ pub fn opened<D: SectorDevice>(device: D) -> Result<Store<D>, (Refusal, D)>
     }
 }
 
-/// Finishes what a stop has left half done. A refusal hands the device back.
+/// Finishes what a stop has left half done. A refusal hands the device back: one of those of `opened`.
 pub fn recover<D: SectorDevice>(device: D) -> Result<D, (Refusal, D)>
     ensures ok { IsTrue (suits D.SectorDevice device)
         → IfOk result (λ after. LeavesBlocks D.SectorDevice after (meant_by D.SectorDevice device)) }
@@ -91,6 +73,7 @@ pub fn recover<D: SectorDevice>(device: D) -> Result<D, (Refusal, D)>
     ensures content { IsTrue (suits D.SectorDevice device)
         → IfErr result (λ e. e.0 ≢ Refusal.Device → (D.disk e.1).content ≡ (D.disk device).content) }
     ensures goes { Becomes D.SectorDevice device (device_after result) }
+    ensures begins { IsTrue (suits D.SectorDevice device) → OpeningBegins D.SectorDevice device (device_after result) }
 {
     match opened(device) {
         Ok(store) => Ok(store.into_device()),
@@ -98,7 +81,8 @@ pub fn recover<D: SectorDevice>(device: D) -> Result<D, (Refusal, D)>
     }
 }
 
-/// Reads block `block` into `out`, of 1,024 bytes. A refusal hands the device back, and leaves `out`.
+/// Reads block `block` into `out`, of 1,024 bytes. A refusal hands the device back, and leaves `out`: those of the
+/// arguments come first, as `check_read` says, with no call of the device, and then those of `opened`.
 pub fn read_block<D: SectorDevice>(device: D, block: u16, out: &mut [u8]) -> Result<D, (Refusal, D)>
     ensures bytes { IsTrue (suits D.SectorDevice device)
         → OnOk result (out.new ≡ block_in (meant_by D.SectorDevice device) block) }
@@ -121,6 +105,7 @@ pub fn read_block<D: SectorDevice>(device: D, block: u16, out: &mut [u8]) -> Res
     ensures content { IsTrue (suits D.SectorDevice device)
         → IfErr result (λ e. e.0 ≢ Refusal.Device → (D.disk e.1).content ≡ (D.disk device).content) }
     ensures goes { Becomes D.SectorDevice device (device_after result) }
+    ensures begins { IsTrue (suits D.SectorDevice device) → ReadingBegins D.SectorDevice device (device_after result) }
 {
     match check_read(device.sectors(), block, out.len()) {
         Ok(()) => match opened(device) {
@@ -149,6 +134,8 @@ fn read_from<D: SectorDevice>(
     ensures well { IfOk result (λ after. D.failures after ≡ D.failures (device_of store)) }
     ensures failed { IfErr result (λ e. D.failures e.1 ≡ count_up (D.failures (device_of store))) }
     ensures goes { Becomes D.SectorDevice (device_of store) (device_after result) }
+    ensures begins { BeginsAtMost D.SectorDevice (device_of store) (device_after result) 0 0 }
+    ensures reads { ReadsAtMost D.SectorDevice (device_of store) (device_after result) 2 }
 {
     match store.read_block(block, out) {
         Ok(()) => Ok(store.into_device()),
@@ -156,8 +143,9 @@ fn read_from<D: SectorDevice>(
     }
 }
 
-/// Saves `blocks`, all or none, each with its 1,024 of `bytes`; of a block that stands twice the last bytes count. A refusal
-/// hands the device back.
+/// Saves `blocks`, all or none, each with its 1,024 of `bytes`; of a block that stands twice the last bytes count. A
+/// refusal hands the device back: those of the arguments come first, as `check_save` says, with no call of the device,
+/// then those of `opened`, and `Device` where the save failed.
 pub fn save_blocks<D: SectorDevice>(
     device: D,
     blocks: &[u16],
@@ -182,6 +170,7 @@ pub fn save_blocks<D: SectorDevice>(
     ensures content { IsTrue (suits D.SectorDevice device)
         → IfErr result (λ e. e.0 ≢ Refusal.Device → (D.disk e.1).content ≡ (D.disk device).content) }
     ensures goes { Becomes D.SectorDevice device (device_after result) }
+    ensures begins { IsTrue (suits D.SectorDevice device) → SavingBegins D.SectorDevice device (device_after result) (length blocks.now) }
 {
     match check_save(device.sectors(), blocks, bytes.len()) {
         Ok(()) => match opened(device) {
@@ -201,6 +190,7 @@ fn save_to<D: SectorDevice>(
     requires below { list_all (λ b. nat_lt b (blocks_of store)) blocks.now ≡ true }
     requires whole { length bytes.now ≡ 1024 * length blocks.now }
     requires live { closed_of store ≡ false }
+    requires none { (b : ℕ) → is_pending store b ≡ false }
     ensures saved { (m : Maps) → StandsFor store m → IfOk result (λ after.
         LeavesBlocks D.SectorDevice after (latest (all_spilled m blocks.now bytes.now))) }
     ensures stops { (m : Maps) → StandsFor store m
@@ -210,13 +200,41 @@ fn save_to<D: SectorDevice>(
     ensures well { IfOk result (λ after. D.failures after ≡ D.failures (device_of store)) }
     ensures failed { IfErr result (λ e. D.failures e.1 ≡ count_up (D.failures (device_of store))) }
     ensures goes { Becomes D.SectorDevice (device_of store) (device_after result) }
+    ensures begins { SavesAtMost D.SectorDevice (device_of store) (device_after result) (length blocks.now) }
 {
-    match spill_all(&mut store, blocks, bytes) {
-        Ok(()) => match store.commit() {
-            Ok(()) => Ok(store.into_device()),
-            Err(_) => Err((Refusal::Device, store.into_device())),
-        },
+    match save_all(&mut store, blocks, bytes) {
+        Ok(()) => Ok(store.into_device()),
         Err(_) => Err((Refusal::Device, store.into_device())),
+    }
+}
+
+/// Saves blocks, which are there, to an open store of which nothing is pending: each is spilled with its 1,024 bytes,
+/// and then all are committed. It fails, with `StoreFault`, where a call of the device failed.
+/// Rule: IMAGE, A save; IMAGE, Layout 3, A save.
+pub fn save_all<D: SectorDevice>(
+    store: &mut Store<D>,
+    blocks: &[u16],
+    bytes: &[u8],
+) -> Result<(), StoreFault>
+    requires below { list_all (λ b. nat_lt b (blocks_of store.old)) blocks.now ≡ true }
+    requires whole { length bytes.now ≡ 1024 * length blocks.now }
+    requires live { closed_of store.old ≡ false }
+    requires none { (b : ℕ) → is_pending store.old b ≡ false }
+    ensures ok { (m : Maps) → StandsFor store.old m
+        → OnOk result (StandsFor store.new (committed (all_spilled m blocks.now bytes.now))) }
+    ensures open { OnOk result (closed_of store.new ≡ false) }
+    ensures none { OnOk result ((b : ℕ) → is_pending store.new b ≡ false) }
+    ensures stops { (m : Maps) → StandsFor store.old m
+        → StopsLeave D.SectorDevice (device_of store.old) (device_of store.new)
+        (λ image. MeansBy store.old m.saved image ⊎ MeansBy store.old (latest (all_spilled m blocks.now bytes.now)) image) }
+    ensures continues { Continues store.old store.new }
+    ensures failed { OnErr result (DeviceFailed store.old store.new) }
+    ensures well { OnOk result (DeviceWentWell store.old store.new) }
+    ensures begins { SavesAtMost D.SectorDevice (device_of store.old) (device_of store.new) (length blocks.now) }
+{
+    match spill_all(store, blocks, bytes) {
+        Ok(()) => store.commit(),
+        Err(fault) => Err(fault),
     }
 }
 
@@ -236,6 +254,9 @@ fn spill_all<D: SectorDevice>(
     ensures continues { Continues store.old store.new }
     ensures failed { OnErr result (DeviceFailed store.old store.new) }
     ensures well { OnOk result (DeviceWentWell store.old store.new) }
+    ensures pending { OnOk result (pending_count store.new ≤ pending_count store.old + length blocks.now) }
+    ensures begins { DeviceBegins store.old store.new (2 * length blocks.now) 0 }
+    ensures reads { DeviceReads store.old store.new 0 }
 {
     let mut rest = bytes;
     for block in blocks {

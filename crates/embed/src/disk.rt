@@ -11,6 +11,7 @@ use sector_disk::{Counts, DeviceFault, SectorDevice};
 /// A device of sectors at whose other end a host is: a sector is asked for, and then its bytes are moved.
 ///
 /// Over a host that keeps the disk model it keeps it too, and by sectors over one that keeps it so.
+/// Rule: EMBEDDING, The protocol; EMBEDDING, What is proved.
 #[derive(Drop)]
 pub struct HostDisk<H: Host> {
     host: H,
@@ -20,7 +21,7 @@ pub struct HostDisk<H: Host> {
 }
 
 impl<H: Host> HostDisk<H> {
-    /// The host's device, which has that many sectors.
+    /// The host's device, which has that many sectors of 512 bytes.
     pub fn new(host: H, sectors: u32) -> HostDisk<H>
         ensures sectors { result.sectors ≡ sectors }
         ensures host { result.host ≡ host }

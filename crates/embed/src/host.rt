@@ -1,4 +1,5 @@
 //! The host's end of a device: what it is asked for, and what it promises.
+//! Rule: EMBEDDING, The protocol; EMBEDDING, What the host owes.
 ghost use Rattle.std.specs.Prelude.{◌≡◌, ℕ, ◌<◌, ◌≤◌, ◌^◌, Bool, IsTrue, List, ◌∷◌};
 ghost use Rattle.std.specs.Int.{to_le_bytes, w32};
 ghost use Rattle.std.specs.Bool.{OnTrue, OnFalse};
@@ -22,7 +23,8 @@ pub enum Request {
 }
 
 impl Request {
-    /// Its eight bytes: a letter, three zeros, and the sector's number, low byte first.
+    /// The eight bytes of a request: a letter, three zeros, and the sector's number, low byte first.
+    /// Rule: EMBEDDING, The protocol.
     pub fn bytes(self) -> [u8; 8]
         ensures { result ≡ request_bytes self }
     {
@@ -41,10 +43,11 @@ fn in_bytes(letter: u8, sector: u32) -> [u8; 8]
     [letter, 0, 0, 0, a, b, c, d]
 }
 
-/// The host's end of a device of sectors of 512 bytes, which moves bytes and says whether it did. Each call is one step,
-/// before, within or after which the host may stop, as at a loss of power.
+/// The host's end of a device of sectors of 512 bytes, which moves bytes and says whether it did. Each call is one
+/// step, before, within or after which the host may stop, as at a loss of power.
 ///
-/// The clauses with the premise `keeps_model` are what has to be assumed of a host. No device is asked for anything else.
+/// The clauses with the premise `keeps_model` are what has to be assumed of a host. No device is asked for anything
+/// else.
 pub trait Host {
     /// Whether it keeps the disk model: a write may spoil its unit, which lies in a page of eight sectors.
     ghost keeps_model: { Self → Bool };
@@ -64,7 +67,8 @@ pub trait Host {
     /// What a stop at some moment from that time on might have left.
     ghost left_since: { Self → ℕ → Image → Type 0 };
 
-    /// Takes the bytes of a request. It changes the disk only where that is a sync, which is done where they were taken.
+    /// Takes the bytes of a request. It changes the disk only where that is a sync, which is done where they were
+    /// taken. `false` is a fault of the device.
     fn ask(&mut self, request: &[u8; 8]) -> bool
         ensures asked { IsTrue (keeps_model self.old) → OnTrue result (asked self.new ≡ request.now) }
         ensures synced { IsTrue (keeps_model self.old) → request.now ≡ request_bytes Sync
@@ -78,7 +82,7 @@ pub trait Host {
         ensures time { Elapses time left_since self.old self.new }
         ensures stops { LeavesOnly time left_since self.old self.new (MayLeaveEither (disk self.old) (disk self.new)) };
 
-    /// Gives the bytes of the sector that it was asked to read.
+    /// Gives the bytes of the sector that it was asked to read. `false` is a fault of the device.
     fn take(&mut self, out: &mut [u8; 512]) -> bool
         ensures bytes { IsTrue (keeps_model self.old) → (k : ℕ) → k < 2 ^ 32 → asked self.old ≡ request_bytes (Read k)
             → OnTrue result (out.new ≡ (disk self.old).content k) }
@@ -88,7 +92,7 @@ pub trait Host {
         ensures time { Elapses time left_since self.old self.new }
         ensures stops { LeavesOnly time left_since self.old self.new (MayLeaveEither (disk self.old) (disk self.new)) };
 
-    /// Takes the bytes of the sector that it was asked to write. Where it says no, the sector may hold any bytes.
+    /// Takes the bytes of the sector that it was asked to write. After `false` the sector may hold any bytes.
     fn give(&mut self, bytes: &[u8; 512]) -> bool
         ensures done { IsTrue (keeps_model self.old) → (k : ℕ) → k < 2 ^ 32 → asked self.old ≡ request_bytes (Write k)
             → OnTrue result (disk self.new ≡ written (disk self.old) k bytes.now) }
@@ -121,9 +125,10 @@ pub trait Host {
     ghost widens: { (h : Self) (s t : ℕ) (c : Image) → s ≤ t → left_since h t c → left_since h s c };
 }
 
-/// The host's end of a device that C gives under a number: its functions `write` and `read` on that number.
+/// The host's end of a device or a console that C gives under a number: its functions `write` and `read` on that
+/// number.
 ///
-/// It is safe whatever they do. That they keep the disk model is assumed, not proved.
+/// It is safe whatever they do. That they keep the disk model, or a console's protocol, is assumed, not proved.
 #[derive(Drop)]
 pub struct Numbered {
     number: i32,
@@ -133,6 +138,13 @@ impl Numbered {
     /// The host's end under that number.
     pub fn new(number: i32) -> Numbered {
         Numbered { number }
+    }
+
+    /// The number under which C gives it.
+    pub fn number(&self) -> i32
+        ensures { result ≡ self.now.number }
+    {
+        self.number
     }
 }
 

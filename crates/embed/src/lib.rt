@@ -1,6 +1,7 @@
-//! Blocks that are saved all or none, and a Forth system over them, for a C program that supplies the device and the console.
+//! Blocks that are saved all or none, and a Forth system over them, for a C program that supplies the device and the
+//! console.
 //!
-//! The calls that C makes stand in `exports`. What each does over any device stands in `block_calls` and `running`.
+//! The calls that C makes stand in `exports`. What each does over any device stands in `promises`.
 #![tactic(auto)]
 
 mod arguments;
@@ -9,6 +10,11 @@ mod console;
 mod disk;
 mod exports;
 mod host;
+mod kept_calls;
+mod making;
+mod memory_console;
 mod memory_host;
+mod open_store;
+mod promises;
 mod refusal;
 mod running;

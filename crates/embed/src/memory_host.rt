@@ -1,4 +1,5 @@
 //! A host that keeps what is assumed of a host.
+//! Rule: EMBEDDING, What is proved.
 ghost use Rattle.std.specs.Prelude.{◌≡◌, ℕ, ◌<◌, ◌^◌, ◌∷◌, IfSome, IsTrue};
 ghost use Rattle.std.specs.Int.{to_le_bytes, w32};
 ghost use Rattle.sector_disk.specs.Disk.{MayLeave};

@@ -1,5 +1,7 @@
 //! Why a call didn't do what it was asked for, as C is told it.
+//! Rule: EMBEDDING, What is proved.
 ghost use Rattle.std.specs.Prelude.{◌≡◌, ◌<◌, ◌≤◌, ◌≢◌};
+ghost use Rattle.embed.specs.Calls.{device_after};
 ghost use Rattle.embed.specs.Refusals.{code_of, of_image, of_run, answer_of};
 
 use recovery::OpenFault;
@@ -18,7 +20,8 @@ pub enum Refusal {
     WrongCount = 4,
     /// A call of the device failed.
     Device = 5,
-    /// An open gate stands over a record that isn't that of its slots.
+    /// By layout 2 an open gate stands over a record that isn't that of its slots; by layout 3 a block doesn't fit its
+    /// tag, or the sum of the record isn't that of the tags.
     Damaged = 6,
     /// The image has no such block.
     NoBlock = 7,
@@ -84,12 +87,13 @@ impl From<RunFault> for Refusal {
     }
 }
 
-/// What C is told: 0 where the call was done. The device is let go.
-pub fn told<D: Drop>(outcome: Result<D, (Refusal, D)>) -> u8
-    ensures { result ≡ answer_of outcome }
+/// What C is told, 0 where the call was done and else the number of the refusal, and the device.
+pub fn told<D>(outcome: Result<D, (Refusal, D)>) -> (u8, D)
+    ensures number { result.0 ≡ answer_of outcome }
+    ensures device { result.1 ≡ device_after outcome }
 {
     match outcome {
-        Ok(_) => 0,
-        Err((refusal, _)) => refusal.code(),
+        Ok(device) => (0, device),
+        Err((refusal, device)) => (refusal.code(), device),
     }
 }

@@ -1,14 +1,16 @@
 //! A session over an image on a device.
+//! Rule: EMBEDDING, What is proved; SEMANTICS, Sessions.
 ghost use Rattle.std.specs.Prelude.{◌≡◌, ◌≢◌, ◌⊎◌, ◌↔◌, ◌<◌, [], ◌∷◌, true, None, Some, IsTrue, IfOk, IfErr, MatchBool, MatchResult, OnOk};
 ghost use Rattle.sector_disk.specs.Counting.{count_up};
 ghost use Rattle.journal.specs.Calls.{StopsLeave};
-ghost use Rattle.stores.specs.Store.{device_of};
-ghost use Rattle.stores.specs.Suits.{suits};
+ghost use Rattle.journal.specs.Store.{device_of};
+ghost use Rattle.journal.specs.Suits.{suits};
 ghost use Rattle.shadow.specs.Label.{is_known_size};
 ghost use Rattle.sessions.specs.declared.run_fault.RunFault.TheVariants.{Read as ReadFault, Write as WriteFault};
 ghost use Rattle.sessions.specs.Devices.{Becomes};
 ghost use Rattle.embed.specs.Calls.{MayRecover, device_after};
-ghost use Rattle.embed.specs.Refusals.{IsOfImage, refusal_of};
+ghost use Rattle.embed.specs.Costs.{OpeningBegins};
+ghost use Rattle.embed.specs.Refusals.{IsOfImage, IsOfSession, refusal_of};
 ghost use Rattle.embed.specs.Sessions.{RunsSession, BreaksSession, BegunOn, BegunOver, EndsOn};
 
 use crate::block_calls::opened;
@@ -21,8 +23,10 @@ use std::alloc::Global;
 use std::io::{Read, Write};
 use stores::Store;
 
-/// Opens the image, and runs the lines of the input over it by a new system, at most `steps` steps a line, 1 or more. It
-/// answers the device where the input was run to its end. A refusal hands the device back.
+/// Opens the image, and runs the lines of the input over it by a new system, at most `steps` steps a line, 1 or more.
+/// It answers the device where the input was run to its end. A refusal hands the device back: `NoSteps`, with no call
+/// of it, then those of `opened`, then `NoMemory`, with nothing of the input read, and `Input` or `Output` where these
+/// failed.
 pub fn run_image<D: SectorDevice + Drop, R: Read, W: Write>(
     alloc: Global,
     device: D,
@@ -50,12 +54,14 @@ pub fn run_image<D: SectorDevice + Drop, R: Read, W: Write>(
     ensures image { IsTrue (suits D.SectorDevice device) → IfErr result (λ e. IsOfImage e.0
         → (e.0 ≡ Refusal.Device) ⊎ (refusal_of (D.sector_count device) (D.disk device).content ≡ Some e.0)) }
     ensures opens { IsTrue (suits D.SectorDevice device) → OnOk result (refusal_of (D.sector_count device) (D.disk device).content ≡ None) }
-    // Memory is asked for last: the image was well.
-    ensures memory { IsTrue (suits D.SectorDevice device) → IfErr result (λ e. e.0 ≡ Refusal.NoMemory
+    // Memory is asked for last, and then lines are read: the image was well.
+    ensures memory { IsTrue (suits D.SectorDevice device) → IfErr result (λ e. IsOfSession e.0
         → refusal_of (D.sector_count device) (D.disk device).content ≡ None) }
+    ensures kind { IfErr result (λ e. (e.0 ≡ Refusal.NoSteps) ⊎ (IsOfImage e.0 ⊎ IsOfSession e.0)) }
     // Device is told where a call of the opening failed. A call that fails in the session is told in a reply.
     ensures failed { IfErr result (λ e. e.0 ≡ Refusal.Device → D.failures e.1 ≡ count_up (D.failures device)) }
-    ensures unfailed { IfErr result (λ e. IsOfImage e.0 → e.0 ≢ Refusal.Device → D.failures e.1 ≡ D.failures device) }
+    ensures unfailed { IfErr result (λ e. e.0 ≢ Refusal.Device → e.0 ≢ Refusal.Input → e.0 ≢ Refusal.Output
+        → D.failures e.1 ≡ D.failures device) }
     ensures content { IsTrue (suits D.SectorDevice device) → IfErr result (λ e. IsOfImage e.0 → e.0 ≢ Refusal.Device
         → (D.disk e.1).content ≡ (D.disk device).content) }
     // Only where input or output failed was anything read or written before a refusal, and at another one a stop at any moment
@@ -64,6 +70,8 @@ pub fn run_image<D: SectorDevice + Drop, R: Read, W: Write>(
     ensures unwritten { IfErr result (λ e. e.0 ≢ Refusal.Input → e.0 ≢ Refusal.Output → output.new ≡ output.old) }
     ensures recovers { IsTrue (suits D.SectorDevice device) → IfErr result (λ e. e.0 ≢ Refusal.Input → e.0 ≢ Refusal.Output
         → StopsLeave D.SectorDevice device e.1 (MayRecover D.SectorDevice device)) }
+    ensures begins { IsTrue (suits D.SectorDevice device) → IfErr result (λ e. e.0 ≢ Refusal.Input → e.0 ≢ Refusal.Output
+        → OpeningBegins D.SectorDevice device e.1) }
     ensures goes { Becomes D.SectorDevice device (device_after result) }
 {
     if steps == 0 {
@@ -82,8 +90,8 @@ pub fn run_image<D: SectorDevice + Drop, R: Read, W: Write>(
     }
 }
 
-/// A new system over the image, which is opened before memory is taken. It lies in the heap, alone in this vector. A refusal hands the
-/// device back.
+/// A new system over the image, which is opened before memory is taken. It lies in the heap, alone in this vector. A
+/// refusal hands the device back.
 // A call of its own, as the next two are, so that what is moved in it doesn't lie on the stack while the system runs.
 #[inline(never)]
 fn begun<D: SectorDevice + Drop, F: Lines<D> + Drop>(
@@ -101,16 +109,18 @@ fn begun<D: SectorDevice + Drop, F: Lines<D> + Drop>(
     ensures bad_size { IfErr result (λ e. MatchBool (is_known_size (D.sector_count device))
         (e.0 ≢ Refusal.BadSize) (e.0 ≡ Refusal.BadSize)) }
     ensures uncalled { IfErr result (λ e. e.0 ≡ Refusal.BadSize → e.1 ≡ device) }
-    ensures memory { IsTrue (suits D.SectorDevice device) → IfErr result (λ e. e.0 ≡ Refusal.NoMemory
+    ensures memory { IsTrue (suits D.SectorDevice device) → IfErr result (λ e. IsOfSession e.0
         → refusal_of (D.sector_count device) (D.disk device).content ≡ None) }
+    ensures kind { IfErr result (λ e. IsOfImage e.0 ⊎ IsOfSession e.0) }
     ensures failed { IfErr result (λ e. e.0 ≡ Refusal.Device → D.failures e.1 ≡ count_up (D.failures device)) }
-    ensures unfailed { IfErr result (λ e. IsOfImage e.0 → e.0 ≢ Refusal.Device → D.failures e.1 ≡ D.failures device) }
+    ensures unfailed { IfErr result (λ e. e.0 ≢ Refusal.Device → D.failures e.1 ≡ D.failures device) }
     ensures content { IsTrue (suits D.SectorDevice device) → IfErr result (λ e. IsOfImage e.0 → e.0 ≢ Refusal.Device
         → (D.disk e.1).content ≡ (D.disk device).content) }
     ensures image { IsTrue (suits D.SectorDevice device) → IfErr result (λ e. IsOfImage e.0
         → (e.0 ≡ Refusal.Device) ⊎ (refusal_of (D.sector_count device) (D.disk device).content ≡ Some e.0)) }
     ensures recovers { IsTrue (suits D.SectorDevice device)
         → IfErr result (λ e. StopsLeave D.SectorDevice device e.1 (MayRecover D.SectorDevice device)) }
+    ensures begins { IsTrue (suits D.SectorDevice device) → IfErr result (λ e. OpeningBegins D.SectorDevice device e.1) }
     ensures goes { IfErr result (λ e. Becomes D.SectorDevice device e.1) }
 {
     match opened(device) {

@@ -1,7 +1,7 @@
 use Rattle.std.proofs.Common.{◌≡◌, subst}
 use Rattle.std.specs.Prelude.{OnOk}
 use Rattle.journal.specs.Maps.{fresh}
-use Rattle.stores.specs.Store.{device_of}
+use Rattle.journal.specs.Store.{device_of}
 use Rattle.embed.specs.Calls.{LeavesBlocks, meant_by}
 use Rattle.embed.proofs.Devices.{becomes_then, untouched}
 use Rattle.embed.proofs.Outcomes.{contents_fresh, never, ok_after}

@@ -1,6 +1,6 @@
 use Rattle.std.proofs.Common.{◌∙◌, sym, subst}
 use Rattle.journal.specs.Calls.{StopsLeave}
-use Rattle.stores.specs.Store.{MeansBy, device_of}
+use Rattle.journal.specs.Store.{MeansBy, device_of}
 use Rattle.embed.proofs.Stores.{leaves}
 use Rattle.embed.proofs.block_calls.read_from.Goals as goal
 

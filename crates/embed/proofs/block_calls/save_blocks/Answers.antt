@@ -1,8 +1,9 @@
-use Rattle.std.proofs.Common.{inl, subst}
+use Rattle.std.proofs.Common.{inl, subst, length}
 use Rattle.std.specs.Prelude.{IfOk}
 use Rattle.journal.specs.Maps.{fresh}
-use Rattle.stores.specs.Store.{device_of}
+use Rattle.journal.specs.Store.{device_of}
 use Rattle.embed.specs.Calls.{LeavesBlocks, meant_by}
+use Rattle.embed.proofs.Counts.{saving_begins}
 use Rattle.embed.proofs.Devices.{becomes_then, untouched}
 use Rattle.embed.proofs.Outcomes.{never}
 use Rattle.embed.proofs.Spills.{saves}
@@ -33,3 +34,8 @@ returns-in-Ok-opened-clause-content g c = λ keeps. never c.save_to.result _ c.s
 pub returns-in-Err-clause-stops : goal.returns-in-Err-clause-stops
 returns-in-Err-clause-stops g c = λ keeps image since.
     inl (kept_still g.D.SectorDevice c.args.device (untouched g.D.SectorDevice c.args.device (g.met.D.SectorDevice.only_now c.args.device)) image since)
+
+pub returns-in-Ok-opened-clause-begins : goal.returns-in-Ok-opened-clause-begins
+returns-in-Ok-opened-clause-begins g c = λ keeps.
+    saving_begins g.D.SectorDevice c.args.device (device_of c.in-Ok-opened.store) _ (length c.args.blocks.now) c.in-Ok-opened.ensures.ok.sectors
+    (c.in-Ok-opened.ensures.begins keeps) c.save_to.ensures.begins

@@ -1,32 +1,34 @@
-use Rattle.std.proofs.Common.{subst, sym}
-use Rattle.journal.specs.Maps.{latest}
-use Rattle.stores.specs.Store.{device_of}
+use Rattle.std.proofs.Common.{◌⊎◌, subst, sym}
+use Rattle.journal.specs.Calls.{StopsLeave}
+use Rattle.journal.specs.Maps.{committed, latest}
+use Rattle.journal.specs.Store.{MeansBy, device_of}
 use Rattle.sessions.specs.Devices.{Becomes}
-use Rattle.embed.specs.Calls.{LeavesBlocks}
 use Rattle.embed.specs.Spilling.{all_spilled}
-use Rattle.embed.proofs.Stores.{commits_then, continued, continues_then}
+use Rattle.embed.proofs.Stores.{continued, leaves}
 use Rattle.embed.proofs.block_calls.save_to.Goals as goal
 
-pub returns-in-Ok-commit-clause-saved : goal.returns-in-Ok-commit-clause-saved
-returns-in-Ok-commit-clause-saved g c = λ m stands.
-    subst (λ device. LeavesBlocks g.D.SectorDevice device (latest (all_spilled m c.args.blocks.now c.args.bytes.now))) (sym c.into_device.ensures.device)
-    (c.in-Ok-commit.ensures.after _ (c.in-Ok.ensures.ok m stands))
+pub returns-in-Ok-clause-saved : goal.returns-in-Ok-clause-saved
+returns-in-Ok-clause-saved g c = λ m stands.
+    leaves g.D.SectorDevice c.save_all.new.store _ (committed (all_spilled m c.args.blocks.now c.args.bytes.now)) c.into_device.ensures.device
+    c.in-Ok.ensures.open (c.in-Ok.ensures.ok m stands)
 
-pub returns-in-Ok-commit-clause-stops : goal.returns-in-Ok-commit-clause-stops
-returns-in-Ok-commit-clause-stops g c = λ m stands.
-    commits_then g.D.SectorDevice c.args.store c.spill_all.new.store c.commit.new.self _ m c.args.blocks.now c.args.bytes.now
-    c.into_device.ensures.device c.spill_all.ensures.continues c.commit.ensures.continues c.spill_all.ensures.stops c.commit.ensures.stops
-    stands c.requires.live (c.in-Ok.ensures.ok m stands)
+pub returns-in-Ok-clause-stops : goal.returns-in-Ok-clause-stops
+returns-in-Ok-clause-stops g c = λ m stands.
+    subst (λ d. StopsLeave g.D.SectorDevice (device_of c.args.store) d (λ image. MeansBy c.args.store m.saved image
+    ⊎ MeansBy c.args.store (latest (all_spilled m c.args.blocks.now c.args.bytes.now)) image)) (sym c.into_device.ensures.device) (c.save_all.ensures.stops m stands)
 
-pub returns-in-Err-commit-clause-stops : goal.returns-in-Err-commit-clause-stops
-returns-in-Err-commit-clause-stops g c = λ m stands.
-    commits_then g.D.SectorDevice c.args.store c.spill_all.new.store c.commit.new.self _ m c.args.blocks.now c.args.bytes.now
-    c.into_device-in-Err-commit.ensures.device c.spill_all.ensures.continues c.commit.ensures.continues c.spill_all.ensures.stops
-    c.commit.ensures.stops stands c.requires.live (c.in-Ok.ensures.ok m stands)
+pub returns-in-Ok-clause-goes : goal.returns-in-Ok-clause-goes
+returns-in-Ok-clause-goes g c =
+    subst (λ d. Becomes g.D.SectorDevice (device_of c.args.store) d) (sym c.into_device.ensures.device)
+    (continued g.D.SectorDevice c.args.store c.save_all.new.store c.save_all.ensures.continues)
 
-pub returns-in-Err-commit-clause-goes : goal.returns-in-Err-commit-clause-goes
-returns-in-Err-commit-clause-goes g c =
-    subst (λ device. Becomes g.D.SectorDevice (device_of c.args.store) device) (sym c.into_device-in-Err-commit.ensures.device)
-    (continued g.D.SectorDevice c.args.store c.commit.new.self
-    (continues_then g.D.SectorDevice c.args.store c.spill_all.new.store c.commit.new.self g.met.D.SectorDevice.widens
-    c.spill_all.ensures.continues c.commit.ensures.continues))
+pub returns-in-Err-clause-stops : goal.returns-in-Err-clause-stops
+returns-in-Err-clause-stops g c = λ m stands.
+    subst (λ d. StopsLeave g.D.SectorDevice (device_of c.args.store) d (λ image. MeansBy c.args.store m.saved image
+    ⊎ MeansBy c.args.store (latest (all_spilled m c.args.blocks.now c.args.bytes.now)) image)) (sym c.into_device-in-Err.ensures.device)
+    (c.save_all.ensures.stops m stands)
+
+pub returns-in-Err-clause-goes : goal.returns-in-Err-clause-goes
+returns-in-Err-clause-goes g c =
+    subst (λ d. Becomes g.D.SectorDevice (device_of c.args.store) d) (sym c.into_device-in-Err.ensures.device)
+    (continued g.D.SectorDevice c.args.store c.save_all.new.store c.save_all.ensures.continues)

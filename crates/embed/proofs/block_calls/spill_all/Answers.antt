@@ -1,8 +1,10 @@
-use Rattle.std.proofs.Common.{◌∙◌}
+use Rattle.std.proofs.Common.{◌≡◌, ◌≤◌, ◌+◌, ◌∙◌, subst, sym, arith}
 use Rattle.std.proofs.lemmas.Bool.{false_from_ne_true}
 use Rattle.std.specs.Prelude.{nat_lt}
+use Rattle.journal.specs.Layout.{count_below}
 use Rattle.journal.specs.Maps.{spilled}
-use Rattle.stores.specs.Store.{blocks_of, closed_of}
+use Rattle.journal.specs.Store.{blocks_of, closed_of, is_pending, pending_count}
+use Rattle.embed.proofs.Counts.{count_one}
 use Rattle.embed.proofs.Spills.{fewer_left, holds_after, spilled_one}
 use Rattle.embed.proofs.Stores.{continues_then, keeps_then}
 use Rattle.embed.proofs.block_calls.spill_all.Goals as goal
@@ -44,4 +46,33 @@ loop-block-preserved g c =
           continues_then g.D.SectorDevice c.args.store.now c.loop-block.store c.spill.new.self g.met.D.SectorDevice.widens
           before.continues c.spill.ensures.continues;
       well = c.in_ok-spill.ensures.well ∙ before.well;
+      pending =
+          let more : pending_count c.spill.new.self ≤ pending_count c.loop-block.store + 1 =
+          subst (λ n. count_below (is_pending c.spill.new.self) n ≤ pending_count c.loop-block.store + 1) (sym c.spill.ensures.continues.blocks)
+          (count_one (is_pending c.loop-block.store) (is_pending c.spill.new.self) _ (blocks_of c.loop-block.store) c.in_ok-spill.ensures.pending) in
+          omega (arith, more, before.pending);
+      begins = record {
+        few_writes = omega (arith, before.begins.few_writes, c.spill.ensures.begins.few_writes);
+        few_syncs = omega (arith, before.begins.few_syncs, c.spill.ensures.begins.few_syncs);
+      };
+      reads = omega (arith, before.reads, c.spill.ensures.reads);
     }
+
+pub returns-in_err-spill-clause-begins : goal.returns-in_err-spill-clause-begins
+returns-in_err-spill-clause-begins g c =
+    let before = c.loop-block.invariant.begins in
+    record {
+      few_writes = omega (arith, before.few_writes, c.spill.ensures.begins.few_writes, c.loop-block-test.true);
+      few_syncs = omega (arith, before.few_syncs, c.spill.ensures.begins.few_syncs);
+    }
+
+pub returns-in_err-spill-clause-reads : goal.returns-in_err-spill-clause-reads
+returns-in_err-spill-clause-reads g c = omega (arith, c.loop-block.invariant.reads, c.spill.ensures.reads)
+
+pub returns-clause-pending : goal.returns-clause-pending
+returns-clause-pending g c = omega (arith, c.loop-block.invariant.pending, c.loop-block.auto.block-index-end)
+
+pub returns-clause-begins : goal.returns-clause-begins
+returns-clause-begins g c =
+    let all = c.loop-block.invariant.begins in
+    record { few_writes = omega (arith, all.few_writes, c.loop-block.auto.block-index-end); few_syncs = all.few_syncs }

@@ -1,8 +1,8 @@
-use Rattle.std.proofs.Common.{◌≡◌, ◌*◌, length, drop, true, false}
+use Rattle.std.proofs.Common.{◌≡◌, ◌≤◌, ◌+◌, ◌*◌, length, drop, true, false}
 use Rattle.std.specs.Prelude.{nat_lt}
 use Rattle.std.specs.List.{list_all}
 use Rattle.journal.specs.Maps.{Maps}
-use Rattle.stores.specs.Store.{Continues, DeviceWentWell, KeepsSaved, StandsFor, blocks_of, closed_of}
+use Rattle.journal.specs.Store.{Continues, DeviceBegins, DeviceReads, DeviceWentWell, KeepsSaved, StandsFor, blocks_of, closed_of, pending_count}
 use Rattle.embed.specs.Spilling.{all_spilled}
 use Rattle.embed.proofs.block_calls.spill_all.Given as goal
 
@@ -19,4 +19,7 @@ invariant-loop-block g l =
       stops : KeepsSaved old l.store;
       continues : Continues old l.store;
       well : DeviceWentWell old l.store;
+      pending : pending_count l.store ≤ pending_count old + l.block-index;
+      begins : DeviceBegins old l.store (2 * l.block-index) 0;
+      reads : DeviceReads old l.store 0;
     }

@@ -1,7 +1,7 @@
 use Rattle.std.proofs.Common.{◌∙◌, ◌∷◌, ◌++◌, [], IsTrue, ap, subst, sym, is_ok}
 use Rattle.std.specs.Prelude.{if◌then◌else◌}
-use Rattle.stores.specs.Store.{StandsFor, device_of}
-use Rattle.stores.specs.Suits.{suits}
+use Rattle.journal.specs.Store.{StandsFor, device_of}
+use Rattle.journal.specs.Suits.{suits}
 use Rattle.stores.proofs.OwnMaps.{own_maps, stands_for_own}
 use Rattle.embed.proofs.running.begun_over.Goals as goal
 

@@ -1,7 +1,7 @@
-use Rattle.std.proofs.Common.{◌∙◌, ap, slice_index_or, slice_set, subst, sym}
-use Rattle.embed.specs.Refusals.{IsOfImage}
+use Rattle.std.proofs.Common.{◌∙◌, ap, inr, slice_index_or, slice_set, subst, sym}
+use Rattle.embed.specs.Refusals.{IsOfImage, IsOfSession}
 use Rattle.embed.proofs.Devices.{untouched}
-use Rattle.embed.proofs.Runs.{broke, came, not_image, not_memory, not_steps, ran, was_read, was_write}
+use Rattle.embed.proofs.Runs.{broke, came, not_either, not_image, not_steps, of_session, ran, was_read, was_write}
 use Rattle.embed.proofs.running.run_image.Goals as goal
 
 pub returns-then-steps-eq0-clause-recovers : goal.returns-then-steps-eq0-clause-recovers
@@ -61,13 +61,21 @@ pub returns-in-Err-end-clause-uncalled : goal.returns-in-Err-end-clause-uncalled
 returns-in-Err-end-clause-uncalled g c = λ told. absurd (not_image c.in-Err-end.fault (subst IsOfImage (sym told ∙ c.from.ensures) tt))
 
 pub returns-in-Err-end-clause-memory : goal.returns-in-Err-end-clause-memory
-returns-in-Err-end-clause-memory g c = λ keeps told. absurd (not_memory c.in-Err-end.fault (sym c.from.ensures ∙ told))
+returns-in-Err-end-clause-memory g c = λ keeps told. c.in-Ok.ensures.opens keeps
 
 pub returns-in-Err-end-clause-failed : goal.returns-in-Err-end-clause-failed
 returns-in-Err-end-clause-failed g c = λ told. absurd (not_image c.in-Err-end.fault (subst IsOfImage (sym told ∙ c.from.ensures) tt))
 
 pub returns-in-Err-end-clause-unfailed : goal.returns-in-Err-end-clause-unfailed
-returns-in-Err-end-clause-unfailed g c = λ is other. absurd (not_image c.in-Err-end.fault (subst IsOfImage c.from.ensures is))
+returns-in-Err-end-clause-unfailed g c = λ not_device not_input not_output.
+    absurd (not_either c.in-Err-end.fault (λ is. not_input (c.from.ensures ∙ is)) (λ is. not_output (c.from.ensures ∙ is)))
+
+pub returns-in-Err-end-clause-begins : goal.returns-in-Err-end-clause-begins
+returns-in-Err-end-clause-begins g c = λ keeps not_input not_output.
+    absurd (not_either c.in-Err-end.fault (λ is. not_input (c.from.ensures ∙ is)) (λ is. not_output (c.from.ensures ∙ is)))
+
+pub returns-in-Err-end-clause-kind : goal.returns-in-Err-end-clause-kind
+returns-in-Err-end-clause-kind g c = inr (inr (subst IsOfSession (sym c.from.ensures) (of_session c.in-Err-end.fault)))
 
 pub returns-in-Err-end-clause-content : goal.returns-in-Err-end-clause-content
 returns-in-Err-end-clause-content g c = λ keeps is other. absurd (not_image c.in-Err-end.fault (subst IsOfImage c.from.ensures is))

@@ -2,14 +2,15 @@ use Rattle.std.proofs.Common.{subst, sym}
 use Rattle.journal.specs.Calls.{StopsLeave}
 use Rattle.recovery.specs.Formatted.{FormatLeaves}
 use Rattle.sessions.specs.Devices.{Becomes}
-use Rattle.stores.proofs.Suited.{stays}
-use Rattle.embed.proofs.block_calls.make_image.Goals as goal
+use Rattle.journal.proofs.Suited.{stays}
+use Rattle.embed.proofs.Sizes.{sectors_older}
+use Rattle.embed.proofs.making.make_older.Goals as goal
 
 pub returns-in-Ok-clause-stops : goal.returns-in-Ok-clause-stops
-returns-in-Ok-clause-stops g c = λ keeps n size.
+returns-in-Ok-clause-stops g c = λ keeps fits.
     let G = g.D.SectorDevice in
-    subst (λ d. StopsLeave G c.args.device d (FormatLeaves n (G.disk c.args.device))) (sym c.into_device.ensures.device)
-    (c.in-Ok.ensures.stops keeps n size)
+    subst (λ d. StopsLeave G c.args.device d (FormatLeaves c.args.blocks (G.disk c.args.device))) (sym c.into_device.ensures.device)
+    (c.in-Ok.ensures.stops keeps c.args.blocks (sectors_older c.args.blocks (G.sector_count c.args.device) fits))
 
 pub returns-in-Ok-clause-goes : goal.returns-in-Ok-clause-goes
 returns-in-Ok-clause-goes g c =
@@ -19,6 +20,10 @@ returns-in-Ok-clause-goes g c =
       time = c.in-Ok.ensures.time;
       failures = c.in-Ok.ensures.failures;
     })
+
+pub returns-in-Err-clause-stops : goal.returns-in-Err-clause-stops
+returns-in-Err-clause-stops g c = λ keeps fits.
+    c.in-Err.ensures.stops keeps c.args.blocks (sectors_older c.args.blocks (g.D.SectorDevice.sector_count c.args.device) fits)
 
 pub returns-in-Err-clause-goes : goal.returns-in-Err-clause-goes
 returns-in-Err-clause-goes g c = record {

@@ -1,0 +1,17 @@
+use Rattle.stores.specs.Resting.{HasRested}
+use Rattle.embed.specs.Calls.{meant_by}
+use Rattle.embed.specs.Keeping.{HoldsOpen}
+use Rattle.embed.proofs.Numbers.{opens}
+use Rattle.embed.proofs.promises.open_over.Goals as goal
+
+pub returns-clause-stays : goal.returns-clause-stays
+returns-clause-stays g c =
+    opens (λ d is_open l. HasRested g.D.SectorDevice d is_open l) c.open_kept-outcome.result c.told_kept.result.0 c.told_kept.result.1 c.told_kept.new.store
+    c.open_kept-outcome.new.listing c.told_kept.ensures.number c.told_kept.ensures.device c.told_kept.ensures.listing c.told_kept.ensures.open
+    (c.open_kept-outcome.ensures.rests)
+
+pub returns-clause-done : goal.returns-clause-done
+returns-clause-done g c = λ keeps.
+    opens (λ d is_open l. HoldsOpen g.D.SectorDevice d is_open l (meant_by g.D.SectorDevice c.args.device)) c.open_kept-outcome.result c.told_kept.result.0 c.told_kept.result.1 c.told_kept.new.store
+    c.open_kept-outcome.new.listing c.told_kept.ensures.number c.told_kept.ensures.device c.told_kept.ensures.listing c.told_kept.ensures.open
+    (c.open_kept-outcome.ensures.holds keeps)

@@ -1,0 +1,227 @@
+//! Blocks on a device over an opening that stays: between two calls the caller keeps what an open store knows beside
+//! its device. No call opens the image anew but the first, and none takes memory.
+//! Rule: EMBEDDING, What is proved.
+ghost use Rattle.std.specs.Prelude.{◌≡◌, ◌≢◌, ◌⊎◌, ◌<◌, ◌*◌, ℕ, List, true, false, None, Some, length, nat_lt, IsTrue, OnOk, OnErr, IfOk, IfErr, IfSome, MatchBool, MatchResult, Err};
+ghost use Rattle.std.specs.List.{list_all};
+ghost use Rattle.sector_disk.specs.Counting.{count_up};
+ghost use Rattle.journal.specs.Calls.{StopsLeave};
+ghost use Rattle.journal.specs.Maps.{Maps, block_in, fresh};
+ghost use Rattle.stores.specs.Resting.{HasRested, Rests, StandsAsRested};
+ghost use Rattle.journal.specs.Store.{StandsFor, blocks_of, closed_of, device_of, is_pending};
+ghost use Rattle.journal.specs.Suits.{suits};
+ghost use Rattle.shadow.specs.Label.{is_known_size};
+ghost use Rattle.shadow.specs.Upgraded.{known_blocks};
+ghost use Rattle.sessions.specs.Devices.{Becomes};
+ghost use Rattle.embed.specs.Calls.{MayRecover, MeansOn, meant_by};
+ghost use Rattle.embed.specs.Costs.{Begins, OpeningBegins, SavesAtMost};
+ghost use Rattle.embed.specs.Keeping.{HoldsOpen, SavesOpen, kept_after};
+ghost use Rattle.embed.specs.Refusals.{IsOfImage, read_refusal, save_refusal, refusal_of};
+ghost use Rattle.embed.specs.Saving.{with_blocks};
+
+use crate::arguments::{check_read, check_save};
+use crate::block_calls::{opened, save_all};
+use crate::refusal::Refusal;
+use sector_disk::SectorDevice;
+use stores::{Store, blocks_of_size, named, resume};
+
+/// Opens the image: what a stop has left half done is finished first. It answers the device and whether the gate is
+/// open, and puts the record that the gate names into `listing`. A refusal hands the device back, and leaves `listing`:
+/// `BadSize`, with no call of the device, `NoLabel`, `OtherVersion`, `WrongCount` or `Damaged`, the first that holds,
+/// or `Device`.
+pub fn open_kept<D: SectorDevice>(
+    device: D,
+    listing: &mut [u8; 512],
+) -> Result<(D, bool), (Refusal, D)>
+    // A store rests there, which has the blocks that the image meant.
+    ensures rests { IfOk result (λ kept. HasRested D.SectorDevice kept.0 kept.1 listing.new) }
+    ensures holds { IsTrue (suits D.SectorDevice device) → IfOk result (λ kept.
+        HoldsOpen D.SectorDevice kept.0 kept.1 listing.new (meant_by D.SectorDevice device)) }
+    ensures sectors { IfOk result (λ kept. D.sector_count kept.0 ≡ D.sector_count device) }
+    ensures sized { IfOk result (λ _. is_known_size (D.sector_count device) ≡ true) }
+    ensures bad_size { IfErr result (λ e. MatchBool (is_known_size (D.sector_count device))
+        (e.0 ≢ Refusal.BadSize) (e.0 ≡ Refusal.BadSize)) }
+    ensures unasked { IfErr result (λ e. e.0 ≡ Refusal.BadSize → e.1 ≡ device) }
+    ensures image { IfErr result (λ e. IsOfImage e.0) }
+    ensures exact { IsTrue (suits D.SectorDevice device) → MatchResult result
+        (λ _. refusal_of (D.sector_count device) (D.disk device).content ≡ None)
+        (λ e. (e.0 ≡ Refusal.Device) ⊎ (refusal_of (D.sector_count device) (D.disk device).content ≡ Some e.0)) }
+    ensures well { IfOk result (λ kept. D.failures kept.0 ≡ D.failures device) }
+    ensures failed { IfErr result (λ e. e.0 ≡ Refusal.Device → D.failures e.1 ≡ count_up (D.failures device)) }
+    ensures unfailed { IfErr result (λ e. e.0 ≢ Refusal.Device → D.failures e.1 ≡ D.failures device) }
+    ensures content { IsTrue (suits D.SectorDevice device)
+        → IfErr result (λ e. e.0 ≢ Refusal.Device → (D.disk e.1).content ≡ (D.disk device).content) }
+    ensures kept { OnErr result (listing.new ≡ listing.old) }
+    ensures goes { Becomes D.SectorDevice device (kept_after result) }
+    ensures stops { IsTrue (suits D.SectorDevice device)
+        → StopsLeave D.SectorDevice device (kept_after result) (MayRecover D.SectorDevice device) }
+    ensures begins { IsTrue (suits D.SectorDevice device) → OpeningBegins D.SectorDevice device (kept_after result) }
+{
+    match opened(device) {
+        Ok(store) => Ok(rested(store, listing)),
+        Err(refused) => Err(refused),
+    }
+}
+
+/// Reads block `block` into `out`, of 1,024 bytes, over an opening that stays, and answers as `open_kept`. A refusal
+/// hands the device back, and leaves `out`: those of the arguments, as `check_read` says, with no call of the device,
+/// and `Device`, after which the image has to be opened again.
+pub fn read_kept<D: SectorDevice>(
+    device: D,
+    is_open: bool,
+    listing: &mut [u8; 512],
+    block: u16,
+    out: &mut [u8],
+) -> Result<(D, bool), (Refusal, D)>
+    requires rested { IsTrue (suits D.SectorDevice device) → HasRested D.SectorDevice device is_open listing.old }
+    ensures bytes { (saved : List (List ℕ)) → HoldsOpen D.SectorDevice device is_open listing.old saved
+        → OnOk result (out.new ≡ block_in saved block) }
+    ensures kept { OnErr result (out.new ≡ out.old) }
+    // A store rests there again, with the same blocks.
+    ensures rests { IfOk result (λ kept. HasRested D.SectorDevice kept.0 kept.1 listing.new) }
+    ensures holds { (saved : List (List ℕ)) → HoldsOpen D.SectorDevice device is_open listing.old saved
+        → IfOk result (λ kept. HoldsOpen D.SectorDevice kept.0 kept.1 listing.new saved) }
+    ensures sectors { IfOk result (λ kept. D.sector_count kept.0 ≡ D.sector_count device) }
+    ensures stops { (saved : List (List ℕ)) → HoldsOpen D.SectorDevice device is_open listing.old saved
+        → StopsLeave D.SectorDevice device (kept_after result) (MeansOn D.SectorDevice device saved) }
+    // What is wrong with the arguments is told first, with no call of the device.
+    ensures arguments { IfSome (read_refusal (D.sector_count device) block (length out.old))
+        (λ e. result ≡ Err (e, device)) }
+    ensures fits { OnOk result (read_refusal (D.sector_count device) block (length out.old) ≡ None) }
+    ensures refusal { IfErr result (λ e. (e.0 ≡ Refusal.Device)
+        ⊎ (read_refusal (D.sector_count device) block (length out.old) ≡ Some e.0)) }
+    ensures same { OnErr result (listing.new ≡ listing.old) }
+    ensures well { IfOk result (λ kept. D.failures kept.0 ≡ D.failures device) }
+    ensures failed { IfErr result (λ e. e.0 ≡ Refusal.Device → D.failures e.1 ≡ count_up (D.failures device)) }
+    ensures goes { Becomes D.SectorDevice device (kept_after result) }
+    ensures begins { Begins D.SectorDevice device (kept_after result) 0 0 2 }
+{
+    match check_read(device.sectors(), block, out.len()) {
+        Ok(()) => read_resumed(resumed(device, is_open, listing), listing, block, out),
+        Err(refusal) => Err((refusal, device)),
+    }
+}
+
+/// Saves `blocks`, all or none, each with its 1,024 of `bytes`, over an opening that stays; of a block that stands
+/// twice the last bytes count. It answers as `open_kept`. A refusal hands the device back: those of the arguments, as
+/// `check_save` says, with no call of the device, and `Device`, after which the image has to be opened again.
+pub fn save_kept<D: SectorDevice>(
+    device: D,
+    is_open: bool,
+    listing: &mut [u8; 512],
+    blocks: &[u16],
+    bytes: &[u8],
+) -> Result<(D, bool), (Refusal, D)>
+    requires rested { IsTrue (suits D.SectorDevice device) → HasRested D.SectorDevice device is_open listing.old }
+    // A store rests there again, in which they are saved.
+    ensures rests { IfOk result (λ kept. HasRested D.SectorDevice kept.0 kept.1 listing.new) }
+    ensures saved { (saved : List (List ℕ)) → HoldsOpen D.SectorDevice device is_open listing.old saved
+        → IfOk result (λ kept. HoldsOpen D.SectorDevice kept.0 kept.1 listing.new (with_blocks saved blocks.now bytes.now)) }
+    ensures sectors { IfOk result (λ kept. D.sector_count kept.0 ≡ D.sector_count device) }
+    // A stop at any moment leaves all of them or none.
+    ensures stops { (saved : List (List ℕ)) → HoldsOpen D.SectorDevice device is_open listing.old saved
+        → StopsLeave D.SectorDevice device (kept_after result) (SavesOpen D.SectorDevice device saved blocks.now bytes.now) }
+    // What is wrong with the arguments is told first, with no call of the device.
+    ensures arguments { IfSome (save_refusal (D.sector_count device) blocks.now (length bytes.now))
+        (λ e. result ≡ Err (e, device)) }
+    ensures fits { OnOk result (save_refusal (D.sector_count device) blocks.now (length bytes.now) ≡ None) }
+    ensures refusal { IfErr result (λ e. (e.0 ≡ Refusal.Device)
+        ⊎ (save_refusal (D.sector_count device) blocks.now (length bytes.now) ≡ Some e.0)) }
+    ensures same { OnErr result (listing.new ≡ listing.old) }
+    ensures well { IfOk result (λ kept. D.failures kept.0 ≡ D.failures device) }
+    ensures failed { IfErr result (λ e. e.0 ≡ Refusal.Device → D.failures e.1 ≡ count_up (D.failures device)) }
+    ensures goes { Becomes D.SectorDevice device (kept_after result) }
+    ensures begins { SavesAtMost D.SectorDevice device (kept_after result) (length blocks.now) }
+{
+    match check_save(device.sectors(), blocks, bytes.len()) {
+        Ok(()) => save_resumed(resumed(device, is_open, listing), listing, blocks, bytes),
+        Err(refusal) => Err((refusal, device)),
+    }
+}
+
+/// Reads a block of a store that rested, and lets it rest again.
+fn read_resumed<D: SectorDevice>(
+    mut store: Store<D>,
+    listing: &mut [u8; 512],
+    block: u16,
+    out: &mut [u8],
+) -> Result<(D, bool), (Refusal, D)>
+    requires below { block < blocks_of store }
+    requires whole { length out.old ≡ 1024 }
+    requires live { closed_of store ≡ false }
+    requires none { (b : ℕ) → is_pending store b ≡ false }
+    ensures bytes { (saved : List (List ℕ)) → StandsFor store (fresh saved) → OnOk result (out.new ≡ block_in saved block) }
+    ensures kept { OnErr result (out.new ≡ out.old) }
+    ensures rests { IfOk result (λ kept. HasRested D.SectorDevice kept.0 kept.1 listing.new) }
+    ensures holds { (saved : List (List ℕ)) → StandsFor store (fresh saved)
+        → IfOk result (λ kept. HoldsOpen D.SectorDevice kept.0 kept.1 listing.new saved) }
+    ensures sectors { IfOk result (λ kept. D.sector_count kept.0 ≡ D.sector_count (device_of store)) }
+    ensures stops { (saved : List (List ℕ)) → StandsFor store (fresh saved)
+        → StopsLeave D.SectorDevice (device_of store) (kept_after result) (MeansOn D.SectorDevice (device_of store) saved) }
+    ensures refusal { IfErr result (λ e. e.0 ≡ Refusal.Device) }
+    ensures same { OnErr result (listing.new ≡ listing.old) }
+    ensures well { IfOk result (λ kept. D.failures kept.0 ≡ D.failures (device_of store)) }
+    ensures failed { IfErr result (λ e. D.failures e.1 ≡ count_up (D.failures (device_of store))) }
+    ensures goes { Becomes D.SectorDevice (device_of store) (kept_after result) }
+    ensures begins { Begins D.SectorDevice (device_of store) (kept_after result) 0 0 2 }
+{
+    match store.read_block(block, out) {
+        Ok(()) => Ok(rested(store, listing)),
+        Err(_) => Err((Refusal::Device, store.into_device())),
+    }
+}
+
+/// Saves blocks to a store that rested, and lets it rest again.
+fn save_resumed<D: SectorDevice>(
+    mut store: Store<D>,
+    listing: &mut [u8; 512],
+    blocks: &[u16],
+    bytes: &[u8],
+) -> Result<(D, bool), (Refusal, D)>
+    requires below { list_all (λ b. nat_lt b (blocks_of store)) blocks.now ≡ true }
+    requires whole { length bytes.now ≡ 1024 * length blocks.now }
+    requires live { closed_of store ≡ false }
+    requires none { (b : ℕ) → is_pending store b ≡ false }
+    ensures rests { IfOk result (λ kept. HasRested D.SectorDevice kept.0 kept.1 listing.new) }
+    ensures saved { (saved : List (List ℕ)) → StandsFor store (fresh saved)
+        → IfOk result (λ kept. HoldsOpen D.SectorDevice kept.0 kept.1 listing.new (with_blocks saved blocks.now bytes.now)) }
+    ensures sectors { IfOk result (λ kept. D.sector_count kept.0 ≡ D.sector_count (device_of store)) }
+    ensures stops { (saved : List (List ℕ)) → StandsFor store (fresh saved)
+        → StopsLeave D.SectorDevice (device_of store) (kept_after result)
+        (SavesOpen D.SectorDevice (device_of store) saved blocks.now bytes.now) }
+    ensures refusal { IfErr result (λ e. e.0 ≡ Refusal.Device) }
+    ensures same { OnErr result (listing.new ≡ listing.old) }
+    ensures well { IfOk result (λ kept. D.failures kept.0 ≡ D.failures (device_of store)) }
+    ensures failed { IfErr result (λ e. D.failures e.1 ≡ count_up (D.failures (device_of store))) }
+    ensures goes { Becomes D.SectorDevice (device_of store) (kept_after result) }
+    ensures begins { SavesAtMost D.SectorDevice (device_of store) (kept_after result) (length blocks.now) }
+{
+    match save_all(&mut store, blocks, bytes) {
+        Ok(()) => Ok(rested(store, listing)),
+        Err(_) => Err((Refusal::Device, store.into_device())),
+    }
+}
+
+/// The store that rested on the device.
+fn resumed<D: SectorDevice>(device: D, is_open: bool, listing: &[u8; 512]) -> Store<D>
+    requires known { is_known_size (D.sector_count device) ≡ true }
+    requires rested { IsTrue (suits D.SectorDevice device) → HasRested D.SectorDevice device is_open listing.now }
+    ensures device { device_of result ≡ device }
+    ensures blocks { blocks_of result ≡ known_blocks (D.sector_count device) }
+    ensures closed { closed_of result ≡ false }
+    ensures none { (b : ℕ) → is_pending result b ≡ false }
+    ensures state { StandsAsRested D.SectorDevice device is_open listing.now result }
+{
+    let blocks = blocks_of_size(device.sectors()).unwrap();
+    resume(device, blocks, is_open, listing)
+}
+
+/// Lets an open store rest of which nothing is pending: its device, and whether the gate is open; the record goes into
+/// `listing`.
+fn rested<D: SectorDevice>(store: Store<D>, listing: &mut [u8; 512]) -> (D, bool)
+    requires live { closed_of store ≡ false }
+    requires none { (b : ℕ) → is_pending store b ≡ false }
+    ensures rests { Rests D.SectorDevice result.0 result.1 listing.new store }
+{
+    let is_open = named(&store, listing);
+    (store.into_device(), is_open)
+}
