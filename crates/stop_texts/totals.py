@@ -1,13 +1,12 @@
 #!/usr/bin/env python3
-"""Says what the programs `stop_texts` and `newer_stop_texts` have to print: how many runs, stops and images the lines of their texts come to, with no
-difference.
+"""Says what the program `stop_texts` has to print: how many runs, stops and images the lines of its texts come to, with no difference.
 
-It shares no code with them. It has a disk, a store of either layout, block words and recoveries of its own, written by docs/IMAGE.md, and counts what the
+It shares no code with it. It has a disk, a store of either layout, block words and recoveries of its own, written by docs/IMAGE.md, and counts what the
 lines ask for: each call of the device that fails is one run; each way to leave the units with unsynced sectors after it is one stop; each image that is opened
 and looked at after a stop or a fault is one image. What the lines of Forth do to blocks stands in a table below.
 
     totals.py             prints it
-    totals.py --check     compares it with the files `stdout`, and ends with status 1 where one differs
+    totals.py --check     compares it with the file `stdout`, and ends with status 1 where they differ
 """
 import functools
 import hashlib
@@ -17,8 +16,7 @@ import os
 import re
 import sys
 
-CRATES = os.path.dirname(os.path.dirname(os.path.abspath(__file__)))
-PROGRAMS = ("stop_texts", "newer_stop_texts")
+HERE = os.path.dirname(os.path.abspath(__file__))
 OPEN, CLOSED = b"COMMIT83".ljust(512, b"\0"), bytes(512)
 # The most combinations that are all tried, by each layout.
 MOST = {2: 1_000, 3: 100}
@@ -453,29 +451,28 @@ class Part:
 
 
 def text_of(path):
-    with open(f"{CRATES}/{path}", encoding="utf-8") as file:
+    with open(f"{HERE}/{path}", encoding="utf-8") as file:
         return file.read()
 
 
-def printed_by(program):
-    texts = [text_of(f"{program}/data/{name}") for name in text_of(f"{program}/args").split()]
+def printed():
+    texts = [text_of(f"data/{name}") for name in text_of("args").split()]
     return "".join(Part(part).printed() for text in texts for part in text.split("==== ")[1:])
 
 
-def differs(program):
-    """Shows where the file `stdout` of a program isn't what it has to print, and answers whether it isn't."""
-    told, printed = text_of(f"{program}/stdout"), printed_by(program)
-    for has, wanted in itertools.zip_longest(told.splitlines(), printed.splitlines()):
-        if has != wanted:
-            print(f"{program}/stdout has: {has}\nwanted:     {wanted}")
-    return told != printed
+def differs():
+    """Shows where the file `stdout` isn't what the program has to print, and answers whether it isn't."""
+    told, wanted = text_of("stdout"), printed()
+    for has, line in itertools.zip_longest(told.splitlines(), wanted.splitlines()):
+        if has != line:
+            print(f"stdout has: {has}\nwanted:     {line}")
+    return told != wanted
 
 
 def main():
     if "--check" in sys.argv[1:]:
-        return int(any([differs(program) for program in PROGRAMS]))
-    for program in PROGRAMS:
-        print(printed_by(program), end="")
+        return int(differs())
+    print(printed(), end="")
     return 0
 
 

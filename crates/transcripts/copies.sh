@@ -8,7 +8,7 @@ cd "$(dirname "$0")/../.."
 data=crates/transcripts/data
 pages='README.md docs/TUTORIAL.md docs/MANUAL.md docs/LANGUAGE.md docs/PORTING.md examples library'
 asked=src/assertions.rt
-asking='program_tests shadow_tests shadow_care_tests'
+asking='program_tests shadow_tests image_care_tests'
 copy_to() {
     mkdir -p "$1/docs"
     for page in $pages; do

@@ -62,32 +62,61 @@ SHOWN = {
 }
 
 
+# of each page that shows digests of single blocks the same: it shows lines of `check --blocks`, and the digest of all of them
+LISTED = {"comparisons": [(32, FIFTH[b"ONE"]), (33, FIFTH[b"ONE"])]}
+
+
+def blocks(count, lines):
+    """The bytes of so many blocks, of which some hold these lines."""
+    return [b"".join(it.ljust(64) for it in lines.get(k, [])).ljust(1024) for k in range(count)]
+
+
 def digest(count, lines):
-    """The digest of so many blocks, of which some hold these lines."""
-    blocks = (b"".join(it.ljust(64) for it in lines.get(k, [])).ljust(1024) for k in range(count))
-    return hashlib.sha256(b"".join(blocks)).hexdigest()
+    return hashlib.sha256(b"".join(blocks(count, lines))).hexdigest()
+
+
+def listing(count, lines):
+    """What `check --blocks` tells of them."""
+    return [f"block {k}: {hashlib.sha256(it).hexdigest()}" for k, it in enumerate(blocks(count, lines))]
+
+
+def digest_of_listing(count, lines):
+    return hashlib.sha256("".join(f"{it}\n" for it in listing(count, lines)).encode()).hexdigest()
 
 
 def said(count, lines):
     return f"{count} blocks, all blank{' but ' if lines else ''}{', '.join(map(str, sorted(lines)))}"
 
 
+def text(name):
+    with open(f"{PAGES}/{name}.md", encoding="utf-8") as it:
+        return it.read()
+
+
 def page(name):
     """The digests that stand on a page, as `check` and `sha256sum` tell them."""
-    with open(f"{PAGES}/{name}", encoding="utf-8") as it:
-        return set(re.findall(r"^(?:sha256: )?([0-9a-f]{64})(?:  -)?$", it.read(), re.M))
+    return set(re.findall(r"^(?:sha256: )?([0-9a-f]{64})(?:  -)?$", text(name), re.M))
+
+
+def untrue_lines(name):
+    """The lines of `check --blocks` on a page that are of no blocks that are said."""
+    told = {line for it in LISTED.get(name, []) for line in listing(*it)}
+    return sorted({*re.findall(r"^block \d+: [0-9a-f]{64}$", text(name), re.M)} - told)
 
 
 def main():
-    computed = {name: {digest(count, lines): (count, lines) for count, lines in rows} for name, rows in SHOWN.items()}
+    computed = {name: {digest(*it): it for it in rows} for name, rows in SHOWN.items()}
+    for name, rows in LISTED.items():
+        computed.setdefault(name, {}).update((digest_of_listing(*it), it) for it in rows)
     if sys.argv[1:] != ["--check"]:
         for name, rows in computed.items():
             for it, (count, lines) in rows.items():
                 print(f"{name}: {it} {said(count, lines)}")
         return 0
-    shown = {it.removesuffix(".md"): page(it) for it in sorted(os.listdir(PAGES))}
+    shown = {it: page(it) for it in sorted(it.removesuffix(".md") for it in os.listdir(PAGES))}
     told = [f"{name}: {it} is of no blocks that are said" for name, found in shown.items() for it in found - set(computed.get(name, {}))]
     told += [f"{name}: no digest of {said(*rows[it])}" for name, rows in computed.items() for it in set(rows) - shown.get(name, set())]
+    told += [f"{name}: `{it}` is of no blocks that are said" for name in shown for it in untrue_lines(name)]
     print("".join(f"{it}\n" for it in told), end="")
     return 1 if told else 0
 

@@ -27,12 +27,23 @@ fn formatted(rt: &impl AllocGlobal) -> Result<MemoryDisk, Fail> {
     }
 }
 
+/// A sector's bytes.
+fn sector(disk: &mut MemoryDisk, k: u32) -> Result<[u8; 512], &'static str> {
+    let mut bytes = [0; 512];
+    if k >= disk.sectors() {
+        return Err("no such sector");
+    }
+    match disk.read(k, &mut bytes) {
+        Ok(()) => Ok(bytes),
+        Err(_) => Err("no sector read"),
+    }
+}
+
 /// A file with the bytes of a disk.
 fn as_file(rt: &impl AllocGlobal, mut disk: MemoryDisk) -> Result<MemoryFile, Fail> {
     let mut file = MemoryFile::new(rt.alloc(), SECTORS, WHOLE).map_err(|_| "no memory")?;
-    for k in 0..disk.sectors() {
-        let mut bytes = [0; 512];
-        disk.read(k, &mut bytes).map_err(|_| "no sector read")?;
+    for k in 0..SECTORS {
+        let bytes = sector(&mut disk, k)?;
         file.write_at(512 * k as u64, &bytes)
             .map_err(|_| "no sector written")?;
     }

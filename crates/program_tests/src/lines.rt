@@ -105,5 +105,5 @@ fn the_end_is_final(rt: HostRuntime) -> Result<(), Fail> {
 fn laws_are_calls(_rt: HostRuntime) {
     laws::played();
     laws::one_session();
-    terminal::laws::commands_are_read();
+    command_line::laws::commands_are_read();
 }

@@ -76,7 +76,7 @@ fn traces_that_fail(rt: HostRuntime) -> Result<(), Fail> {
         );
         assert_same!(rt;
             errors.written(),
-            b"line 1: UNDEFINED at column 2, after FOO\nline 2: U".as_slice()
+            b"line 1: UNDEFINED at column 1: FOO\nline 2: UNDEFIN".as_slice()
         );
     }
     fs::remove_dir_all(&rt, "program_untold")?;

@@ -177,11 +177,7 @@ pub(crate) fn run<R: Read, W: Write>(
         Ok(store) => {
             let memory = Memory::new(rt.alloc())?;
             let (_, end) = run_over::<MemoryDisk, Forth<MemoryDisk>, R, W>(
-                memory,
-                Store::from(store),
-                steps,
-                reader,
-                writer,
+                memory, store, steps, reader, writer,
             );
             Ok(end)
         }

@@ -6,9 +6,9 @@ use Rattle.sector_disk.specs.Coarse.{in_eights}
 use Rattle.sector_disk.specs.Disk.{Image, Disk}
 use Rattle.recovery.specs.Label.{is_size}
 use Rattle.shadow.specs.Label.{refusal}
-use Rattle.shadow.specs.Images.{meaning}
-use Rattle.shadow.specs.Layout.{label_of, sectors_for}
-use Rattle.stores.specs.Costs.{save_syncs}
+use Rattle.journal.specs.PageImages.{meaning}
+use Rattle.journal.specs.PageLayout.{label_of, sectors_for}
+use Rattle.journal.specs.Costs.{save_syncs}
 use Rattle.block_words.specs.Words.{Wear}
 use Rattle.block_words.specs.Calls.{writes_of, reads_of}
 use Rattle.rows.specs.Playing.{Exchange, ◌⇒◌, Plays, over, image, screen, saved_after, wear_after}

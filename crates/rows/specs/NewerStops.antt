@@ -7,8 +7,8 @@ use Rattle.sector_disk.specs.Coarse.{in_eights}
 use Rattle.sector_disk.specs.Disk.{Image, Disk}
 use Rattle.sector_disk.specs.declared.memory.Fate.{Fate}
 use Rattle.sector_disk.specs.declared.memory.Fate.TheVariants.{Lost, Kept, Torn}
-use Rattle.shadow.specs.Layout.{label_of, place_at}
-use Rattle.shadow.specs.Images.{block_of}
+use Rattle.journal.specs.PageLayout.{label_of, place_at}
+use Rattle.journal.specs.PageImages.{block_of}
 use Rattle.rows.specs.Stops.{DiskCall, Write, Sync, after_calls, at_each_stop, synced_disk, open_gate, closed_gate}
 
 -- ---- what a stop leaves

@@ -2,13 +2,13 @@
 ghost use Rattle.std.specs.Prelude.{◌≡◌, ◌↔◌, ◌<◌, ◌+◌, ◌*◌, IsOk, IsTrue, IfOk, OnOk};
 ghost use Rattle.sector_disk.specs.Disk.{written};
 ghost use Rattle.sector_disk.specs.MemoryDisk.{size};
-ghost use Rattle.shadow.specs.Layout.{sectors_for};
+ghost use Rattle.journal.specs.PageLayout.{sectors_for};
 
 use crate::medium::Layout;
 use journal::layout::MOST_BLOCKS;
+use journal::pages::layout::sectors_for;
 use recovery::OpenFault;
 use sector_disk::{MemoryDisk, SectorDevice};
-use shadow::layout::sectors_for;
 use std::test::Fail;
 use stores::{Store, open};
 
@@ -93,8 +93,8 @@ pub fn format<D: SectorDevice>(
     blocks: u16,
 ) -> Result<Store<D>, (OpenFault, D)> {
     match layout {
-        Layout::Older => recovery::format(device, blocks).map(|store| Store::from(store)),
-        Layout::Newer => shadow::format(device, blocks).map(|store| Store::from(store)),
+        Layout::Older => recovery::format(device, blocks),
+        Layout::Newer => shadow::format(device, blocks),
     }
 }
 

@@ -2,7 +2,7 @@
 ghost use Rattle.std.specs.Prelude.{◌≡◌, ◌⊎◌, ◌↔◌, ◌≤◌, ◌+◌, ◌%◌, IsTrue};
 
 use journal::layout::{self as older, LABEL};
-use shadow::layout as newer;
+use journal::pages::layout as newer;
 
 /// The layout of an image.
 #[derive(Clone, Copy, PartialEq, Eq)]

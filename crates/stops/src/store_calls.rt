@@ -1,6 +1,6 @@
 // Calls of a store.
 ghost use Rattle.std.specs.Prelude.{◌<◌};
-ghost use Rattle.stores.specs.Store.{blocks_of};
+ghost use Rattle.journal.specs.Store.{blocks_of};
 
 use crate::calls::{Call, Caller, follow};
 use crate::disks::opened;

@@ -68,7 +68,7 @@ fn leavings(kind: &str, layout: Layout) -> Option<[u8; 512]> {
         }
         "label" => Some(match layout {
             Layout::Older => layout::label(BLOCKS),
-            Layout::Newer => shadow::layout::label(BLOCKS),
+            Layout::Newer => journal::pages::layout::label(BLOCKS),
         }),
         _ => None,
     }

@@ -153,7 +153,7 @@ impl Session {
         let mut input = self.input.as_bytes();
         let (store, end) = run_over::<_, Forth<Fused<MemoryDisk>>, _, _>(
             Memory::new(alloc)?,
-            Store::from(journal::Store::adopt(device, blocks)),
+            journal::Store::adopt(device, blocks),
             self.steps.max(1),
             &mut input,
             written,
