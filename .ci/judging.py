@@ -85,7 +85,7 @@ class Edit:
     def __init__(self, crate, folder, file):
         self.crate, self.title, self.is_control = crate, file.removesuffix(".edit"), folder == "controls"
         self.name = f"{crate}/{self.title}"
-        self.pairs, self.only, self.at, path, old = [], [], [], None, None
+        self.pairs, self.only, self.laws, self.at, path, old = [], [], [], [], None, None
         top = f"{ROOT}/crates/{crate}"
         texts = {it: text_of(f"{top}/{it}/{file}") for it in FOLDERS if os.path.isfile(f"{top}/{it}/{file}")}
         # what its judgement reads of it: its control too, or the body that it is a control of
@@ -99,6 +99,9 @@ class Edit:
                 path = rest.strip()
             elif word == "only":
                 self.only += rest.split()
+            elif word == "law":
+                self.laws += rest.split()
+                self.at += [f"{it}-value" for it in rest.split()]
             elif word == "at":
                 self.at += rest.split()
             elif word == "old":
@@ -190,7 +193,7 @@ class Place:
     def __init__(self, edit, types):
         self.edit, (self.was, self.then) = edit, edit.applied()
         found = {it: functions(it, text, types) for it, text in self.was.items() if it.startswith("src/")}
-        self.homes, self.is_body, self.sole = [], bool(found) and not edit.only, None
+        self.homes, self.is_body, self.sole = [], bool(found) and not edit.only and not edit.laws, None
         for file, old, _ in edit.pairs:
             if file.startswith("src/"):
                 # (an old text of a later pair may be one that an earlier pair made)
@@ -224,7 +227,7 @@ class Answer:
     """What the prover said of one check."""
 
     def __init__(self, said, room):
-        self.said, self.is_whole = said, bool(re.search(r"^only=\d+ holes=\d+", said, re.M))
+        self.said, self.is_whole = said, bool(re.search(r"^(only=\d+ )?holes=\d+", said, re.M))
         self.ends = dict(re.findall(r"^fn \w+::(\S+): (.*)$", said, re.M))
         self.errors = [(os.path.normpath(file), int(line), said_of or "", text) for file, line, said_of, text in
                        re.findall(r"^(\S+?):(\d+):\d+: error(?:\[[\w-]+\])?: (?:`([^`]*)`: )?(.*)$", said, re.M)]
@@ -400,8 +403,21 @@ class Trial:
                     return f"it can't be read: {short(text)}"
         return None
 
+    def of_laws(self, place):
+        """Tries an edit of what a type says of itself: only a check of the whole crate reads its laws. All functions are taken to meet their contracts."""
+        self.fresh()
+        for file, text in place.then.items():
+            self.write(file, text)
+        answer = self.check(())
+        if not answer.is_whole:
+            return last_of(answer)
+        errors = [(goal, text) for _, _, goal, text in answer.errors]
+        return reasons(errors, "") if errors else None
+
     def in_place(self, places):
         """Tries edits of different functions where they stand."""
+        if any(it.edit.laws for it in places):
+            return {it: self.of_laws(it) for it in places}
         self.fresh([*(name for it in places for name in it.asked()), *("::".join(home.path) for it in places for home in it.homes)])
         for file in dict.fromkeys(file for it in places for file in it.then):
             text = text_of(f"{self.room}/{file}")
@@ -471,7 +487,7 @@ def rounds(places):
     groups = []
     for it in places:
         keys = {(home.file, home.first) for home in it.homes}
-        kinds = {"law" if home.is_law else "method" if home.in_trait else "" for home in it.homes} if not it.edit.only and all(file.startswith("src/") for file in it.was) else {""}
+        kinds = {"law" if home.is_law else "method" if home.in_trait else "" for home in it.homes} if not it.edit.only and not it.edit.laws and all(file.startswith("src/") for file in it.was) else {""}
         kind = kinds.pop() if len(kinds) == 1 else ""
         group = next((taken for taken in groups if kind and taken[0] == kind and not taken[1] & keys), None)
         if group:
