@@ -118,10 +118,12 @@ compared "LOAD of 100 full blocks, 20 times" load empty 2000 block
 compared "the same beside 3900 words" load.3900 defined.3900 2000 block
 others=$saved
 
-# ---- the programs: whole/NAME.fth for every Forth, whole/NAME.lua in Lua where it has one
+# ---- the programs: whole/NAME.fth or untuned/NAME.fth for every Forth, whole/NAME.lua in Lua where it has one
 # NAME KIND LINE CALL: the program with a line of Forth at its end, or a call of Lua, as NAME.KIND and what else `once` takes
 written() {
-    { cat "$here/whole/$1.fth"; echo "$3"; } > "$1.$2.fth"
+    text=$here/whole/$1.fth
+    if [ ! -f "$text" ]; then text=$here/untuned/$1.fth; fi
+    { cat "$text"; echo "$3"; } > "$1.$2.fth"
     # a cell has two bytes here
     sed 's/CELL+/2+/g; s/CELLS/DUP +/g' "$1.$2.fth" > "$1.$2"
     if [ -f "$here/whole/$1.lua" ]; then { cat "$here/whole/$1.lua"; echo "$4"; } > "$1.$2.lua"; fi
@@ -154,23 +156,29 @@ instructions() {
     valgrind --tool=callgrind --callgrind-out-file=/dev/null "$program" run image --steps "$steps" < "$1" 2>&1 |
         awk '/Collected/ { print $4 }'
 }
-while read -r name few many long; do
+# NAME FEW MANY LONG: its time a step beside the others, and its instructions a step
+measured() {
+    name=$1
     written "$name" result RESULT 'print("result", result())'
     if ! agree "$name"; then
         echo "$name: the systems disagree: $(tr '\n' ' ' < said)"
         exit 1
     fi
     written "$name" base '' ''
-    for turns in "$few" "$many" "$long"; do written "$name" "$turns" "$turns TURNS" "turns($turns)"; done
-    a=$(steps_of "$name.$few")
-    b=$(steps_of "$name.$many")
-    each=$(((b - a) / (many - few)))
-    compared "$name" "$name.$long" "$name.base" "$((each * long))" step
+    for turns in "$2" "$3" "$4"; do written "$name" "$turns" "$turns TURNS" "turns($turns)"; done
+    a=$(steps_of "$name.$2")
+    b=$(steps_of "$name.$3")
+    each=$(((b - a) / ($3 - $2)))
+    compared "$name" "$name.$4" "$name.base" "$((each * $4))" step
+    cp took "$name.took"
     if command -v valgrind > /dev/null; then
-        echo "$(instructions "$name.$few") $(instructions "$name.$many") $a $b" |
-            awk '{ printf "%.1f\n", ($2 - $1) / ($4 - $3) }' > took
-        row "$name, instructions" forth83 "$(cat took)" "a step, of $each a turn"
+        echo "$(instructions "$name.$2") $(instructions "$name.$3") $a $b" |
+            awk '{ printf "%.1f\n", ($2 - $1) / ($4 - $3) }' > "$name.instructions"
+        row "$name, instructions" forth83 "$(cat "$name.instructions")" "a step, of $each a turn"
     fi
+}
+while read -r name few many long; do
+    measured "$name" "$few" "$many" "$long"
 done <<END
 loop 2 4 2000
 calls 10 20 3000
@@ -183,6 +191,48 @@ gcd 1 2 80
 scale 2 4 2500
 records 10 20 5000
 END
+
+# ---- programs that nothing was tuned to, by halves
+while read -r name few many long; do
+    measured "$name" "$few" "$many" "$long"
+done <<END
+adler 1 2 400
+bits 1 2 150
+calc 2 4 4000
+colours 1 2 20
+digits 1 2 300
+ledger 1 2 400
+names 1 2 60
+ring 1 2 800
+roots 1 2 100
+scanner 4 8 800
+table 1 2 200
+torus 1 2 20
+END
+# HALF: geometric means of its programs: time over each other system, and instructions a step
+means() {
+    for name in $("$here/halves.sh" | awk -v half="$1" '$1 == half { print $2 }'); do
+        sed "s/^/$name /" "$name.took"
+        if [ -f "$name.instructions" ]; then echo "$name instructions $(cat "$name.instructions")"; fi
+    done | awk '
+        { each[$1, $2] = $3; names[$1]; systems[$2] }
+        END {
+            for (s in systems) {
+                if (s == "forth83") continue
+                count = sum = most = 0
+                for (n in names) {
+                    if (!((n, s) in each)) continue
+                    value = s == "instructions" ? each[n, s] : each[n, "forth83"] / each[n, s]
+                    count++
+                    sum += log(value)
+                    if (value > most) most = value
+                }
+                printf "%s %.2f, at most %.2f\n", s, exp(sum / count), most
+            }
+        }' | sort | while read -r what mean; do row "geometric mean of those $1, over" "$what" "$mean" ""; done
+}
+means chosen
+means kept
 
 # ---- saves: a hundred of each size in one session, the same on the same disk by others, in turn; the least of the rounds
 for blocks in 1 2 3 4; do

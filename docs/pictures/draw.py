@@ -85,7 +85,7 @@ def crates():
             depth[name] = 1 + max((depth_of(it) for it in direct[name]), default=-1)
         return depth[name]
 
-    storage, program = below["stores"] | {"stores", "image_care", "shadow_care", "block_words", "block_buffers"}, {"sessions", "terminal", "embed", "forth83"}
+    storage, program = below["stores"] | {"stores", "image_care", "block_words", "block_buffers"}, {"sessions", "command_line", "terminal", "embed", "forth83"}
     levels = [[it for it in product if depth_of(it) == level] for level in range(1 + max(map(depth_of, product)))]
     picture, wide, high, gap = Picture("crates", "The crates, each above those that it stands on", 1080), 128, 34, 62
     picture.text(20, 26, picture.title, "head")

@@ -1,0 +1,10 @@
+( a checksum of two running sums, each below 251 )
+VARIABLE LOW  VARIABLE HIGH
+CREATE TEXT 512 ALLOT
+: FILLED 512 0 DO I 13 * I 7 / + 255 AND TEXT I + C! LOOP ;
+FILLED
+: BYTE ( b -- ) LOW @ + 251 MOD DUP LOW ! HIGH @ + 251 MOD HIGH ! ;
+: SUMMED ( a n -- ) 1 LOW ! 0 HIGH ! OVER + SWAP DO I C@ BYTE LOOP ;
+: CHECKED ( -- w ) TEXT 512 SUMMED HIGH @ 128 * LOW @ XOR ;
+: TURNS 0 DO CHECKED DROP LOOP ;
+: RESULT ." result " CHECKED . ;

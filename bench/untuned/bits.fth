@@ -1,0 +1,8 @@
+( bits counted, turned round and mixed )
+: ONES ( w -- n ) 0 SWAP 15 0 DO DUP 1 AND ROT + SWAP 2/ LOOP DROP ;
+: GRAY ( w -- w ) DUP 2/ XOR ;
+: TURNED ( w -- w ) 0 15 0 DO DUP + OVER 1 AND OR SWAP 2/ SWAP LOOP SWAP DROP ;
+: MIXED ( w -- w ) DUP 127 AND 128 * XOR DUP 512 / XOR DUP 63 AND 256 * XOR ;
+: WORKED ( -- n ) 0 1 40 0 DO MIXED DUP GRAY ONES ROT + OVER TURNED 31 AND + SWAP LOOP DROP ;
+: TURNS 0 DO WORKED DROP LOOP ;
+: RESULT ." result " WORKED . ;

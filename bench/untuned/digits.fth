@@ -1,0 +1,10 @@
+( a number of forty digits is multiplied and divided digit by digit )
+40 CONSTANT PLACES  CREATE DIGITS 40 ALLOT
+: DIVIDED ( n -- rest ) 0 PLACES 0 DO 10 * DIGITS I + C@ + OVER /MOD DIGITS I + C! LOOP SWAP DROP ;
+: MULTIPLIED ( n -- carry )
+  0 PLACES 0 DO PLACES 1- I - DIGITS + DUP >R C@ 2 PICK * + 10 /MOD SWAP R> C! LOOP SWAP DROP ;
+: SUM ( -- n ) 0 PLACES 0 DO DIGITS I + C@ + LOOP ;
+: WORKED ( -- n ) DIGITS 40 0 FILL 1 DIGITS C!
+  7 DIVIDED 13 DIVIDED + 19 MULTIPLIED + 17 DIVIDED + 3 MULTIPLIED + 23 DIVIDED + SUM + ;
+: TURNS 0 DO WORKED DROP LOOP ;
+: RESULT ." result " WORKED . ;
