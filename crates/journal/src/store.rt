@@ -1,5 +1,5 @@
 // Blocks on a device, spilled one by one and saved all at once.
-ghost use Rattle.std.specs.Prelude.{◌≡◌, ◌≢◌, ◌==◌, ◌||◌, ◌<◌, ◌≤◌, ◌+◌, ◌*◌, ◌↔◌, ℕ, true, false, Some, length, replicate, IsTrue, OnOk, OnErr, IsOk, IsErr, IsErrOf, MatchResult};
+ghost use Rattle.std.specs.Prelude.{◌≡◌, ◌≢◌, ◌==◌, ◌||◌, ◌<◌, ◌≤◌, ◌+◌, ◌*◌, ◌↔◌, ℕ, true, false, Some, length, replicate, IsTrue, OnOk, OnErr, IsOk, IsErr, IsErrOf, MatchResult, nat_lt};
 ghost use Rattle.sector_disk.specs.Disk.{Image, MayLeave};
 ghost use Rattle.journal.specs.Clean.{IsClean};
 ghost use Rattle.journal.specs.Costs.{each_reads, each_writes, more_writes, save_syncs};
@@ -164,6 +164,13 @@ impl<D: SectorDevice> Store<D> {
         ensures { result ≡ closed_of self.now }
     {
         self.closed // as a failed spill or commit left it
+    }
+
+    /// Whether a block was spilled since the last save. Makes no device call.
+    pub fn has_pending(&self) -> bool
+        ensures { result ≡ nat_lt 0 (pending_count self.now) }
+    {
+        0 < count_blocks(&self.pending, self.blocks)
     }
 
     /// The device, as it is. What was spilled and not committed is given up.

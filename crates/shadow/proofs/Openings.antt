@@ -1,9 +1,10 @@
 -- Which images are opened.
-use Rattle.std.proofs.Common.{◌≡◌, inl, inr, ⊎_elim, ℕ, true, cond, Option, Some, None, sym, ◌∙◌, ap, subst}
-use Rattle.std.specs.Prelude.{not}
+use Rattle.std.proofs.Common.{◌≡◌, ◌⊎◌, inl, inr, ⊎_elim, ℕ, true, cond, Option, Some, None, Result, Ok, Err, sym, ◌∙◌, ap, subst}
+use Rattle.std.specs.Prelude.{◌≢◌, not, IfErr, MatchBool, MatchResult}
 use Rattle.sector_disk.specs.Disk.{Image}
 use Rattle.recovery.specs.declared.fault.OpenFault.{OpenFault}
-use Rattle.recovery.specs.declared.fault.OpenFault.TheVariants.{BadSize, Damaged}
+use Rattle.recovery.specs.declared.fault.OpenFault.TheVariants.{BadSize, Device, Damaged}
+use Rattle.journal.proofs.Choices.{at_true}
 use Rattle.journal.specs.PageImages.{IsWhole}
 use Rattle.shadow.specs.Label.{is_known_size, label_refusal, refusal}
 use Rattle.journal.specs.PageLayout.{sectors_for}
@@ -19,6 +20,26 @@ never_refused n sectors image e size means = ⊎_elim
     apart : (r : Option OpenFault) → r ≡ None → r ≡ Some e → ⊥
     apart (Some x) none some = cc
     apart None none some = cc
+
+-- What is told of a result whatever it is.
+module _ {T : Type 0} where
+  -- What has a meaning is refused by a fault of the device alone.
+  pub only_device : (r : Result T OpenFault) (n sectors : ℕ) (image : Image) → sectors ≡ sectors_for n → HasMeaning n image
+      → MatchResult r (λ _. (fault : OpenFault) → ¬ Refuses sectors image fault) (λ e. (e ≡ Device) ⊎ Refuses sectors image e)
+      → IfErr r (λ e. e ≡ Device)
+  only_device (Ok x) n sectors image size means told = tt
+  only_device (Err e) n sectors image size means told =
+      ⊎_elim (λ device. device) (λ refused. absurd (never_refused n sectors image e size means refused)) told
+
+  -- A refusal of an image of a known size is none of its size.
+  pub other_than_size : (r : Result T OpenFault) (sectors : ℕ) → is_known_size sectors ≡ true → IfErr r (λ e. e ≢ BadSize)
+      → IfErr r (λ e. MatchBool (is_known_size sectors) (e ≢ BadSize) (e ≡ BadSize))
+  other_than_size (Ok x) sectors is told = told
+  other_than_size (Err e) sectors is told = at_true (is_known_size sectors) (e ≢ BadSize) (e ≡ BadSize) is told
+
+  pub never_of_size : (P : Type 0) (r : Result T OpenFault) → IfErr r (λ e. e ≢ BadSize) → IfErr r (λ e. e ≡ BadSize → P)
+  never_of_size P (Ok x) told = told
+  never_of_size P (Err e) told = λ is. absurd (told is)
 
 -- Once the size is one, the label is looked at, and then what counts.
 module _ (sectors : ℕ) (image : Image) (known : is_known_size sectors ≡ true) where

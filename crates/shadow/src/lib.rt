@@ -14,6 +14,6 @@ mod upgrading;
 pub use checking::read_record;
 pub use formatting::format;
 pub use label::{blocks_of_new, is_known_size, read_count};
-pub use opening::{Found, look, open};
+pub use opening::{Found, look, open, ready};
 pub use places::Places;
 pub use upgrading::upgrade;

@@ -60,6 +60,38 @@ fn start<D: SectorDevice>(device: &mut D) -> Result<u16, OpenFault>
     read_count(&label, device.sectors())
 }
 
+// Reads the gate of an image of so many blocks with a good label, the record that it names into `listing`, and each block
+// that counts, and answers whether the gate is open.
+fn look_into<D: SectorDevice>(
+    device: &mut D,
+    blocks: u16,
+    listing: &mut [u8; 512],
+) -> Result<bool, OpenFault>
+    requires few { blocks ≤ most_blocks }
+    requires size { D.sector_count device.old ≡ sectors_for blocks }
+    ensures gate { IsTrue (D.keeps_model device.old)
+        → IfOk result (λ is_open. gate_open ((D.disk device.old).content gate_at) ≡ is_open) }
+    ensures named { IsTrue (D.keeps_model device.old)
+        → OnOk result (record_of (D.disk device.old).content ≡ listing.new) }
+    ensures exact { IsTrue (D.keeps_model device.old) → MatchResult result
+        (λ _. IsWhole blocks (D.disk device.old).content)
+        (λ e. (e ≡ Device) ⊎ ((e ≡ Damaged) × ¬ IsWhole blocks (D.disk device.old).content)) }
+    ensures tells { Tells D.SectorDevice device.old device.new 0 result }
+    ensures disk { IsTrue (D.keeps_model device.old) → D.disk device.new ≡ D.disk device.old }
+    ensures stops { IsTrue (D.keeps_model device.old)
+        → StopsLeave D.SectorDevice device.old device.new (MayLeave (D.disk device.old)) }
+    ensures passes { Proceeds D.SectorDevice device.old device.new }
+    ensures begins { BeginsAtMost D.SectorDevice device.old device.new 0 0 }
+    ensures reads { ReadsAtMost D.SectorDevice device.old device.new (3 * blocks + 2) }
+{
+    let is_open = read_record(device, listing)?;
+    if is_whole(device, blocks, listing)? {
+        Ok(is_open)
+    } else {
+        Err(OpenFault::Damaged)
+    }
+}
+
 /// Reads the gate of an image of layout 3 of so many blocks with a good label, the record that it names, and each block
 /// that counts. An image that is damaged is refused (Damaged); Device comes where a read failed. Nothing is written,
 /// and nothing synced.
@@ -84,32 +116,32 @@ pub fn look<D: SectorDevice>(device: &mut D, blocks: u16) -> Result<Found, OpenF
     ensures reads { ReadsAtMost D.SectorDevice device.old device.new (3 * blocks + 2) }
 {
     let mut listing = [0; 512];
-    let is_open = read_record(device, &mut listing)?;
-    if is_whole(device, blocks, &listing)? {
-        Ok(Found {
+    match look_into(device, blocks, &mut listing) {
+        Ok(is_open) => Ok(Found {
             number: blocks,
             is_open,
             listing,
-        })
-    } else {
-        Err(OpenFault::Damaged)
+        }),
+        Err(fault) => Err(fault),
     }
 }
 
-// Makes what is there stay, and looks at all that counts.
-fn survey<D: SectorDevice>(device: &mut D) -> Result<Found, OpenFault>
+// Makes what is there stay, and looks at all that counts. It answers how many blocks there are, and whether the gate is
+// open; the record that it names goes into `listing`.
+fn survey<D: SectorDevice>(
+    device: &mut D,
+    listing: &mut [u8; 512],
+) -> Result<(u16, bool), OpenFault>
     requires { is_known_size (D.sector_count device.old) ≡ true }
     ensures ok { IsTrue (D.keeps_model device.old)
         → OnOk result (D.disk device.new ≡ settled (D.disk device.old)) }
     ensures meaning { IsTrue (D.keeps_model device.old)
-        → IfOk result (λ found. HasMeaning found.number (D.disk device.old).content) }
-    ensures gate { IsTrue (D.keeps_model device.old)
-        → IfOk result (λ found. gate_open ((D.disk device.old).content gate_at) ≡ found.is_open) }
-    ensures named { IsTrue (D.keeps_model device.old)
-        → IfOk result (λ found. record_of (D.disk device.old).content ≡ found.listing) }
-    ensures size { IfOk result (λ found. D.sector_count device.old ≡ sectors_for found.number) }
-    ensures many { IfOk result (λ found. fewest_blocks ≤ found.number) }
-    ensures few { IfOk result (λ found. found.number ≤ most_blocks) }
+        → IfOk result (λ found. HasMeaning found.0 (D.disk device.old).content) }
+    ensures clean { IsTrue (D.keeps_model device.old)
+        → IfOk result (λ found. IsClean found.0 found.1 listing.new (D.disk device.new)) }
+    ensures size { IfOk result (λ found. D.sector_count device.old ≡ sectors_for found.0) }
+    ensures many { IfOk result (λ found. fewest_blocks ≤ found.0) }
+    ensures few { IfOk result (λ found. found.0 ≤ most_blocks) }
     ensures exact { IsTrue (D.keeps_model device.old) → MatchResult result
         (λ _. (fault : OpenFault) → ¬ Refuses (D.sector_count device.old) (D.disk device.old).content fault)
         (λ e. (e ≡ Device) ⊎ Refuses (D.sector_count device.old) (D.disk device.old).content e) }
@@ -121,17 +153,70 @@ fn survey<D: SectorDevice>(device: &mut D) -> Result<Found, OpenFault>
     ensures reads { ReadsAtMost D.SectorDevice device.old device.new (3 * blocks_in (D.sector_count device.old) + 3) }
 {
     let blocks = start(device)?;
-    look(device, blocks)
+    match look_into(device, blocks, listing) {
+        Ok(is_open) => Ok((blocks, is_open)),
+        Err(fault) => Err(fault),
+    }
 }
 
-/// Opens an image of layout 3 after a stop, and answers a store of its blocks. One sync makes what is there stay, and
-/// nothing is written: so a stop within this call leaves what a stop before it could leave. An error hands the device
-/// back. Takes no memory.
+/// Makes an image of layout 3 ready for a store after a stop: answers how many blocks it has and whether its gate is
+/// open, and puts the record that the gate names into `listing`. One sync makes what is there stay, and nothing is
+/// written: so a stop within this call leaves what a stop before it could leave. After an error `listing` may be
+/// anything. Takes no memory.
 ///
 /// It refuses, in this order, a device of a size that no image of any layout has (BadSize, with no device call), one
 /// without the name and zeros of a label (NoLabel), a label of another version (OtherVersion), one of a number of
 /// blocks that isn't that of the size (WrongCount), and an image of which a block isn't the one that was saved, or the
 /// record's sum isn't that of the blocks (Damaged). Device comes where a call of the device failed.
+/// Rule: IMAGE, Layout 3, An opening; IMAGE, Layout 3.
+#[inline(never)] // what it reads isn't to lie on the stack below a store
+pub fn ready<D: SectorDevice>(
+    device: &mut D,
+    listing: &mut [u8; 512],
+) -> Result<(u16, bool), OpenFault>
+    // The disk is as it was, and synced, and a store may be made over it.
+    ensures disk { IsTrue (D.keeps_model device.old) → OnOk result (D.disk device.new ≡ settled (D.disk device.old)) }
+    ensures clean { IsTrue (D.keeps_model device.old)
+        → IfOk result (λ found. IsClean found.0 found.1 listing.new (D.disk device.new)) }
+    ensures size { IfOk result (λ found. D.sector_count device.old ≡ sectors_for found.0) }
+    ensures many { IfOk result (λ found. fewest_blocks ≤ found.0) }
+    ensures few { IfOk result (λ found. found.0 ≤ most_blocks) }
+
+    // BadSize comes exactly where no image has this size, over any device and with no call of it.
+    ensures sized { OnOk result (is_known_size (D.sector_count device.old) ≡ true) }
+    ensures bad_size { IfErr result (λ e. MatchBool (is_known_size (D.sector_count device.old)) (e ≢ BadSize) (e ≡ BadSize)) }
+    ensures unasked { IfErr result (λ e. e ≡ BadSize → device.new ≡ device.old) }
+    // Each refusal tells the first test that the image fails.
+    ensures exact { IsTrue (D.keeps_model device.old) → MatchResult result
+        (λ _. (fault : OpenFault) → ¬ Refuses (D.sector_count device.old) (D.disk device.old).content fault)
+        (λ e. (e ≡ Device) ⊎ Refuses (D.sector_count device.old) (D.disk device.old).content e) }
+    // What is made ready has a meaning, and what has one is refused only by a fault of the device.
+    ensures meaning { IsTrue (D.keeps_model device.old) → IfOk result (λ found. HasMeaning found.0 (D.disk device.old).content) }
+    ensures good { IsTrue (D.keeps_model device.old) → (n : ℕ) → D.sector_count device.old ≡ sectors_for n
+        → HasMeaning n (D.disk device.old).content → IfErr result (λ e. e ≡ Device) }
+    ensures device { IfErr result (λ e. e ≡ Device → D.failures device.new ≡ count_up (D.failures device.old)) }
+    ensures refused { IfErr result (λ e. e ≢ Device → D.failures device.new ≡ D.failures device.old) }
+    ensures well { OnOk result (D.failures device.new ≡ D.failures device.old) }
+    ensures content { IsTrue (D.keeps_model device.old)
+        → IfErr result (λ e. e ≢ Device → (D.disk device.new).content ≡ (D.disk device.old).content) }
+
+    // A stop at any moment leaves an image that a stop before could leave.
+    ensures stops { IsTrue (D.keeps_model device.old)
+        → StopsLeave D.SectorDevice device.old device.new (MayLeave (D.disk device.old)) }
+    ensures passes { Proceeds D.SectorDevice device.old device.new }
+    // One sync, and of each block three sectors are read beside label, gate and record.
+    ensures begins { BeginsAtMost D.SectorDevice device.old device.new 0 1 }
+    ensures reads { ReadsAtMost D.SectorDevice device.old device.new (3 * blocks_in (D.sector_count device.old) + 3) }
+{
+    if is_known_size(device.sectors()) {
+        survey(device, listing)
+    } else {
+        Err(OpenFault::BadSize)
+    }
+}
+
+/// Opens an image of layout 3 after a stop, and answers a store of its blocks, for which `ready` makes it ready. It
+/// refuses as that does. An error hands the device back. Takes no memory.
 /// Rule: IMAGE, Layout 3, An opening; IMAGE, Layout 3.
 pub fn open<D: SectorDevice>(mut device: D) -> Result<Store<D>, (OpenFault, D)>
     // The store has the blocks that the image meant, and the disk is as it was, and synced.
@@ -179,11 +264,9 @@ pub fn open<D: SectorDevice>(mut device: D) -> Result<Store<D>, (OpenFault, D)>
     ensures begins { BeginsAtMost D.SectorDevice device (end_of result) 0 1 }
     ensures reads { ReadsAtMost D.SectorDevice device (end_of result) (3 * blocks_in (D.sector_count device) + 3) }
 {
-    if !is_known_size(device.sectors()) {
-        return Err((OpenFault::BadSize, device));
-    }
-    match survey(&mut device) {
-        Ok(found) => Ok(Store::adopt_pages(device, found.number, found.is_open, &found.listing)),
+    let mut listing = [0; 512];
+    match ready(&mut device, &mut listing) {
+        Ok((number, is_open)) => Ok(Store::adopt_pages(device, number, is_open, &listing)),
         Err(fault) => Err((fault, device)),
     }
 }

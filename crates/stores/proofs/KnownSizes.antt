@@ -8,7 +8,7 @@ use Rattle.shadow.specs.Label as newer
 use Rattle.shadow.specs.Label.{is_known_size}
 use Rattle.journal.specs.PageLayout as newer_layout
 use Rattle.shadow.specs.Upgraded.{known_blocks}
-use Rattle.journal.proofs.Sizes.{older_count}
+use Rattle.journal.proofs.Sizes.{older_count, older_sectors}
 
 newer_sectors : (sectors : ℕ) → newer.is_size sectors ≡ true → sectors ≡ newer_layout.sectors_for (newer.blocks_in sectors)
 newer_sectors sectors is = grind (arith, nat_tests, is)
@@ -41,3 +41,15 @@ pub newer_blocks : (n sectors : ℕ) → older.is_size sectors ≡ false → sec
 newer_blocks n sectors isnt size =
     sym (newer_count n sectors size)
     ∙ sym (ap (λ b. if b then older.blocks_in sectors else newer.blocks_in sectors) isnt)
+
+-- How many blocks an image has tells its size.
+pub size_of_older : (n sectors : ℕ) → older.is_size sectors ≡ true → n ≡ known_blocks sectors → sectors ≡ older_layout.sectors_for n
+size_of_older n sectors is count =
+    older_sectors sectors is
+    ∙ ap older_layout.sectors_for (sym (count ∙ ap (λ b. if b then older.blocks_in sectors else newer.blocks_in sectors) is))
+
+pub size_of_newer : (n sectors : ℕ) → older.is_size sectors ≡ false → is_known_size sectors ≡ true → n ≡ known_blocks sectors
+    → sectors ≡ newer_layout.sectors_for n
+size_of_newer n sectors isnt known count =
+    known_newer sectors isnt known
+    ∙ ap newer_layout.sectors_for (sym (count ∙ ap (λ b. if b then older.blocks_in sectors else newer.blocks_in sectors) isnt))

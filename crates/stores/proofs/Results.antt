@@ -1,10 +1,6 @@
 -- What is told of a result.
 use Rattle.std.proofs.Common.{Result, Ok, Err}
 use Rattle.std.specs.Prelude.{IfOk, IfErr, MatchResult}
-use Rattle.sector_disk.specs.declared.device.SectorDevice.{Ghosts}
-use Rattle.journal.specs.declared.store.Store.{Store}
-use Rattle.recovery.specs.declared.fault.OpenFault.{OpenFault}
-use Rattle.stores.specs.Opened.{end_of}
 
 module _ {T E : Type 0} where
   pub if_ok : (result : Result T E) {P Q : T → Type 0} → ((x : T) → P x → Q x) → IfOk result P → IfOk result Q
@@ -24,8 +20,6 @@ module _ {T E : Type 0} where
   either (Ok x) f g p = f x p
   either (Err e) f g p = g e p
 
--- what holds of the device, in a store or handed back
-pub end_err : {D : Type 0} {G : Ghosts D} (result : Result (Store D G) (OpenFault × D)) (P : D → Type 0) (Q : OpenFault → Type 0)
-    → P (end_of result) → IfErr result (λ e. Q e.0 → P e.1)
-end_err (Ok store) P Q p = tt
-end_err (Err e) P Q p = λ other. p
+  pub any_err : (result : Result T E) {Q : E → Type 0} → ((e : E) → Q e) → IfErr result Q
+  any_err (Ok x) f = tt
+  any_err (Err e) f = f e

@@ -1,7 +1,9 @@
 -- Which images are opened, what an opening may leave, and how many calls it makes.
-use Rattle.std.specs.Prelude.{ℕ, ◌+◌, ◌*◌, if◌then◌else◌, Result, Option, Some, None, MatchBool}
+use Rattle.std.specs.Prelude.{ℕ, ◌+◌, ◌*◌, if◌then◌else◌, Bool, List, Result, Option, Some, None, MatchBool}
 use Rattle.sector_disk.specs.Disk.{Disk, Image, MayLeave}
 use Rattle.sector_disk.specs.declared.device.SectorDevice.{Ghosts}
+use Rattle.journal.specs.Clean as older_clean
+use Rattle.journal.specs.PageClean as newer_clean
 use Rattle.recovery.specs.Label as older_label
 use Rattle.recovery.specs.Opened as older
 use Rattle.recovery.specs.Opened.{first_of}
@@ -26,6 +28,12 @@ image_refusal sectors image =
 abbrev pub OpeningLeaves : ℕ → Disk → Image → Type 0
 OpeningLeaves sectors disk image = MatchBool (older_label.is_size sectors)
     (older.RecoveryLeaves (older_label.blocks_in sectors) disk image) (MayLeave disk image)
+
+-- A disk of so many sectors on which a store of n blocks begins: by layout 2 nothing is left to do, and by layout 3 the gate names this
+-- record, and nothing is damaged.
+abbrev pub IsReady : (sectors n : ℕ) (is_open : Bool) (listing : List ℕ) → Disk → Type 0
+IsReady sectors n is_open listing disk = MatchBool (older_label.is_size sectors)
+    (older_clean.IsClean n disk) (newer_clean.IsClean n is_open listing disk)
 
 -- how many writes, syncs and reads an opening of an image with so many sectors begins at most
 abbrev pub writes_for : ℕ → Image → ℕ

@@ -7,6 +7,6 @@ mod resuming;
 mod sizes;
 
 pub use journal::Store;
-pub use opening::open;
+pub use opening::{adopt, open, ready};
 pub use resuming::{named, resume};
 pub use sizes::blocks_of_size;

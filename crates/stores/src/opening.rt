@@ -1,16 +1,17 @@
 // An image of either layout is opened after a stop.
-ghost use Rattle.std.specs.Prelude.{◌≡◌, ◌≢◌, ◌⊎◌, ◌<◌, ◌≤◌, ◌+◌, ◌*◌, ℕ, true, false, Some, None, IsTrue, IfOk, IfErr, MatchBool, MatchResult};
+ghost use Rattle.std.specs.Prelude.{◌≡◌, ◌*◌, ◌+◌, ◌≢◌, ◌⊎◌, ◌<◌, ◌≤◌, ℕ, true, false, Some, None, IsTrue, OnOk, IfOk, IfErr, MatchBool, MatchResult};
 ghost use Rattle.sector_disk.specs.Counting.{count_up};
 ghost use Rattle.sector_disk.specs.Disk.{Image, MayLeave};
 ghost use Rattle.sector_disk.specs.Moments.{Elapses};
-ghost use Rattle.journal.specs.Calls.{StopsLeave, BeginsAtMost, ReadsAtMost};
+ghost use Rattle.journal.specs.Calls.{StopsLeave, BeginsAtMost, ReadsAtMost, Proceeds};
 ghost use Rattle.journal.specs.Maps.{fresh};
+ghost use Rattle.recovery.specs.Label.{is_size};
 ghost use Rattle.recovery.specs.declared.fault.OpenFault.TheVariants.{BadSize, Device};
 ghost use Rattle.shadow.specs.Label.{is_known_size};
 ghost use Rattle.shadow.specs.Upgraded.{known_blocks};
 ghost use Rattle.journal.specs.BySize.{Means};
 ghost use Rattle.stores.specs.Images.{HasMeaning, meaning};
-ghost use Rattle.stores.specs.Opened.{image_refusal, OpeningLeaves, end_of, writes_for, syncs_for, reads_for};
+ghost use Rattle.stores.specs.Opened.{image_refusal, IsReady, OpeningLeaves, end_of, writes_for, syncs_for, reads_for};
 ghost use Rattle.journal.specs.Suits.{suits};
 ghost use Rattle.journal.specs.Store.{device_of, disk_of, blocks_of, sectors_of, closed_of, is_pending, StandsFor};
 
@@ -19,17 +20,103 @@ use journal::Store;
 use recovery::OpenFault;
 use sector_disk::SectorDevice;
 
-/// Opens an image of either layout after a stop, and answers a store of its blocks. How many sectors the device has
-/// tells the layout. Of layout 2 what an open gate asks for is done first; of layout 3 all blocks are looked at, and
-/// nothing is written. A stop within this call, however often, loses nothing. An error hands the device back. Takes no
-/// memory.
+/// Makes an image of either layout ready for a store after a stop, and answers how many blocks it has, and whether its
+/// gate is open. How many sectors the device has tells the layout. Of layout 2 what an open gate asks for is done, so
+/// that it is closed then, and `listing` is left; of layout 3 all blocks are looked at, nothing is written, and the
+/// record that the gate names is put into `listing`. A stop within this call, however often, loses nothing. After an
+/// error `listing` may be anything. Takes no memory.
 ///
 /// It refuses, in this order, a device of a size that no image has (BadSize, with no device call), one without the name
 /// and zeros of a label (NoLabel), a label of another version than that of images of this size (OtherVersion) or of
 /// another number of blocks (WrongCount), and a damaged image (Damaged). Device comes where a call of the device
 /// failed.
 /// Rule: IMAGE, A recovery; IMAGE, Layout 3, An opening; DECISIONS, The device and the image.
-pub fn open<D: SectorDevice>(device: D) -> Result<Store<D>, (OpenFault, D)>
+pub fn ready<D: SectorDevice>(
+    device: &mut D,
+    listing: &mut [u8; 512],
+) -> Result<(u16, bool), OpenFault>
+    // A store may be made over it, of the blocks that the image meant.
+    ensures is_ready { IsTrue (suits D.SectorDevice device.old) → IfOk result (λ found.
+        IsReady (D.sector_count device.old) found.0 found.1 listing.new (D.disk device.new)) }
+    ensures same { IsTrue (suits D.SectorDevice device.old) → OnOk result (meaning (D.sector_count device.old) (D.disk device.new).content
+        ≡ meaning (D.sector_count device.old) (D.disk device.old).content) }
+    ensures blocks { IfOk result (λ found. found.0 ≡ known_blocks (D.sector_count device.old)) }
+    // Of layout 2 no more is told.
+    ensures gate { is_size (D.sector_count device.old) ≡ true → IfOk result (λ found. found.1 ≡ false) }
+    ensures left { is_size (D.sector_count device.old) ≡ true → listing.new ≡ listing.old }
+
+    // BadSize comes exactly where no image has this size, over any device and with no call of it.
+    ensures sized { OnOk result (is_known_size (D.sector_count device.old) ≡ true) }
+    ensures bad_size { IfErr result (λ e. MatchBool (is_known_size (D.sector_count device.old)) (e ≢ BadSize) (e ≡ BadSize)) }
+    ensures unasked { IfErr result (λ e. e ≡ BadSize → device.new ≡ device.old) }
+    // Each refusal tells the first test that the image fails.
+    ensures exact { IsTrue (suits D.SectorDevice device.old) → MatchResult result
+        (λ _. image_refusal (D.sector_count device.old) (D.disk device.old).content ≡ None)
+        (λ e. (e ≡ Device) ⊎ (image_refusal (D.sector_count device.old) (D.disk device.old).content ≡ Some e)) }
+    // What is made ready has a meaning, and what has one is refused only by a fault of the device.
+    ensures meaning { IsTrue (suits D.SectorDevice device.old)
+        → IfOk result (λ _. HasMeaning (D.sector_count device.old) (D.disk device.old).content) }
+    ensures good { IsTrue (suits D.SectorDevice device.old) → is_known_size (D.sector_count device.old) ≡ true
+        → HasMeaning (D.sector_count device.old) (D.disk device.old).content → IfErr result (λ e. e ≡ Device) }
+    ensures device { IfErr result (λ e. e ≡ Device → D.failures device.new ≡ count_up (D.failures device.old)) }
+    ensures refused { IfErr result (λ e. e ≢ Device → D.failures device.new ≡ D.failures device.old) }
+    ensures well { OnOk result (D.failures device.new ≡ D.failures device.old) }
+    // Another refusal wrote nothing.
+    ensures unwritten { IfErr result (λ e. e ≢ Device → BeginsAtMost D.SectorDevice device.old device.new 0 1) }
+    ensures content { IsTrue (suits D.SectorDevice device.old)
+        → IfErr result (λ e. e ≢ Device → (D.disk device.new).content ≡ (D.disk device.old).content) }
+
+    // What a stop at any moment leaves.
+    ensures stops { IsTrue (suits D.SectorDevice device.old) → is_known_size (D.sector_count device.old) ≡ true
+        → StopsLeave D.SectorDevice device.old device.new (OpeningLeaves (D.sector_count device.old) (D.disk device.old)) }
+    ensures passes { Proceeds D.SectorDevice device.old device.new }
+    ensures begins { IsTrue (suits D.SectorDevice device.old) → is_known_size (D.sector_count device.old) ≡ true
+        → BeginsAtMost D.SectorDevice device.old device.new (writes_for (D.sector_count device.old) (D.disk device.old).content)
+        (syncs_for (D.sector_count device.old) (D.disk device.old).content) }
+    ensures reads { IsTrue (suits D.SectorDevice device.old) → is_known_size (D.sector_count device.old) ≡ true
+        → ReadsAtMost D.SectorDevice device.old device.new (reads_for (D.sector_count device.old) (D.disk device.old).content) }
+{
+    if is_older(device) {
+        match recovery::ready(device) {
+            Ok(number) => Ok((number, false)),
+            Err(fault) => Err(fault),
+        }
+    } else {
+        shadow::ready(device, listing)
+    }
+}
+
+/// A store of `blocks` blocks, the number that the device's size tells, over an image that `ready` has made ready and
+/// told of. Makes no device call.
+/// Rule: IMAGE, A recovery; IMAGE, Layout 3, An opening.
+pub fn adopt<D: SectorDevice>(
+    device: D,
+    blocks: u16,
+    is_open: bool,
+    listing: &[u8; 512],
+) -> Store<D>
+    requires known { is_known_size (D.sector_count device) ≡ true }
+    requires count { blocks ≡ known_blocks (D.sector_count device) }
+    requires is_ready { IsTrue (suits D.SectorDevice device)
+        → IsReady (D.sector_count device) blocks is_open listing.now (D.disk device) }
+    ensures device { device_of result ≡ device }
+    ensures blocks { blocks_of result ≡ blocks }
+    ensures closed { closed_of result ≡ false }
+    ensures pending { (b : ℕ) → is_pending result b ≡ false }
+    ensures state { IsTrue (suits D.SectorDevice device)
+        → StandsFor result (fresh (meaning (D.sector_count device) (D.disk device).content)) }
+{
+    if is_older(&device) {
+        Store::adopt(device, blocks)
+    } else {
+        Store::adopt_pages(device, blocks, is_open, listing)
+    }
+}
+
+/// Opens an image of either layout after a stop, and answers a store of its blocks, for which `ready` makes it ready.
+/// It refuses as that does. An error hands the device back. Takes no memory.
+/// Rule: IMAGE, A recovery; IMAGE, Layout 3, An opening; DECISIONS, The device and the image.
+pub fn open<D: SectorDevice>(mut device: D) -> Result<Store<D>, (OpenFault, D)>
     // The store has the blocks that the image meant.
     ensures ok { IsTrue (suits D.SectorDevice device) → IfOk result (λ store.
         StandsFor store (fresh (meaning (D.sector_count device) (D.disk device).content))) }
@@ -74,9 +161,9 @@ pub fn open<D: SectorDevice>(device: D) -> Result<Store<D>, (OpenFault, D)>
     ensures reads { IsTrue (suits D.SectorDevice device) → is_known_size (D.sector_count device) ≡ true
         → ReadsAtMost D.SectorDevice device (end_of result) (reads_for (D.sector_count device) (D.disk device).content) }
 {
-    if is_older(&device) {
-        recovery::open(device)
-    } else {
-        shadow::open(device)
+    let mut listing = [0; 512];
+    match ready(&mut device, &mut listing) {
+        Ok((number, is_open)) => Ok(adopt(device, number, is_open, &listing)),
+        Err(fault) => Err((fault, device)),
     }
 }

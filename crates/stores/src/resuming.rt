@@ -14,6 +14,7 @@ use sector_disk::SectorDevice;
 /// with nothing spilled since its last commit, and of which `named` had told the gate and its record then. It goes on
 /// as that one would have. Makes no device call.
 /// Rule: IMAGE, A save; IMAGE, Layout 3, A save.
+#[inline(never)] // what makes the store isn't to lie on the stack beside it
 pub fn resume<D: SectorDevice>(
     device: D,
     blocks: u16,
@@ -30,14 +31,13 @@ pub fn resume<D: SectorDevice>(
     ensures state { StandsAsRested D.SectorDevice device is_open listing.now result }
 {
     if is_older(&device) {
-        Store::resume(device, blocks, Technique::Journal)
-    } else {
-        let named = NamedRecord {
-            is_open,
-            listing: *listing,
-        };
-        Store::resume(device, blocks, Technique::Pages(named))
+        return Store::resume(device, blocks, Technique::Journal);
     }
+    let named = NamedRecord {
+        is_open,
+        listing: *listing,
+    };
+    Store::resume(device, blocks, Technique::Pages(named))
 }
 
 /// What `resume` has to be told of the image. By layout 3 it is whether the gate is open, and the record that the gate

@@ -13,10 +13,11 @@ ghost use Rattle.journal.specs.PageSteps.{InFree, HasTags, OnlyTags, merged_tag}
 ghost use Rattle.journal.specs.Tags.{tag_of, xor_bytes, sum_below};
 
 use super::layout::{current_sector, free_sector, tag, tag_sector};
-use super::pairs::{read_pair, write_sector};
-use super::tags::{exchange, tag_of};
+use super::pairs::{add_pair, write_sector};
+use super::tags::{begin_tag, exchange};
 use crate::layout::is_listed;
 use sector_disk::{DeviceFault, SectorDevice};
+use sha2::Digest;
 
 /// The tag in sector `k`, a number below that of the device's sectors. `DeviceFault` where the read failed.
 /// Rule: IMAGE, Layout 3.
@@ -51,9 +52,9 @@ pub fn made_tag<D: SectorDevice>(device: &mut D, b: u16, k: u32) -> Result<[u8; 
     ensures begins { BeginsAtMost D.SectorDevice device.old device.new 0 0 }
     ensures reads { ReadsAtMost D.SectorDevice device.old device.new 2 }
 {
-    let mut bytes = [0; 1024];
-    read_pair(device, k, &mut bytes)?;
-    Ok(tag_of(b, &bytes))
+    let mut hasher = begin_tag(b);
+    add_pair(device, k, &mut hasher)?;
+    Ok(hasher.finalize())
 }
 
 // Writes the tag of block `b` beside the bytes in the place that begins with sector `k`, and answers it.

@@ -124,6 +124,7 @@ pub fn tag(sector: &[u8; 512]) -> [u8; 32]
 }
 
 /// The sector of a place's tag: the tag, and zeros behind it.
+#[inline(never)]
 pub fn tag_sector(tag: &[u8; 32]) -> [u8; 512]
     ensures { result ≡ tag.now ++ replicate 480 0 }
 {

@@ -1,6 +1,7 @@
 //! Sectors and pairs of sectors that are written within a page of an image of layout 3.
 //! Rule: IMAGE, Layout 3, A save.
-ghost use Rattle.std.specs.Prelude.{◌≡◌, ◌<◌, ◌≤◌, ◌+◌, ◌^◌, length, take, drop, IsTrue, OnOk, OnErr, IfOk};
+ghost use Rattle.std.specs.Prelude.{◌≡◌, ◌≤◌, ◌<◌, ◌+◌, ◌^◌, ◌++◌, ℕ, List, length, take, drop, IsTrue, OnOk};
+ghost use Rattle.sha2.specs.Hashers.{Holds256};
 ghost use Rattle.sector_disk.specs.Disk.{MayLeave, written, settled};
 ghost use Rattle.journal.specs.Calls.{StopsLeave, BeginsAtMost, ReadsAtMost};
 ghost use Rattle.journal.specs.PageCalls.{Passes};
@@ -8,21 +9,20 @@ ghost use Rattle.journal.specs.Images.{pair_at};
 ghost use Rattle.sector_disk.specs.Pages.{InPage};
 ghost use Rattle.journal.specs.Steps.{WritesOnly, IsAsSynced};
 
-use crate::pairs;
+use crate::hashing;
 use sector_disk::{DeviceFault, SectorDevice};
+use sha2::Sha256;
 
-// Reads two sectors in a row. A fault leaves `out` as it was.
-pub(crate) fn read_pair<D: SectorDevice>(
+// Adds the 1,024 bytes of two sectors in a row to a digest.
+pub(crate) fn add_pair<D: SectorDevice>(
     device: &mut D,
     k: u32,
-    out: &mut [u8],
+    hasher: &mut Sha256,
 ) -> Result<(), DeviceFault>
     requires small { k < 2 ^ 16 }
     requires within { k + 1 < D.sector_count device.old }
-    requires room { length out.old ≡ 1024 }
-    ensures bytes { IsTrue (D.keeps_model device.old)
-        → OnOk result (out.new ≡ pair_at (D.disk device.old).content k) }
-    ensures err { OnErr result (out.new ≡ out.old) }
+    ensures ok { IsTrue (D.keeps_model device.old)
+        → OnOk result ((m : List ℕ) → Holds256 hasher.old m → Holds256 hasher.new (m ++ pair_at (D.disk device.old).content k)) }
     ensures disk { IsTrue (D.keeps_model device.old) → D.disk device.new ≡ D.disk device.old }
     ensures stops { IsTrue (D.keeps_model device.old)
         → StopsLeave D.SectorDevice device.old device.new (MayLeave (D.disk device.old)) }
@@ -30,7 +30,7 @@ pub(crate) fn read_pair<D: SectorDevice>(
     ensures begins { BeginsAtMost D.SectorDevice device.old device.new 0 0 }
     ensures reads { ReadsAtMost D.SectorDevice device.old device.new 2 }
 {
-    pairs::read_pair(device, k, out)
+    hashing::add_pair(device, k, hasher)
 }
 
 /// Writes the 512 bytes of sector `k`, which the device has. Nothing is synced. `DeviceFault` where the write failed.
@@ -92,15 +92,9 @@ pub fn write_pair<D: SectorDevice>(device: &mut D, k: u32, bytes: &[u8]) -> Resu
     ensures reads { ReadsAtMost D.SectorDevice device.old device.new 0 }
 {
     let (first, second) = bytes.split_at(512);
-    write_sector(device, k, &sector_of(first))?;
-    write_sector(device, k + 1, &sector_of(second))
-}
-
-fn sector_of(bytes: &[u8]) -> [u8; 512]
-    requires { length bytes.now ≡ 512 }
-    ensures { result ≡ bytes.now }
-{
-    let mut sector = [0; 512];
-    sector.copy_from_slice(bytes);
-    sector
+    let mut half = [0; 512];
+    half.copy_from_slice(first);
+    write_sector(device, k, &half)?;
+    half.copy_from_slice(second);
+    write_sector(device, k + 1, &half)
 }

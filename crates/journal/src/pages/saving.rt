@@ -1,9 +1,9 @@
 // The steps of a save.
-ghost use Rattle.std.specs.Prelude.{◌≡◌, ◌⊎◌, ◌<◌, ◌≤◌, ◌+◌, ◌*◌, ◌^◌, ℕ, not, true, false, if◌then◌else◌, IsTrue, OnOk, IfOk};
+ghost use Rattle.std.specs.Prelude.{◌≡◌, false, true, ℕ, ◌^◌, ◌⊎◌, ◌<◌, ◌≤◌, ◌+◌, ◌*◌, not, if◌then◌else◌, IsTrue, OnOk};
 ghost use Rattle.sector_disk.specs.Disk.{written, settled};
 ghost use Rattle.journal.specs.Calls.{StopsLeave, BeginsAtMost, ReadsAtMost};
 ghost use Rattle.journal.specs.PageCalls.{Passes};
-ghost use Rattle.journal.specs.Layout.{fewest_blocks, most_blocks, listed, count_listed};
+ghost use Rattle.journal.specs.Layout.{most_blocks, listed, count_listed};
 ghost use Rattle.journal.specs.PageImages.{current_of, current_tag};
 ghost use Rattle.journal.specs.PageLayout.{HasFlipped, sectors_for, gate_at, gate_bytes, record_at, sum_in};
 ghost use Rattle.sector_disk.specs.Pages.{InPage};
@@ -44,6 +44,7 @@ fn flipped(blocks: u16, listing: &[u8; 512], pending: &[u8; 512]) -> [u8; 512]
 }
 
 // The record that is to count.
+#[inline(never)] // its bits aren't to lie on the stack while the device is called
 fn next_record(blocks: u16, listing: &[u8; 512], pending: &[u8; 512], sum: &[u8; 32]) -> [u8; 512]
     requires { blocks ≤ most_blocks }
     ensures bits { HasFlipped blocks listing.now pending.now result }
@@ -52,34 +53,35 @@ fn next_record(blocks: u16, listing: &[u8; 512], pending: &[u8; 512], sum: &[u8;
     with_sum(&flipped(blocks, listing, pending), sum)
 }
 
-// Writes the tags of the pending blocks, and answers the record that is to count.
+// Writes the tags of the pending blocks, and makes of the record the one that is to count.
 fn prepare<D: SectorDevice>(
     device: &mut D,
     blocks: u16,
-    listing: &[u8; 512],
+    listing: &mut [u8; 512],
     pending: &[u8; 512],
-) -> Result<[u8; 512], DeviceFault>
+) -> Result<(), DeviceFault>
     requires few { blocks ≤ most_blocks }
     requires size { D.sector_count device.old ≡ sectors_for blocks }
-    ensures bits { IfOk result (λ next. HasFlipped blocks listing.now pending.now next) }
+    ensures bits { OnOk result (HasFlipped blocks listing.old pending.now listing.new) }
     ensures tags { IsTrue (D.keeps_model device.old) → OnOk result
-        (HasTags blocks listing.now pending.now (D.disk device.old).content (D.disk device.new).content) }
+        (HasTags blocks listing.old pending.now (D.disk device.old).content (D.disk device.new).content) }
     ensures others { IsTrue (D.keeps_model device.old)
-        → OnOk result (OnlyTags listing.now (D.disk device.old).content (D.disk device.new).content) }
-    ensures sum { IsTrue (D.keeps_model device.old) → IfOk result (λ next.
-        sum_in listing.now ≡ sum_below (current_tag listing.now (D.disk device.old).content) blocks
-        → sum_in next ≡ sum_below (merged_tag listing.now pending.now (D.disk device.old).content) blocks) }
+        → OnOk result (OnlyTags listing.old (D.disk device.old).content (D.disk device.new).content) }
+    ensures sum { IsTrue (D.keeps_model device.old) → OnOk result
+        (sum_in listing.old ≡ sum_below (current_tag listing.old (D.disk device.old).content) blocks
+        → sum_in listing.new ≡ sum_below (merged_tag listing.old pending.now (D.disk device.old).content) blocks) }
     ensures only { IsTrue (D.keeps_model device.old)
-        → WritesOnly (InFree blocks listing.now) (D.disk device.old) (D.disk device.new) }
+        → WritesOnly (InFree blocks listing.old) (D.disk device.old) (D.disk device.new) }
     ensures stops { IsTrue (D.keeps_model device.old) → StopsLeave D.SectorDevice device.old device.new
-        (IsAsSynced (InFree blocks listing.now) (D.disk device.old)) }
+        (IsAsSynced (InFree blocks listing.old) (D.disk device.old)) }
     ensures passes { Passes D.SectorDevice device.old device.new result }
     ensures begins { BeginsAtMost D.SectorDevice device.old device.new (count_listed pending.now blocks) 0 }
     ensures reads { ReadsAtMost D.SectorDevice device.old device.new (3 * count_listed pending.now blocks) }
 {
     let mut total = sum(listing);
     exchange_tags(device, blocks, listing, pending, &mut total)?;
-    Ok(next_record(blocks, listing, pending, &total))
+    *listing = next_record(blocks, listing, pending, &total);
+    Ok(())
 }
 
 // Writes the record that doesn't count, and then the gate, which names it.
@@ -94,12 +96,15 @@ fn turn<D: SectorDevice>(device: &mut D, is_open: bool, next: &[u8; 512]) -> Res
     ensures begins { BeginsAtMost D.SectorDevice device.old device.new 2 2 }
     ensures reads { ReadsAtMost D.SectorDevice device.old device.new 0 }
 {
-    write_through(device, record_sector(!is_open), next)?;
+    let record = *next;
+    write_through(device, record_sector(!is_open), &record)?;
     write_through(device, GATE, &gate(!is_open))
 }
 
 /// Makes the free places of the pending blocks their current ones, all at once, and `listing` the record that counts
 /// then.
+// A call of its own, as that of layout 2 is, so that no more than one record lies on the stack.
+#[inline(never)]
 pub(crate) fn save<D: SectorDevice>(
     device: &mut D,
     blocks: u16,
@@ -119,7 +124,6 @@ pub(crate) fn save<D: SectorDevice>(
     ensures begins { BeginsAtMost D.SectorDevice device.old device.new (count_listed pending.now blocks + 2) 2 }
     ensures reads { ReadsAtMost D.SectorDevice device.old device.new (3 * count_listed pending.now blocks) }
 {
-    let next = prepare(device, blocks, listing, pending)?;
-    *listing = next;
+    prepare(device, blocks, listing, pending)?;
     turn(device, is_open, listing)
 }

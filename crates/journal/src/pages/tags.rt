@@ -1,19 +1,29 @@
 //! Tags, by which a block whose bytes changed is told, and sums of tags. Each has 32 bytes.
 //! Rule: IMAGE, Layout 3.
 ghost use Rattle.std.specs.Prelude.{◌≡◌, length};
+ghost use Rattle.byteorder.specs.Endian.{little_bytes};
+ghost use Rattle.sha2.specs.Hashers.{Holds256};
 ghost use Rattle.journal.specs.Tags.{tag_of, xor_bytes};
 
 use byteorder::{ByteOrder, LittleEndian};
 use sha2::{Digest, Sha256};
 
-/// The tag of block `b` with these 1,024 bytes.
-pub fn tag_of(b: u16, bytes: &[u8; 1024]) -> [u8; 32]
-    ensures { result ≡ tag_of b bytes.now }
+/// What becomes the tag of block `b` once its 1,024 bytes are added.
+pub(crate) fn begin_tag(b: u16) -> Sha256
+    ensures { Holds256 result (little_bytes 2 b) }
 {
     let mut number = [0; 2];
     LittleEndian::write_u16(&mut number, b);
     let mut hasher = Sha256::new();
     hasher.update(number.as_slice());
+    hasher
+}
+
+/// The tag of block `b` with these 1,024 bytes.
+pub fn tag_of(b: u16, bytes: &[u8; 1024]) -> [u8; 32]
+    ensures { result ≡ tag_of b bytes.now }
+{
+    let mut hasher = begin_tag(b);
     hasher.update(bytes.as_slice());
     hasher.finalize()
 }

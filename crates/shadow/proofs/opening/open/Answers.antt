@@ -1,4 +1,4 @@
-use Rattle.std.proofs.Common.{⊎_elim, refl, sym, ◌∙◌, ap, subst, IsTrue}
+use Rattle.std.proofs.Common.{refl, sym, ◌∙◌, ap, subst, IsTrue}
 use Rattle.sector_disk.specs.Disk.{Disk}
 use Rattle.journal.specs.Layout.{gate_open}
 use Rattle.journal.specs.Maps.{fresh}
@@ -9,32 +9,17 @@ use Rattle.shadow.specs.Opened.{HasMeaning}
 use Rattle.journal.specs.Store.{StandsFor, blocks_of}
 use Rattle.journal.specs.Technique.{is_journal}
 use Rattle.journal.proofs.Stores.{left_pages}
-use Rattle.shadow.proofs.Openings.{never_refused}
 use Rattle.shadow.proofs.opening.open.Goals as goal
 
-pub returns-then-not-is_known_size-clause-stops : goal.returns-then-not-is_known_size-clause-stops
-returns-then-not-is_known_size-clause-stops g c = λ keeps x since. g.met.D.SectorDevice.only_now c.args.device x since
-
 pub adopt_pages-requires-clause-clean : goal.adopt_pages-requires-clause-clean
-adopt_pages-requires-clause-clean g c = λ keeps.
-    let found = c.in-Ok.ensures in
-    let model : IsTrue (g.D.SectorDevice.keeps_model c.args.device) = subst IsTrue c.survey.ensures.passes.model keeps in
-    subst (λ (d : Disk). IsClean c.in-Ok.found.number c.in-Ok.found.is_open c.in-Ok.found.listing d) (sym (found.ok model)) (record {
-      label = (found.meaning model).label;
-      gate = found.gate model;
-      named = found.named model;
-      whole = (found.meaning model).whole;
-      synced = λ k. refl;
-    })
+adopt_pages-requires-clause-clean g c = λ keeps. c.in-Ok.ensures.clean (subst IsTrue c.ready.ensures.passes.model keeps)
 
 pub returns-in-Ok-clause-ok : goal.returns-in-Ok-clause-ok
 returns-in-Ok-clause-ok g c = λ keeps.
     let D = g.D.SectorDevice in
-    let new = c.survey.new.device in
-    let same = c.in-Ok.ensures.ok keeps in
-    let after : IsTrue (D.keeps_model new) = subst IsTrue (sym c.survey.ensures.passes.model) keeps in
+    let after : IsTrue (D.keeps_model c.ready.new.device) = subst IsTrue (sym c.ready.ensures.passes.model) keeps in
     subst (λ m. StandsFor c.adopt_pages.result (fresh (meaning m (D.disk c.args.device).content))) (sym c.adopt_pages.ensures.blocks)
-    (subst (λ (d : Disk). StandsFor c.adopt_pages.result (fresh (meaning c.in-Ok.found.number d.content))) same (c.adopt_pages.ensures.state after))
+    (subst (λ (d : Disk). StandsFor c.adopt_pages.result (fresh (meaning c.in-Ok.number d.content))) (c.in-Ok.ensures.disk keeps) (c.adopt_pages.ensures.state after))
 
 pub returns-in-Ok-clause-after : goal.returns-in-Ok-clause-after
 returns-in-Ok-clause-after g c = λ keeps x may. left_pages c.adopt_pages.result _ (returns-in-Ok-clause-ok g c keeps) c.adopt_pages.ensures.closed x may (ap is_journal c.adopt_pages.ensures.technique)
@@ -49,14 +34,10 @@ returns-in-Ok-clause-clean g c = λ keeps.
     let means = returns-in-Ok-clause-meaning g c keeps in
     let n = blocks_of c.adopt_pages.result in
     subst (λ (d : Disk). IsClean n (gate_open (d.content gate_at)) (record_of d.content) d)
-    (sym (ap D.disk c.adopt_pages.ensures.device ∙ c.in-Ok.ensures.ok keeps)) (record {
+    (sym (ap D.disk c.adopt_pages.ensures.device ∙ c.in-Ok.ensures.disk keeps)) (record {
       label = means.label;
       gate = refl;
       named = refl;
       whole = means.whole;
       synced = λ k. refl;
     })
-
-pub returns-in-Err-clause-good : goal.returns-in-Err-clause-good
-returns-in-Err-clause-good g c = λ keeps n size means.
-    ⊎_elim (λ device. device) (λ refused. absurd (never_refused n _ _ _ size means refused)) (c.in-Err.ensures.exact keeps)
