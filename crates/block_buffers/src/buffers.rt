@@ -1,5 +1,5 @@
 //! The buffers that are assigned, in the order of their last use.
-ghost use Rattle.std.specs.Prelude.{◌≡◌, ◌<◌, None, All, IfOk, IfSome, OnOk, OnErr, is_some};
+ghost use Rattle.std.specs.Prelude.{◌≡◌, ◌<◌, None, All, IfOk, IfSome, OnOk, OnErr, is_some, nat_lt, length};
 ghost use Rattle.block_buffers.specs.Buffers.{none_assigned, assigned, slot_of, after_touch, oldest, slot_for, placed, after_mark, updated_ones, unmarked, IsValid};
 
 use arrayvec::ArrayVec;
@@ -165,6 +165,13 @@ impl Buffers {
             }
         }
         updated
+    }
+
+    /// Whether a buffer is updated.
+    pub fn has_updated(&self) -> bool
+        ensures { result ≡ nat_lt 0 (length (updated_ones self.now)) }
+    {
+        0 < self.updated().len()
     }
 
     /// No buffer is updated any more. List and order stay.

@@ -1,6 +1,6 @@
 -- The five block words, and the text of a block. Each call that reaches the device takes one answer from a list of
 -- what the device answers; where the list is at its end, all goes well.
-use Rattle.std.specs.Prelude.{ℕ, ◌+◌, ◌*◌, ◌++◌, Bool, true, false, nat_lt, List, [], ◌∷◌, length, Option, Some, None, replicate}
+use Rattle.std.specs.Prelude.{ℕ, ◌+◌, ◌*◌, ◌++◌, ◌||◌, Bool, true, false, nat_lt, List, [], ◌∷◌, length, Option, Some, None, replicate}
 use Rattle.data_space.specs.Space.{buffer_at, buffer_bytes, with_bytes}
 use Rattle.journal.specs.Maps.{Maps, contents, spilled, committed, latest, shut, any_pending}
 use Rattle.block_buffers.specs.declared.buffers.Assigned.{Assigned}
@@ -176,6 +176,10 @@ abbrev pub pending_number : List (Option (List ℕ)) → ℕ
 pending_number [] = 0
 pending_number (Some bytes ∷ pending) = pending_number pending + 1
 pending_number (None ∷ pending) = pending_number pending
+
+-- a block was changed and not saved: it was spilled, or is updated in its buffer
+abbrev pub has_unsaved : Buffers → Maps → Bool
+has_unsaved buffers m = nat_lt 0 (pending_number m.pending) || nat_lt 0 (length (updated_ones buffers))
 
 -- so many blocks are committed
 abbrev pub commit_wear : ℕ → Wear

@@ -1,11 +1,11 @@
 //! Blocks in four buffers over a store, and the words on them.
-ghost use Rattle.std.specs.Prelude.{◌≡◌, ◌↔◌, List, [], ℕ, true, Some, None, Ok, length, is_ok, IfOk, IfErr, OnOk, OnErr, IsErrOf, IsSome, IfSome, MatchResult};
+ghost use Rattle.std.specs.Prelude.{◌≡◌, ◌↔◌, List, [], ℕ, true, false, Some, None, Ok, length, is_ok, IfOk, IfErr, OnOk, OnErr, IsErrOf, IsSome, IfSome, MatchResult};
 ghost use Rattle.std.proofs.Props.{props};
 ghost use Rattle.journal.specs.Maps.{Maps};
 ghost use Rattle.journal.specs.Store.{blocks_of, closed_of, kept_of, is_text_of, StandsFor, DeviceBegins, DeviceReads, KeepsSaved, SamePending};
 ghost use Rattle.data_space.specs.Space.{buffer_at, buffer_bytes};
 ghost use Rattle.block_buffers.specs.Buffers.{slot_of, none_assigned, unmarked, after_mark, IsValid};
-ghost use Rattle.block_words.specs.Words.{block, buffer, update, save_buffers, flush, source, next_map};
+ghost use Rattle.block_words.specs.Words.{block, buffer, update, save_buffers, flush, has_unsaved, source, next_map};
 ghost use Rattle.block_words.specs.Uses.{used, slot_used, replaced, blanked, with_bytes_left, IsPlace, text_at, text_found, at_hand, in_store, PendingOnceReplaced};
 ghost use Rattle.block_words.specs.Rooms.{within};
 ghost use Rattle.block_words.specs.Validity.{AreApart-prop, SlotsBelow-prop};
@@ -290,6 +290,18 @@ impl<D: SectorDevice> Blocks<D> {
         } else {
             None
         }
+    }
+
+    /// Whether a block was changed and not saved: it was spilled, or is updated in its buffer. Makes no device call. Of
+    /// the blocks of a closed store nothing is said.
+    /// Rule: LANGUAGE, Blocks.
+    pub fn has_unsaved(&self) -> bool
+        ensures { (m : Maps) → StandsFor (store_of self.now) m → m.closed ≡ false → result ≡ has_unsaved (buffers_of self.now) m }
+    {
+        if self.store.has_pending() {
+            return true;
+        }
+        self.buffers.has_updated()
     }
 
     /// `SAVE-BUFFERS`: saves all that was updated or spilled since the last save, or nothing of it, and then no buffer
