@@ -1,11 +1,11 @@
 -- What a run that broke off left of its input, told of the reader.
-use Rattle.std.proofs.Common.{◌≡◌, ℕ, ◌≤◌, ◌-◌, ◌^◌, inr, Bool, true, false, List, [], ◌∷◌, Option, Some, None, subst, arith}
+use Rattle.std.proofs.Common.{◌≡◌, ℕ, ◌≤◌, ◌-◌, ◌^◌, inr, Bool, true, false, List, [], ◌∷◌, ◌++◌, Option, Some, None, subst, arith}
 use Rattle.sector_disk.specs.declared.device.SectorDevice.{Ghosts}
 use Rattle.block_words.specs.Words.{Save}
 use Rattle.interpreter.specs.State.{Forth}
 use Rattle.interpreter.specs.Lines.{Turn}
 use Rattle.sessions.specs.declared.run_fault.RunFault.{RunFault}
-use Rattle.sessions.specs.Sessions.{BreaksOff, Completes, CutShort, InReading, InLine, InFlushing}
+use Rattle.sessions.specs.Sessions.{BreaksOff, Completes, CutShort, InReading, InLine, InFlushing, StopsAtFault}
 use Rattle.sessions.specs.Streams.{left_of, bound}
 
 -- where the reader's bytes are not known, nothing is said of what it left
@@ -100,3 +100,44 @@ module _ {D : Type 0} (G : Ghosts D) (opening closing : Forth) (written written'
       let new_bound : between ≤ bound false start (2 ^ 64 - 1) =
       subst (λ e. between ≤ bound e start (2 ^ 64 - 1)) new (subst (λ m. between ≤ bound begun start m) all h) in
       whole_from_start start ended remaining (omega (arith, new_bound, k)) (subst (λ e. Whole (left_of e start) (left_of ended remaining)) new w)
+
+-- ---- the same of a run that ended with the first fault
+
+module _ {D : Type 0} (G : Ghosts D) (opening closing : Forth) (written written' : Option (List ℕ)) (before after : D) (give : ℕ) (made : List Save) (P : List Turn → Type 0) where
+  abbrev Stopped : (left left' : Option (List ℕ)) → Type 0
+  Stopped left left' = (stop : StopsAtFault G opening closing left left' written written' before after made) × P (stop.turns ++ stop.last ∷ [])
+
+  stopped_unknown : Stopped None (Some []) → Stopped None None
+  stopped_unknown s = (
+    record {
+      input = s.0.input;
+      turns = s.0.turns;
+      last = s.0.last;
+      faultless = s.0.faultless;
+      fails = s.0.fails;
+      session = s.0.session;
+      goes_on = λ rest more end left_is session. absurd (cc);
+      read = tt;
+      output = s.0.output;
+      saves = s.0.saves;
+      told = s.0.told;
+    },
+    s.1,
+  )
+
+  stopped_from_start : (start : Option (List ℕ)) (ended : Bool) (remaining : Option (List ℕ))
+      → bound ended remaining give ≤ bound false start (2 ^ 64 - 1) → Stopped start (left_of ended remaining) → Stopped start remaining
+  stopped_from_start start false remaining h s = s
+  stopped_from_start start true (Some []) h s = s
+  stopped_from_start None true (Some (x ∷ xs)) h s = absurd (omega (arith, h))
+  stopped_from_start (Some bytes) true (Some (x ∷ xs)) h s = absurd (omega (arith, h))
+  stopped_from_start (Some bytes) true None h s = absurd (omega (arith, h))
+  stopped_from_start None true None h s = stopped_unknown s
+
+  pub stopped_left : (begun : Bool) (most between : ℕ) (start : Option (List ℕ)) (ended : Bool) (remaining : Option (List ℕ))
+      → begun ≡ false → most ≡ 2 ^ 64 - 1 → between ≤ bound begun start most → bound ended remaining give ≤ between
+      → Stopped (left_of begun start) (left_of ended remaining) → Stopped start remaining
+  stopped_left begun most between start ended remaining new all h k s =
+      let new_bound : between ≤ bound false start (2 ^ 64 - 1) =
+      subst (λ e. between ≤ bound e start (2 ^ 64 - 1)) new (subst (λ m. between ≤ bound begun start m) all h) in
+      stopped_from_start start ended remaining (omega (arith, new_bound, k)) (subst (λ e. Stopped (left_of e start) (left_of ended remaining)) new s)

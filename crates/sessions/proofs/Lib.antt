@@ -13,3 +13,5 @@ pub mod Ended
 pub mod Held
 pub mod TraceLemmas
 pub mod Hearing
+pub mod Strict
+pub mod Freely

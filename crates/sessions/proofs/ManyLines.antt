@@ -1,5 +1,5 @@
 -- Lines one after another make a session.
-use Rattle.std.proofs.Common.{◌≡◌, ℕ, List, [], ◌∷◌, ◌++◌, Option, Some, refl, ap, sym, ◌∙◌, subst, append_assoc, append-nil}
+use Rattle.std.proofs.Common.{◌≡◌, ℕ, true, List, [], ◌∷◌, ◌++◌, Option, Some, refl, ap, sym, ◌∙◌, subst, append_assoc, append-nil}
 use Rattle.std.specs.Io.KnownBytes.{Appends, Consumes, IsAtEnd}
 use Rattle.std.proofs.KnownBytes.{Appends-nil, Appends-trans, Consumes-nil, Consumes-trans}
 use Rattle.std.proofs.lemmas.Grind.{flat_map-append}
@@ -8,9 +8,9 @@ use Rattle.block_words.specs.Words.{Save}
 use Rattle.interpreter.specs.State.{Forth}
 use Rattle.interpreter.specs.Lines.{Turn}
 use Rattle.sessions.specs.declared.run_fault.RunFault.{RunFault}
-use Rattle.sessions.specs.Sessions.{Session, Completes, BreaksOff, Told, output_of, saves_of}
+use Rattle.sessions.specs.Sessions.{AreFaultless, Session, Completes, BreaksOff, StopsAtFault, Told, has_fault, output_of, saves_of}
 use Rattle.sessions.specs.Calls.{TurnDone}
-use Rattle.sessions.proofs.Known.{Consumes-none, empty-parts}
+use Rattle.sessions.proofs.Known.{Consumes-none, empty-parts, none-left}
 use Rattle.sessions.proofs.Rising.{told_then, told_once}
 
 output_of-append : (ts us : List Turn) → output_of (ts ++ us) ≡ output_of ts ++ output_of us
@@ -127,4 +127,30 @@ so_far_end G opening now start left left' output written written' before after m
     told = so_far.told;
   },
   refl,
+)
+
+pub so_far_stop : {D : Type 0} (G : Ghosts D) (opening now : Forth) (start left output written : Option (List ℕ)) (before after : D) (made : List Save)
+    → (so_far : SoFar G opening now start left output written before after made) (turns : List Turn) (last : Turn)
+    → so_far.turns ≡ turns ++ last ∷ [] → AreFaultless turns → has_fault last.ending ≡ true
+    → (stop : StopsAtFault G opening now start left output written before after made) × (stop.turns ++ stop.last ∷ [] ≡ so_far.turns)
+so_far_stop G opening now start left output written before after made so_far turns last is faultless fails = (
+  record {
+    input = so_far.taken;
+    turns = turns;
+    last = last;
+    faultless = faultless;
+    fails = fails;
+    session =
+        let whole : Session opening (so_far.taken ++ []) (so_far.turns ++ []) now = so_far.goes_on [] [] now (λ _. refl) (refl, refl) in
+        subst (λ ts. Session opening so_far.taken ts now) is
+        (subst (λ l. Session opening l so_far.turns now) (append-nil so_far.taken)
+        (subst (λ ts. Session opening (so_far.taken ++ []) ts now) (append-nil so_far.turns) whole));
+    goes_on = λ rest more end left_is session.
+        subst (λ ts. Session opening (so_far.taken ++ rest) (ts ++ more) end) is (so_far.goes_on rest more end (none-left left rest left_is) session);
+    read = so_far.read;
+    output = subst (λ ts. Appends output written (output_of ts)) is so_far.replies;
+    saves = so_far.saves ∙ ap saves_of is;
+    told = subst (λ ts. Told G before ts after) is so_far.told;
+  },
+  sym is,
 )

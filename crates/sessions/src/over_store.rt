@@ -1,6 +1,6 @@
 //! A session over a store, between two streams.
 //! Rule: SEMANTICS, Sessions; LANGUAGE, Lines and replies.
-ghost use Rattle.std.specs.Prelude.{◌<◌, List, IfErr, OnOk};
+ghost use Rattle.std.specs.Prelude.{◌≡◌, ◌<◌, true, List, IfErr, IfOk, OnOk};
 ghost use Rattle.journal.specs.Maps.{Maps};
 ghost use Rattle.journal.specs.Store.{StandsFor, device_of};
 ghost use Rattle.block_words.specs.Words.{Save};
@@ -9,10 +9,11 @@ ghost use Rattle.interpreter.specs.Memory.{IsBlank};
 ghost use Rattle.interpreter.specs.State.{Forth as Abstract};
 ghost use Rattle.sessions.specs.Devices.{Becomes};
 ghost use Rattle.sessions.specs.Heard.{BreaksOffHeard, CompletesHeard};
-ghost use Rattle.sessions.specs.OverStore.{RunsOver};
+ghost use Rattle.sessions.specs.OverStore.{RunsOver, RunsOverBy};
 
+use super::run_end::RunEnd;
 use super::run_fault::RunFault;
-use super::session::run_traced;
+use super::session::{run_traced, run_until};
 use super::tracing::{Tracer, Untraced};
 use interpreter::Memory;
 use interpreter::promise::Lines;
@@ -71,4 +72,32 @@ pub fn run_over_traced<D: SectorDevice + Drop, F: Lines<D>, R: Read, W: Write, T
     let mut forth = F::new(memory, store, steps);
     let end = run_traced(&mut forth, reader, writer, tracer);
     (forth.into_store(), end)
+}
+
+/// Runs the lines of an input over a store, as `run_over_traced`; with `is_strict` only up to the first one that a
+/// fault ended, as `run_until`. It ends in `Read` where the input can't be read, in `Write` where the output can't be
+/// written. It also tells whether blocks were changed and not saved: they are given up.
+/// Rule: SEMANTICS, Sessions.
+pub fn run_over_until<D: SectorDevice + Drop, F: Lines<D>, R: Read, W: Write, T: Tracer>(
+    memory: Memory,
+    store: Store<D>,
+    steps: u32,
+    reader: &mut R,
+    writer: &mut W,
+    is_strict: bool,
+    tracer: &mut T,
+) -> (Store<D>, Result<RunEnd, RunFault>, bool)
+    requires blank { IsBlank memory }
+    requires steps { 0 < steps }
+    // From store to store: the session of a new system, and how it ended.
+    ensures session { (m : Maps) → StandsFor store m → RunsOverBy T.hears D.SectorDevice is_strict (new_forth steps m) store result.0 result.1 result.2
+        (R.remaining reader.old) (R.remaining reader.new) (W.contents writer.old) (W.contents writer.new) tracer.old tracer.new }
+    // Over any device: a fault ends it only where it is strict, and it is the same device, later.
+    ensures strict { IfOk result.1 (λ end. end ≡ RunEnd.Fault → is_strict ≡ true) }
+    ensures goes { Becomes D.SectorDevice (device_of store) (device_of result.0) }
+{
+    let mut system = F::new(memory, store, steps);
+    let end = run_until(&mut system, reader, writer, is_strict, tracer);
+    let is_unsaved = system.has_unsaved();
+    (system.into_store(), end, is_unsaved)
 }

@@ -42,22 +42,22 @@ impl Tracer for Untraced {
 #[derive(Drop)]
 pub struct Traces<'a, W> {
     writer: &'a mut W,
-    // how many lines have ended: the largest number stays
-    lines: u32,
+    // the number of the next line: the largest one stays
+    next: u32,
     failed: bool,
 }
 
 impl<W: Write> Tracer for Traces<'_, W> {
-    ghost hears = { λ old new ending place word loads. (new.lines ≡ next_number old.lines) × (new.failed ≡ false
-        → (old.failed ≡ false) × Writes new.lines ending place word loads (W.contents old.writer.now) (W.contents new.writer.now)) };
+    ghost hears = { λ old new ending place word loads. (new.next ≡ next_number old.next) × (new.failed ≡ false
+        → (old.failed ≡ false) × Writes old.next ending place word loads (W.contents old.writer.now) (W.contents new.writer.now)) };
 
     fn line_ended<D: SectorDevice + Drop, F: Lines<D>>(&mut self, forth: &F, end: &F::End) {
-        self.count();
+        let number = self.count();
         match F::fault(end) {
             Some(fault) => {
                 let word = forth.last_word();
                 let loads = forth.loads();
-                let trace = trace_text(self.lines, fault, forth.start_of_word(), word, loads);
+                let trace = trace_text(number, fault, forth.start_of_word(), word, loads);
                 self.write(trace.as_slice())
             }
             None => {}
@@ -66,33 +66,45 @@ impl<W: Write> Tracer for Traces<'_, W> {
 }
 
 impl<'a, W: Write> Traces<'a, W> {
-    /// Traces of a session of which no line has ended yet.
+    /// Traces of a session of which no line has ended yet. Its lines count from 1.
     pub fn new(writer: &'a mut W) -> Self
         ensures writer { result.writer ≡ writer.entry }
-        ensures lines { result.lines ≡ 0 }
+        ensures next { result.next ≡ 1 }
+        ensures failed { result.failed ≡ false }
+    {
+        Traces::from_line(writer, 1)
+    }
+
+    /// Traces of a session of which no line has ended yet. Its first line has this number.
+    pub fn from_line(writer: &'a mut W, first: u32) -> Self
+        ensures writer { result.writer ≡ writer.entry }
+        ensures next { result.next ≡ first }
         ensures failed { result.failed ≡ false }
     {
         Traces {
             writer,
-            lines: 0,
+            next: first,
             failed: false,
         }
     }
 
-    /// Counts a line.
-    fn count(&mut self)
-        ensures next { self.new.lines ≡ next_number self.old.lines }
-        ensures rest { self.new ≡ record self.old { lines = self.new.lines } }
+    /// Counts a line, and answers its number.
+    fn count(&mut self) -> u32
+        ensures number { result ≡ self.old.next }
+        ensures next { self.new.next ≡ next_number self.old.next }
+        ensures rest { self.new ≡ record self.old { next = self.new.next } }
     {
-        if self.lines == u32::MAX {
-            return;
+        let number = self.next;
+        if number == u32::MAX {
+            return number;
         }
-        self.lines += 1;
+        self.next = number + 1;
+        number
     }
 
     /// Writes a trace, unless the writer has failed.
     fn write(&mut self, bytes: &[u8])
-        ensures lines { self.new.lines ≡ self.old.lines }
+        ensures next { self.new.next ≡ self.old.next }
         ensures well { self.new.failed ≡ false → self.old.failed ≡ false }
         ensures told { self.new.failed ≡ false
             → Appends (W.contents self.old.writer.now) (W.contents self.new.writer.now) bytes.now }

@@ -48,11 +48,12 @@ returns-in-Ok-clause-done g c = λ opening is.
           heard = subst (λ ending. g.T.Tracer.hears c.args.tracer.now c.line_ended.new.self ending (g.F.Lines.told_start c.line-end.new.self) (g.F.Lines.told_word c.line-end.new.self) (g.F.Lines.told_loads c.line-end.new.self))
               (sym (ap (λ t. t.ending) done.1 ∙ replied.ends)) c.line_ended.ensures;
         },
+        ap (λ t. t.ending) done.1 ∙ replied.ends,
       ),
     )
 
-pub returns-clause-err : goal.returns-clause-err
-returns-clause-err g c = λ opening is.
+pub returns-in-Err-flush-clause-err : goal.returns-in-Err-flush-clause-err
+returns-in-Err-flush-clause-err g c = λ opening is.
     let kept = rw c.in-Ok-true.field-0-test at c.in-Ok-true.ensures.line in
     let ran = c.line-end.ensures.runs opening is in
     let none = c.in-Ok-true.ensures.none_failed ∙ c.requires.none_failed in
