@@ -1,6 +1,6 @@
 -- Worked command lines, computed from the definition of the command.
 use Rattle.std.specs.Prelude.{◌≡◌, List, [], ◌∷◌, Option, Some, None, codes, option_map}
-use Rattle.clap.specs.Words.{Text, first_of, one_of, subcommand_of, Kinds, fault_of}
+use Rattle.clap.specs.Words.{Text, all_of, first_of, one_of, subcommand_of, Kinds, fault_of}
 use Rattle.clap.specs.declared.error.kind.ErrorKind.TheVariants as kind
 use Rattle.command_line.specs.Commands.{forth83}
 
@@ -47,9 +47,18 @@ read_many words = option_map (λ given. (
 abbrev pub read_layout : List Text → Option (Option Text)
 read_layout words = option_map (λ given. one_of (codes "layout") given.1) (subcommand_of forth83 (codes "forth83" ∷ words))
 
+-- all files
+abbrev pub all_files : List Text → Option (Option (List Text))
+all_files words = option_map (λ given. all_of (codes "FILE") given.1) (subcommand_of forth83 (codes "forth83" ∷ words))
+
 -- whether a check is asked for
 abbrev pub read_check : List Text → Option (Option Text)
 read_check words = option_map (λ given. one_of (codes "check") given.1) (subcommand_of forth83 (codes "forth83" ∷ words))
+
+-- the files, the block that is loaded, and whether the run is strict
+abbrev pub read_script : List Text → Option (Option (List Text) × Option Text × Option Text)
+read_script words = option_map (λ given. (all_of (codes "FILE") given.1, one_of (codes "load") given.1, one_of (codes "strict") given.1))
+    (subcommand_of forth83 (codes "forth83" ∷ words))
 
 -- whether a trace is asked for
 abbrev pub read_trace : List Text → Option (Option Text)
@@ -82,6 +91,15 @@ pub record CommandsAreRead : Type 0 where
   pub traces : read_trace (codes "run" ∷ codes "A" ∷ codes "--trace" ∷ []) ≡ Some (Some (codes "true"))
   pub traces_fits : refused (codes "run" ∷ codes "--trace" ∷ codes "A" ∷ []) ≡ []
   pub traces_nothing : read_trace (codes "run" ∷ codes "A" ∷ []) ≡ Some (Some (codes "false"))
+  pub runs_no_file : read_script (codes "run" ∷ codes "A" ∷ []) ≡ Some (None, None, Some (codes "false"))
+  pub runs_files : read_script (codes "run" ∷ codes "A" ∷ codes "F" ∷ codes "G" ∷ []) ≡ Some (Some (codes "F" ∷ codes "G" ∷ []), None, Some (codes "false"))
+  pub runs_files_fits : refused (codes "run" ∷ codes "A" ∷ codes "F" ∷ codes "G" ∷ []) ≡ []
+  pub runs_strictly : read_script (codes "run" ∷ codes "A" ∷ codes "F" ∷ codes "G" ∷ codes "--strict" ∷ codes "--load" ∷ codes "1" ∷ [])
+      ≡ Some (Some (codes "F" ∷ codes "G" ∷ []), Some (codes "1"), Some (codes "true"))
+  pub runs_strictly_fits : refused (codes "run" ∷ codes "--strict" ∷ codes "--load=1" ∷ codes "A" ∷ codes "F" ∷ []) ≡ []
+  pub loads_and_runs_no_file : read_script (codes "run" ∷ codes "--load" ∷ codes "65535" ∷ codes "A" ∷ [])
+      ≡ Some (None, Some (codes "65535"), Some (codes "false"))
+  pub loads_no_such_block : refused (codes "run" ∷ codes "A" ∷ codes "--load" ∷ codes "65536" ∷ []) ≡ kind.ValueValidation ∷ []
   pub traces_no_list : refused (codes "list" ∷ codes "A" ∷ codes "1" ∷ codes "--trace" ∷ []) ≡ kind.UnknownArgument ∷ []
   pub lists : read (codes "list" ∷ codes "A" ∷ codes "31" ∷ [])
       ≡ Some (codes "list", Some (codes "A"), None, None, None, Some (codes "31"))
@@ -112,6 +130,8 @@ pub record CommandsAreRead : Type 0 where
   pub checks_raw : read_many (codes "import" ∷ codes "--check" ∷ codes "--raw" ∷ codes "A" ∷ codes "0" ∷ codes "F" ∷ [])
       ≡ Some (codes "import", Some (codes "A"), Some (codes "F"), Some (codes "0"), None, Some (codes "true"))
   pub checks_fits : refused (codes "import" ∷ codes "A" ∷ codes "1" ∷ codes "F" ∷ codes "--raw" ∷ codes "--check" ∷ []) ≡ []
+  pub imports_many : all_files (codes "import" ∷ codes "A" ∷ codes "1" ∷ codes "F" ∷ codes "G" ∷ codes "--raw" ∷ []) ≡ Some (Some (codes "F" ∷ codes "G" ∷ []))
+  pub imports_many_fits : refused (codes "import" ∷ codes "A" ∷ codes "1" ∷ codes "F" ∷ codes "G" ∷ codes "--check" ∷ []) ≡ []
   pub no_source : refused (codes "import" ∷ codes "A" ∷ codes "1" ∷ []) ≡ kind.MissingRequiredArgument ∷ []
   pub checks_image : read (codes "check" ∷ codes "A" ∷ []) ≡ Some (codes "check", Some (codes "A"), None, Some (codes "false"), None, None)
   pub checks_image_fits : refused (codes "check" ∷ codes "A" ∷ []) ≡ []

@@ -1,15 +1,18 @@
 -- What the words of a command line may be, and the order that they give.
-use Rattle.std.specs.Prelude.{◌≡◌, ◌≢◌, ◌≤◌, ℕ, pos, true, List, [], ◌∷◌, Option, Some, None, codes, ⊤}
+use Rattle.std.specs.Prelude.{◌≡◌, ◌≢◌, ◌≤◌, ℕ, pos, Bool, true, false, List, [], ◌∷◌, map, Option, Some, None, unwrap_or, codes, ⊤}
+use Rattle.std.specs.Borrow.{Bor}
 use Rattle.std.specs.Str.Parse.{IsNumeral, digits_value, without_leading_plus}
-use Rattle.clap.specs.Words.{App, Row, Rule, Text, fault_of, first_of, is_simple, is_simple_and_free, new_app, new_rule, one_of, subcommand_of, with_rule, with_subcommand}
+use Rattle.clap.specs.Lexer.{usize_max}
+use Rattle.clap.specs.Words.{App, Row, Rule, Text, all_of, fault_of, first_of, is_simple, is_simple_and_free, new_app, new_rule, one_of, subcommand_of, with_rule, with_subcommand}
 use Rattle.clap.specs.declared.builder.action.ArgAction.TheVariants.{Set, SetTrue}
 use Rattle.clap.specs.declared.builder.value_parser.ValueParser.TheVariants as vp
 use Rattle.command_line.specs.declared.orders.Form.{Form}
 use Rattle.command_line.specs.declared.orders.Form.TheVariants.{Text as Lines, Raw}
 use Rattle.command_line.specs.declared.orders.Layout.{Layout}
 use Rattle.command_line.specs.declared.orders.Layout.TheVariants.{Two, Three}
+use Rattle.command_line.specs.declared.orders.Script.{Script}
 use Rattle.command_line.specs.declared.orders.Order.{Order}
-use Rattle.command_line.specs.declared.orders.Order.TheVariants.{Memory, New, Run, Trace, List as ListBlock, Put, Export, Import, CheckImport, Check, Digests, Diff, Upgrade, Copy, Salvage}
+use Rattle.command_line.specs.declared.orders.Order.TheVariants.{Memory, New, Run, List as ListBlock, Put, Export, Import, CheckImport, Check, Digests, Diff, Upgrade, Copy, Salvage}
 
 -- an argument that has to be there
 abbrev pub wanted : Text → Rule
@@ -53,8 +56,35 @@ trace = flag (codes "trace")
 abbrev pub each_block : Rule
 each_block = flag (codes "blocks")
 
+abbrev pub strict : Rule
+strict = flag (codes "strict")
+
+-- a block that may be asked for
+abbrev pub load : Rule
+load = record (new_rule (codes "load")) {
+  long = Some (codes "load");
+  value_names = 1;
+  action = Some Set;
+  parser = Some (vp.Signed (pos 0) (pos 65535));
+}
+
 abbrev pub file : Rule
 file = wanted (codes "FILE")
+
+-- the same, where it may be left out
+abbrev pub asked_file : Rule
+asked_file = record (new_rule (codes "FILE")) { action = Some Set }
+
+-- as many values as are given
+abbrev pub many : Rule → Rule
+many rule = record rule { range = Some (record { start_inclusive = 1; end_inclusive = usize_max }) }
+
+-- files, of which there has to be one, and files that may be left out
+abbrev pub files : Rule
+files = many file
+
+abbrev pub asked_files : Rule
+asked_files = many asked_file
 
 abbrev pub blocks : Rule
 blocks = record (wanted (codes "blocks")) {
@@ -93,8 +123,11 @@ asked_layout = record (new_rule (codes "layout")) {
 abbrev pub new_app_of : App
 new_app_of = with_rule (with_rule (with_rule (new_app (codes "new")) image) blocks) asked_layout
 
+abbrev pub run_without_flags : App
+run_without_flags = with_rule (with_rule (with_rule (with_rule (new_app (codes "run")) image) asked_files) load) steps
+
 abbrev pub run_app : App
-run_app = with_rule (with_rule (with_rule (new_app (codes "run")) image) steps) trace
+run_app = with_rule (with_rule run_without_flags strict) trace
 
 abbrev pub list_app : App
 list_app = with_rule (with_rule (new_app (codes "list")) image) block
@@ -106,7 +139,7 @@ abbrev pub export_app : App
 export_app = with_rule (with_rule (with_rule (with_rule (new_app (codes "export")) image) first_block) last_block) raw
 
 abbrev pub import_without_flags : App
-import_without_flags = with_rule (with_rule (with_rule (new_app (codes "import")) image) first_block) file
+import_without_flags = with_rule (with_rule (with_rule (new_app (codes "import")) image) first_block) files
 
 abbrev pub import_app : App
 import_app = with_rule (with_rule import_without_flags raw) check
@@ -171,10 +204,17 @@ abbrev pub HasNumber : List Row → Text → ℕ → Type 0
 HasNumber rows id n = (text : Text) × (one_of id rows ≡ Some text) × IsNumeral 10 (without_leading_plus text)
     × (n ≡ digits_value 10 (without_leading_plus text))
 
--- the number of blocks that was given, or that none was
+-- all texts that were given under this id
+abbrev pub HasTexts : List Row → Text → List (Bor Text) → Type 0
+HasTexts rows id texts = unwrap_or (all_of id rows) [] ≡ map (λ text. text.now) texts
+
+-- the number that was given under this id, or that none was
+abbrev pub HasAsked : List Row → Text → Option ℕ → Type 0
+HasAsked rows id None = first_of id rows ≡ None
+HasAsked rows id (Some n) = HasNumber rows id n
+
 abbrev pub HasBlocks : List Row → Option ℕ → Type 0
-HasBlocks rows None = first_of (codes "blocks") rows ≡ None
-HasBlocks rows (Some n) = HasNumber rows (codes "blocks") n
+HasBlocks rows = HasAsked rows (codes "blocks")
 
 -- the number of a layout
 abbrev pub layout_number : Layout → ℕ
@@ -197,25 +237,34 @@ IsUnset rows id = one_of id rows ≢ Some (codes "true")
 abbrev pub IsSet : List Row → Text → Type 0
 IsSet rows id = one_of id rows ≢ Some (codes "false")
 
+-- whether the flag is given
+abbrev pub HasFlag : List Row → Text → Bool → Type 0
+HasFlag rows id is_given = (one_of id rows ≡ Some (codes "true") → is_given ≡ true) × (one_of id rows ≡ Some (codes "false") → is_given ≡ false)
+
+-- how a session is to be run
+pub record HasScript (rows : List Row) (script : Script) : Type 0 where
+  pub load : HasAsked rows (codes "load") script.load
+  pub files : HasTexts rows (codes "FILE") script.files.items
+  pub strict : HasFlag rows (codes "strict") script.is_strict
+  pub traced : HasFlag rows (codes "trace") script.is_traced
+
 -- the order that a command with these arguments gives
 abbrev pub Orders : Option (Text × List Row) → Order → Type 0
 Orders None Memory = ⊤
 Orders (Some given) (New path n layout) = (given.0 ≡ codes "new") × HasText given.1 (codes "IMAGE") path.now
     × HasNumber given.1 (codes "blocks") n × HasLayout given.1 layout
-Orders (Some given) (Run path n) = (given.0 ≡ codes "run") × HasText given.1 (codes "IMAGE") path.now
-    × HasNumber given.1 (codes "steps") n × IsUnset given.1 (codes "trace")
-Orders (Some given) (Trace path n) = (given.0 ≡ codes "run") × HasText given.1 (codes "IMAGE") path.now
-    × HasNumber given.1 (codes "steps") n × IsSet given.1 (codes "trace")
+Orders (Some given) (Run path n script) = (given.0 ≡ codes "run") × HasText given.1 (codes "IMAGE") path.now
+    × HasNumber given.1 (codes "steps") n × HasScript given.1 script
 Orders (Some given) (ListBlock path b) = (given.0 ≡ codes "list") × HasText given.1 (codes "IMAGE") path.now
     × HasNumber given.1 (codes "BLOCK") b
 Orders (Some given) (Put path b text) = (given.0 ≡ codes "put") × HasText given.1 (codes "IMAGE") path.now
     × HasNumber given.1 (codes "BLOCK") b × HasText given.1 (codes "FILE") text.now
 Orders (Some given) (Export path first last form) = (given.0 ≡ codes "export") × HasText given.1 (codes "IMAGE") path.now
     × HasNumber given.1 (codes "FIRST") first × HasNumber given.1 (codes "LAST") last × HasForm given.1 form
-Orders (Some given) (Import path first source form) = (given.0 ≡ codes "import") × HasText given.1 (codes "IMAGE") path.now
-    × HasNumber given.1 (codes "FIRST") first × HasText given.1 (codes "FILE") source.now × HasForm given.1 form × IsUnset given.1 (codes "check")
-Orders (Some given) (CheckImport path first source form) = (given.0 ≡ codes "import") × HasText given.1 (codes "IMAGE") path.now
-    × HasNumber given.1 (codes "FIRST") first × HasText given.1 (codes "FILE") source.now × HasForm given.1 form × IsSet given.1 (codes "check")
+Orders (Some given) (Import path first sources form) = (given.0 ≡ codes "import") × HasText given.1 (codes "IMAGE") path.now
+    × HasNumber given.1 (codes "FIRST") first × HasTexts given.1 (codes "FILE") sources.items × HasForm given.1 form × IsUnset given.1 (codes "check")
+Orders (Some given) (CheckImport path first sources form) = (given.0 ≡ codes "import") × HasText given.1 (codes "IMAGE") path.now
+    × HasNumber given.1 (codes "FIRST") first × HasTexts given.1 (codes "FILE") sources.items × HasForm given.1 form × IsSet given.1 (codes "check")
 Orders (Some given) (Check path) = (given.0 ≡ codes "check") × HasText given.1 (codes "IMAGE") path.now × IsUnset given.1 (codes "blocks")
 Orders (Some given) (Digests path) = (given.0 ≡ codes "check") × HasText given.1 (codes "IMAGE") path.now × IsSet given.1 (codes "blocks")
 Orders (Some given) (Diff old new) = (given.0 ≡ codes "diff") × HasText given.1 (codes "OLD") old.now × HasText given.1 (codes "NEW") new.now
@@ -239,8 +288,7 @@ AreInRange (Some n) = (32 ≤ n) × (n ≤ 3840)
 -- its numbers lie in their ranges
 abbrev pub IsInRange : Order → Type 0
 IsInRange (New path n layout) = (32 ≤ n) × (n ≤ 3840)
-IsInRange (Run path n) = (1 ≤ n) × (n ≤ 1000000000)
-IsInRange (Trace path n) = (1 ≤ n) × (n ≤ 1000000000)
+IsInRange (Run path n script) = (1 ≤ n) × (n ≤ 1000000000)
 IsInRange (Copy old new asked) = AreInRange asked
 IsInRange (Salvage old new asked) = AreInRange asked
 IsInRange order = ⊤

@@ -1,4 +1,6 @@
 //! What the words of a command line may ask for.
+//! Rule: MANUAL, Commands; MANUAL, Where a fault came.
+ghost use Rattle.std.specs.Prelude.{◌≡◌, IsSome, None};
 
 /// How blocks are written to a file, and read from one.
 #[derive(Clone, Copy, Debug, PartialEq, Eq)]
@@ -18,27 +20,51 @@ pub enum Layout {
     Three,
 }
 
+/// How a session over an image is run.
+#[derive(Debug, Drop)]
+pub struct Script<'a> {
+    /// The block that is loaded before the first line, if one is.
+    pub load: Option<u16>,
+    /// The files whose lines are run. Where there is none, those of the input are.
+    pub files: Vec<&'a str>,
+    /// Whether it ends with the first line that a fault ended.
+    pub is_strict: bool,
+    /// Whether it is told beside the replies where a fault ended a line.
+    pub is_traced: bool,
+}
+
+impl Script<'_> {
+    /// The number of the first line that is run: a line that loads a block stands before line 1.
+    pub fn first_line(&self) -> u32
+        ensures loads { IsSome self.now.load → result ≡ 0 }
+        ensures no_load { self.now.load ≡ None → result ≡ 1 }
+    {
+        match self.load {
+            Some(_) => 0,
+            None => 1,
+        }
+    }
+}
+
 /// What the program is to do.
-#[derive(Clone, Copy, Debug, PartialEq, Eq)]
+#[derive(Debug, Drop)]
 pub enum Order<'a> {
     /// Run the input over blocks in memory.
     Memory,
     /// Make an image of so many blocks, by a layout.
     New(&'a str, u16, Layout),
-    /// Run the input over an image, with so many steps a line.
-    Run(&'a str, u32),
-    /// Run the input over an image, with so many steps a line, and tell beside the replies where a fault ended a line.
-    Trace(&'a str, u32),
+    /// Run lines over an image, with so many steps a line.
+    Run(&'a str, u32, Script<'a>),
     /// Print a block of an image.
     List(&'a str, u16),
     /// Make the lines of a file a block of an image.
     Put(&'a str, u16, &'a str),
     /// Print the blocks of an image from the one to the other.
     Export(&'a str, u16, u16, Form),
-    /// Make the blocks that a file says those of an image from this one on, in one save.
-    Import(&'a str, u16, &'a str, Form),
-    /// Tell what keeps a file from being imported there, and what else looks wrong in it.
-    CheckImport(&'a str, u16, &'a str, Form),
+    /// Make the blocks that files say those of an image from this one on, in one save. Each file begins a block.
+    Import(&'a str, u16, Vec<&'a str>, Form),
+    /// Tell what keeps files from being imported there, and what else looks wrong in them.
+    CheckImport(&'a str, u16, Vec<&'a str>, Form),
     /// Tell what an image holds.
     Check(&'a str),
     /// Tell the digest of each block of an image.

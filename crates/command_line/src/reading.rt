@@ -3,10 +3,10 @@
 ghost use Rattle.std.specs.Prelude.{◌≡◌, ◌≤◌, ℕ, List, false, Some, map, codes, IfOk, IfSome};
 ghost use Rattle.clap.specs.Words.{App, FailsBy, app_of, fault_of, found_of, rows_of, rule_of, with_subcommand};
 ghost use Rattle.clap.specs.declared.builder.command.Command.TheViews.{out-Command};
-ghost use Rattle.command_line.specs.Commands.{image, old_image, new_image, block, first_block, last_block, file, raw, check, trace, blocks, steps, asked_layout, new_app_of, run_app, list_app, put_app, export_app, import_app, import_without_flags, check_app, upgrade_app, program, forth83, over_blocks, ReadsAs, SufficesFor, HasForm, HasLayout, HasNumber, HasText, Orders, IsOrderOf, IsInRange};
-ghost use Rattle.command_line.specs.Commands.{asked_blocks, copy_app, salvage_app, making, HasBlocks, AreInRange, diff_app, each_block, looking};
+ghost use Rattle.command_line.specs.Commands.{image, old_image, new_image, block, first_block, last_block, file, files, asked_file, asked_files, many, raw, check, strict, load, trace, blocks, steps, asked_layout, new_app_of, run_app, run_without_flags, list_app, put_app, export_app, import_app, import_without_flags, check_app, upgrade_app, program, forth83, over_blocks, ReadsAs, SufficesFor, HasFlag, HasForm, HasLayout, HasNumber, HasScript, HasText, HasTexts, Orders, IsOrderOf, IsInRange};
+ghost use Rattle.command_line.specs.Commands.{asked_blocks, copy_app, salvage_app, making, HasAsked, HasBlocks, AreInRange, diff_app, each_block, looking};
 
-use super::orders::{Form, Layout, Order};
+use super::orders::{Form, Layout, Order, Script};
 use clap::{Arg, ArgAction, ArgMatches, Command, Error};
 use std::alloc::{AllocError, Global};
 use std::convert::AsStr;
@@ -33,15 +33,16 @@ pub fn order<'a, S: AsStr>(alloc: Global, words: &'a [S]) -> Result<Order<'a>, E
     let Some((name, given)) = matches.subcommand() else {
         return Ok(Order::Memory);
     };
-    match order_of(name, given) {
+    match order_of(alloc, name, given) {
         Some(order) => Ok(order),
-        // After a parse each argument is there and in its range, so this isn't reached.
+        // After a parse each argument is there and in its range, so it is memory for the list of files that was refused.
         None => Err(Error::from(AllocError)),
     }
 }
 
-/// The order of a command, where its arguments are there and in their ranges, as they are after each parse.
-fn order_of<'a>(name: &str, given: &ArgMatches<'a>) -> Option<Order<'a>>
+/// The order of a command, where its arguments are there and in their ranges, as they are after each parse. None also
+/// where memory for a list of files is refused.
+fn order_of<'a>(alloc: Global, name: &str, given: &ArgMatches<'a>) -> Option<Order<'a>>
     ensures given { IfSome result (λ o. Orders (Some (name.now, rows_of (found_of given.now))) o) }
     ensures ranges { IfSome result (λ o. IsInRange o) }
 {
@@ -50,7 +51,7 @@ fn order_of<'a>(name: &str, given: &ArgMatches<'a>) -> Option<Order<'a>>
         "copy" => order_of_copy(given),
         "salvage" => order_of_salvage(given),
         "diff" => order_of_diff(given),
-        _ => order_over_image(name, given),
+        _ => order_over_image(alloc, name, given),
     }
 }
 
@@ -95,18 +96,18 @@ fn order_of_diff<'a>(given: &ArgMatches<'a>) -> Option<Order<'a>>
 }
 
 /// The order of a command over one image.
-fn order_over_image<'a>(name: &str, given: &ArgMatches<'a>) -> Option<Order<'a>>
+fn order_over_image<'a>(alloc: Global, name: &str, given: &ArgMatches<'a>) -> Option<Order<'a>>
     ensures given { IfSome result (λ o. Orders (Some (name.now, rows_of (found_of given.now))) o) }
     ensures ranges { IfSome result (λ o. IsInRange o) }
 {
     let image = given.get_str("IMAGE")?;
     match name {
         "new" => order_of_new(image, given),
-        "run" => Some(order_of_run(image, steps_of(given)?, given)),
+        "run" => order_of_run(alloc, image, given),
         "check" => Some(order_of_check(image, given)),
         "list" => Some(Order::List(image, number_of(given, "BLOCK")?)),
         "put" => Some(Order::Put(image, number_of(given, "BLOCK")?, given.get_str("FILE")?)),
-        _ => order_over_blocks(name, image, given),
+        _ => order_over_blocks(alloc, name, image, given),
     }
 }
 
@@ -120,20 +121,59 @@ fn order_of_new<'a>(image: &'a str, given: &ArgMatches<'a>) -> Option<Order<'a>>
     Some(Order::New(image, blocks, layout_of(given)?))
 }
 
-/// The order of a run, with a trace or without one.
-fn order_of_run<'a>(image: &'a str, steps: u32, given: &ArgMatches<'a>) -> Order<'a>
-    requires image { HasText (rows_of (found_of given.now)) (codes "IMAGE") image.now }
-    requires steps { HasNumber (rows_of (found_of given.now)) (codes "steps") steps }
-    requires many { 1 ≤ steps }
-    requires few { steps ≤ 1000000000 }
-    ensures given { Orders (Some (codes "run", rows_of (found_of given.now))) result }
-    ensures ranges { IsInRange result }
+/// The order of a run.
+fn order_of_run<'a>(alloc: Global, image: &'a str, given: &ArgMatches<'a>) -> Option<Order<'a>>
+    requires { HasText (rows_of (found_of given.now)) (codes "IMAGE") image.now }
+    ensures given { IfSome result (λ o. Orders (Some (codes "run", rows_of (found_of given.now))) o) }
+    ensures ranges { IfSome result (λ o. IsInRange o) }
 {
-    if given.get_flag("trace") {
-        Order::Trace(image, steps)
-    } else {
-        Order::Run(image, steps)
+    let steps = steps_of(given)?;
+    Some(Order::Run(image, steps, script_of(alloc, given)?))
+}
+
+/// How a session is to be run. None also where memory for the list of its files is refused.
+fn script_of<'a>(alloc: Global, given: &ArgMatches<'a>) -> Option<Script<'a>>
+    ensures { IfSome result (λ script. HasScript (rows_of (found_of given.now)) script) }
+{
+    let load = load_of(given)?;
+    let files = texts_of(alloc, given, "FILE")?;
+    Some(Script {
+        load,
+        files,
+        is_strict: flag_of(given, "strict"),
+        is_traced: flag_of(given, "trace"),
+    })
+}
+
+/// The block that is to be loaded, where one is given.
+fn load_of(given: &ArgMatches<'_>) -> Option<Option<u16>>
+    ensures { IfSome result (λ asked. HasAsked (rows_of (found_of given.now)) (codes "load") asked) }
+{
+    match given.get_str("load") {
+        Some(_) => Some(Some(number_of(given, "load")?)),
+        None => Some(None),
     }
+}
+
+/// All texts of an argument, in their order. None where memory is refused.
+fn texts_of<'a>(alloc: Global, given: &ArgMatches<'a>, id: &str) -> Option<Vec<&'a str>>
+    ensures { IfSome result (λ texts. HasTexts (rows_of (found_of given.now)) id.now texts.items) }
+{
+    let mut texts = Vec::new(alloc);
+    match given.get_strs(id) {
+        Some(given) => match texts.extend_from_slice(given) {
+            Ok(()) => Some(texts),
+            Err(AllocError) => None,
+        },
+        None => Some(texts),
+    }
+}
+
+/// Whether a flag is given.
+fn flag_of(given: &ArgMatches<'_>, id: &str) -> bool
+    ensures { HasFlag (rows_of (found_of given.now)) id.now result }
+{
+    given.get_flag(id)
 }
 
 /// The order of a check, of an image or of each of its blocks.
@@ -150,7 +190,12 @@ fn order_of_check<'a>(image: &'a str, given: &ArgMatches<'a>) -> Order<'a>
 }
 
 /// The order of a command over many blocks.
-fn order_over_blocks<'a>(name: &str, image: &'a str, given: &ArgMatches<'a>) -> Option<Order<'a>>
+fn order_over_blocks<'a>(
+    alloc: Global,
+    name: &str,
+    image: &'a str,
+    given: &ArgMatches<'a>,
+) -> Option<Order<'a>>
     requires { HasText (rows_of (found_of given.now)) (codes "IMAGE") image.now }
     ensures given { IfSome result (λ o. Orders (Some (name.now, rows_of (found_of given.now))) o) }
     ensures ranges { IfSome result (λ o. IsInRange o) }
@@ -162,24 +207,29 @@ fn order_over_blocks<'a>(name: &str, image: &'a str, given: &ArgMatches<'a>) -> 
             number_of(given, "LAST")?,
             form_of(given),
         )),
-        "import" => order_of_import(image, number_of(given, "FIRST")?, given),
+        "import" => order_of_import(alloc, image, number_of(given, "FIRST")?, given),
         _ => None,
     }
 }
 
 /// The order of an import, or of a look at one.
-fn order_of_import<'a>(image: &'a str, first: u16, given: &ArgMatches<'a>) -> Option<Order<'a>>
+fn order_of_import<'a>(
+    alloc: Global,
+    image: &'a str,
+    first: u16,
+    given: &ArgMatches<'a>,
+) -> Option<Order<'a>>
     requires image { HasText (rows_of (found_of given.now)) (codes "IMAGE") image.now }
     requires first { HasNumber (rows_of (found_of given.now)) (codes "FIRST") first }
     ensures given { IfSome result (λ o. Orders (Some (codes "import", rows_of (found_of given.now))) o) }
     ensures ranges { IfSome result (λ o. IsInRange o) }
 {
-    let file = given.get_str("FILE")?;
+    let files = texts_of(alloc, given, "FILE")?;
     let form = form_of(given);
     if given.get_flag("check") {
-        Some(Order::CheckImport(image, first, file, form))
+        Some(Order::CheckImport(image, first, files, form))
     } else {
-        Some(Order::Import(image, first, file, form))
+        Some(Order::Import(image, first, files, form))
     }
 }
 
@@ -325,14 +375,59 @@ fn file_argument<'a>(alloc: Global) -> Arg<'a>
         .help("A text of at most 16 lines of at most 64 bytes")
 }
 
+/// An argument that takes as many values as are given.
+fn many<'a>(argument: Arg<'a>) -> Arg<'a>
+    ensures rule { rule_of result ≡ many (rule_of argument.entry) }
+    ensures local { result.global ≡ argument.entry.global }
+{
+    argument.num_args(1..)
+}
+
 fn source_argument<'a>(alloc: Global) -> Arg<'a>
-    ensures rule { rule_of result ≡ file }
+    ensures rule { rule_of result ≡ files }
     ensures local { result.global ≡ false }
 {
-    Arg::new(alloc, "FILE")
-        .required(true)
+    many(file_argument(alloc)).help(
+        "A text of lines of at most 64 bytes, 16 for a block; each file begins a block",
+    )
+}
+
+fn asked_file_argument<'a>(alloc: Global) -> Arg<'a>
+    ensures rule { rule_of result ≡ asked_file }
+    ensures local { result.global ≡ false }
+{
+    Arg::new(alloc, "FILE").action(ArgAction::Set)
+}
+
+fn script_argument<'a>(alloc: Global) -> Arg<'a>
+    ensures rule { rule_of result ≡ asked_files }
+    ensures local { result.global ≡ false }
+{
+    many(asked_file_argument(alloc)).help(
+        "Files whose lines are run; without one those of standard input are",
+    )
+}
+
+fn load_option<'a>(alloc: Global) -> Arg<'a>
+    ensures rule { rule_of result ≡ load }
+    ensures local { result.global ≡ false }
+{
+    Arg::new(alloc, "load")
+        .long("load")
+        .value_name("BLOCK")
         .action(ArgAction::Set)
-        .help("A text of lines of at most 64 bytes, 16 for a block")
+        .value_parser(clap::value_parser!(u16))
+        .help("Load a block before the first line")
+}
+
+fn strict_option<'a>(alloc: Global) -> Arg<'a>
+    ensures rule { rule_of result ≡ strict }
+    ensures local { result.global ≡ false }
+{
+    Arg::new(alloc, "strict")
+        .long("strict")
+        .action(ArgAction::SetTrue)
+        .help("End with the first line that a fault ended, in status 1")
 }
 
 fn blocks_option<'a>(alloc: Global) -> Arg<'a>
@@ -438,14 +533,25 @@ fn new_command<'a>(alloc: Global) -> Result<Command<'a>, AllocError>
         .arg(layout_option(alloc, "The layout of the image, 2 or 3"))
 }
 
+/// `run` without its flags.
+fn run_arguments<'a>(alloc: Global) -> Result<Command<'a>, AllocError>
+    ensures app { IfOk result (λ c. app_of c ≡ run_without_flags) }
+    ensures local { IfOk result (λ c. (out-Command c).has_globals ≡ false) }
+{
+    Command::new(alloc, "run")
+        .about("Run the lines of files, or of standard input, over an image")
+        .arg(image_argument(alloc))?
+        .arg(script_argument(alloc))?
+        .arg(load_option(alloc))?
+        .arg(steps_option(alloc))
+}
+
 fn run_command<'a>(alloc: Global) -> Result<Command<'a>, AllocError>
     ensures app { IfOk result (λ c. app_of c ≡ run_app) }
     ensures local { IfOk result (λ c. (out-Command c).has_globals ≡ false) }
 {
-    Command::new(alloc, "run")
-        .about("Run the lines of standard input over an image")
-        .arg(image_argument(alloc))?
-        .arg(steps_option(alloc))?
+    run_arguments(alloc)?
+        .arg(strict_option(alloc))?
         .arg(trace_option(alloc))
 }
 
@@ -488,7 +594,7 @@ fn import_arguments<'a>(alloc: Global) -> Result<Command<'a>, AllocError>
     ensures local { IfOk result (λ c. (out-Command c).has_globals ≡ false) }
 {
     Command::new(alloc, "import")
-        .about("Make the lines of a file blocks of an image, in one save")
+        .about("Make the lines of files blocks of an image, in one save")
         .arg(image_argument(alloc))?
         .arg(first_argument(alloc))?
         .arg(source_argument(alloc))

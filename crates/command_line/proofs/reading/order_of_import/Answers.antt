@@ -2,7 +2,6 @@ use Rattle.std.proofs.Common.{◌≡◌, ◌∙◌, false, true, true≢false, r
 use Rattle.std.specs.Prelude.{codes}
 use Rattle.clap.specs.Words.{found_of}
 use Rattle.clap.proofs.WalkLemmas.{one_text-rows}
-use Rattle.command_line.proofs.Given.{text_given}
 use Rattle.command_line.proofs.reading.order_of_import.Goals as goal
 
 pub returns-then-get_flag-clause-given : goal.returns-then-get_flag-clause-given
@@ -10,7 +9,7 @@ returns-then-get_flag-clause-given c = (
   refl,
   c.requires.image,
   c.requires.first,
-  text_given c.args.given.now (codes "FILE") c.in_ok-file.file.now c.in_ok-file.ensures,
+  c.in_ok-files.ensures,
   c.form_of-form.ensures,
   λ is. let no : true ≡ false = sym c.if-get_flag.true ∙ c.get_flag.ensures.other (one_text-rows (found_of c.args.given.now) (codes "check") ∙ is) in true≢false no,
 )
@@ -20,7 +19,7 @@ returns-else-get_flag-clause-given c = (
   refl,
   c.requires.image,
   c.requires.first,
-  text_given c.args.given.now (codes "FILE") c.in_ok-file.file.now c.in_ok-file.ensures,
+  c.in_ok-files.ensures,
   c.form_of-form.ensures,
   λ is. let no : false ≡ true = sym c.if-get_flag.false ∙ c.get_flag.ensures.value (one_text-rows (found_of c.args.given.now) (codes "check") ∙ is) in true≢false (sym no),
 )

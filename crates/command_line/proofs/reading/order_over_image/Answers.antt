@@ -6,8 +6,8 @@ use Rattle.command_line.proofs.reading.order_over_image.Goals as goal
 pub order_of_new-requires : goal.order_of_new-requires
 order_of_new-requires c = text_given c.args.given.now (codes "IMAGE") c.in_ok-image.image.now c.in_ok-image.ensures
 
-pub order_of_run-requires-clause-image : goal.order_of_run-requires-clause-image
-order_of_run-requires-clause-image c = text_given c.args.given.now (codes "IMAGE") c.in_ok-image.image.now c.in_ok-image.ensures
+pub order_of_run-requires : goal.order_of_run-requires
+order_of_run-requires c = text_given c.args.given.now (codes "IMAGE") c.in_ok-image.image.now c.in_ok-image.ensures
 
 pub order_of_check-requires : goal.order_of_check-requires
 order_of_check-requires c = text_given c.args.given.now (codes "IMAGE") c.in_ok-image.image.now c.in_ok-image.ensures

@@ -1,19 +1,13 @@
-use Rattle.std.proofs.Common.{◌∙◌, ap}
 use Rattle.std.proofs.lemmas.Result.{IfOk-weaker}
-use Rattle.clap.specs.Simple.{app_of_fields}
 use Rattle.command_line.proofs.Building.{no_globals, with_argument}
 use Rattle.command_line.proofs.reading.run_command.Goals as goal
 
 pub returns-clause-app : goal.returns-clause-app
 returns-clause-app c =
-    let begun = ap app_of_fields c.about.ensures ∙ c.new.ensures.app in
-    let one = with_argument c.in_ok-arg.ensures c.image_argument.ensures.rule c.image_argument.ensures.local begun in
-    let two = with_argument c.in_ok-arg-2.ensures c.steps_option.ensures.rule c.steps_option.ensures.local one in
-    IfOk-weaker c.arg-3.result _ _ (λ command adds. with_argument adds c.trace_option.ensures.rule c.trace_option.ensures.local two) c.arg-3.ensures
+    let one = with_argument c.in_ok-arg.ensures c.strict_option.ensures.rule c.strict_option.ensures.local c.in_ok-run_arguments.ensures.app in
+    IfOk-weaker c.arg-2.result _ _ (λ command adds. with_argument adds c.trace_option.ensures.rule c.trace_option.ensures.local one) c.arg-2.ensures
 
 pub returns-clause-local : goal.returns-clause-local
 returns-clause-local c =
-    let begun = ap (λ f. f.has_globals) c.about.ensures ∙ c.new.ensures.local in
-    let one = no_globals c.in_ok-arg.ensures c.image_argument.ensures.local begun in
-    let two = no_globals c.in_ok-arg-2.ensures c.steps_option.ensures.local one in
-    IfOk-weaker c.arg-3.result _ _ (λ command adds. no_globals adds c.trace_option.ensures.local two) c.arg-3.ensures
+    let one = no_globals c.in_ok-arg.ensures c.strict_option.ensures.local c.in_ok-run_arguments.ensures.local in
+    IfOk-weaker c.arg-2.result _ _ (λ command adds. no_globals adds c.trace_option.ensures.local one) c.arg-2.ensures

@@ -1,0 +1,9 @@
+use Rattle.command_line.proofs.reading.script_of.Goals as goal
+
+pub returns : goal.returns
+returns c = record {
+  load = c.in_ok-load.ensures;
+  files = c.in_ok-files.ensures;
+  strict = c.flag_of.ensures;
+  traced = c.flag_of-2.ensures;
+}
