@@ -2,7 +2,9 @@ pub mod Carried
 pub mod Copied
 pub mod Examined
 pub mod Looked
+pub mod Overtaken
 pub mod PageCarried
 pub mod PageCopied
+pub mod Seen
 pub mod Standing
 pub mod View

@@ -98,8 +98,10 @@ fn take_block<D: SectorDevice>(
     }
 }
 
-// A block that is there, read where it stands.
-fn read_found<D: SectorDevice>(
+/// Reads the 1,024 bytes of a block that is there, where a look at the image has found it, by two reads: nothing is
+/// written, and nothing synced. An error where a read failed. Takes no memory.
+/// Rule: IMAGE, For another writer; IMAGE, Layout 3.
+pub fn read_found<D: SectorDevice>(
     device: &mut D,
     view: &View,
     b: u16,

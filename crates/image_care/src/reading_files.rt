@@ -1,6 +1,7 @@
 // The files of this system, opened for reading alone.
 ghost use Rattle.std.specs.Prelude.{◌≡◌, ◌≢◌, IfErr};
 
+use crate::whole_copies::{copied, read_whole_image};
 use sector_disk::{FileFault, HostFault, HostFile, HostFiles};
 use std::fs::{File, Files, Metadata, OpenOptions, TryLockError};
 use std::io::ErrorKind;
@@ -10,13 +11,19 @@ use std::{fs, io};
 /// The names of this program's standard streams.
 const STREAMS: [&str; 3] = ["/dev/stdin", "/dev/stdout", "/dev/stderr"];
 
-/// A file of this system that is only read. Its `write_at` and `sync` fail without a call of the system.
-///
-/// It is safe whatever the file holds. That it keeps the model of a file is assumed, not proved.
+/// A file that is only read. Its `write_at` and `sync` fail without a call of the system.
 #[derive(Drop)]
-pub struct ReadOnlyFile {
-    file: File,
-    len: u64,
+pub enum ReadOnlyFile {
+    /// A file of this system. It is safe whatever the file holds; that it keeps the model of a file is assumed, not
+    /// proved.
+    Live {
+        /// The file, locked as long as it is open.
+        file: File,
+        /// How many bytes it had when it was opened.
+        len: u64,
+    },
+    /// The bytes that were read of one. They keep the model of a file: nobody writes them.
+    Still(Vec<u8>),
 }
 
 fn fault_of(error: io::Error) -> HostFault {
@@ -27,42 +34,52 @@ fn fault_of(error: io::Error) -> HostFault {
 }
 
 impl HostFile for ReadOnlyFile {
-    ghost use Rattle.std.specs.Prelude.{true, false};
+    ghost use Rattle.std.specs.Prelude.{true, length, refl};
+    ghost use Rattle.sector_disk.specs.Disk.{MayLeave};
+    ghost use Rattle.sector_disk.specs.FileBytes.{disk_of_file};
+    ghost use Rattle.sector_disk.specs.Pages.{paged_by_sectors};
+    ghost use Rattle.image_care.specs.Seen.{bytes_of, is_still, items_of};
 
-    ghost keeps_model = { λ f. false };
+    ghost keeps_model = { λ f. is_still f };
 
-    ghost keeps_sectors = { λ f. false };
+    ghost keeps_sectors = { λ f. is_still f };
 
-    ghost bytes = { λ f. record { content = λ _. 0; synced = λ _. 0; unsynced = λ _. true; unit = λ k. k } };
+    ghost bytes = { λ f. bytes_of f };
 
-    ghost extent = { λ f. 0 };
+    ghost extent = { λ f. length (items_of f) };
 
     ghost syncs_settle = { λ f. true };
 
     ghost time = { λ f. 0 };
 
-    ghost left_since = { λ f t c. Unit {0} };
+    ghost left_since = { λ f t c. MayLeave (disk_of_file (bytes_of f)) c };
 
-    ghost present = { λ f keeps k synced. Prim.cc };
+    ghost present = { λ f keeps k synced. refl };
 
     ghost keeps_both = { λ f keeps. keeps };
 
-    ghost by_pages = { λ f keeps. Prim.cc };
+    ghost by_pages = { λ f keeps. paged_by_sectors (disk_of_file (bytes_of f)) (λ k. refl) };
 
-    ghost by_sectors = { λ f k keeps. Prim.cc };
+    ghost by_sectors = { λ f k keeps. refl };
 
-    ghost counts_now = { λ f t c le now. tt };
+    ghost counts_now = { λ f t c le now. now };
 
-    ghost only_now = { λ f c since k synced. Prim.cc };
+    ghost only_now = { λ f c now. now };
 
     ghost widens = { λ f s t c le since. since };
 
     fn len(&self) -> Result<u64, HostFault> {
-        Ok(self.len)
+        match self {
+            ReadOnlyFile::Live { len, .. } => Ok(*len),
+            ReadOnlyFile::Still(bytes) => Ok(bytes.len() as u64),
+        }
     }
 
     fn read_at(&mut self, position: u64, buffer: &mut [u8]) -> Result<usize, HostFault> {
-        self.file.read_at(buffer, position).map_err(fault_of)
+        match self {
+            ReadOnlyFile::Live { file, .. } => file.read_at(buffer, position).map_err(fault_of),
+            ReadOnlyFile::Still(bytes) => Ok(copied(bytes, position, buffer)),
+        }
     }
 
     fn write_at(&mut self, _position: u64, _buffer: &[u8]) -> Result<usize, HostFault> {
@@ -80,17 +97,33 @@ impl HostFile for ReadOnlyFile {
 #[derive(Drop)]
 pub struct ReadingFiles<'a, R> {
     rt: &'a R,
+    takes_copies: bool,
 }
 
 impl<'a, R: Files<File = File>> ReadingFiles<'a, R> {
-    /// The files that this runtime reaches.
+    /// The files that this runtime reaches. One that another program has open for writing is in use.
     pub fn new(rt: &'a R) -> ReadingFiles<'a, R> {
-        ReadingFiles { rt }
+        ReadingFiles {
+            rt,
+            takes_copies: false,
+        }
+    }
+
+    /// Those too, but of an image of layout 3 that another program has open for writing a copy in memory is given: the
+    /// blocks of the last save that had returned before, or of a later one. That program waits for nothing.
+    /// Rule: IMAGE, Layout 3, A look while it runs.
+    pub fn with_copies(rt: &'a R) -> ReadingFiles<'a, R> {
+        ReadingFiles {
+            rt,
+            takes_copies: true,
+        }
     }
 }
 
-impl<R: Files<File = File>> HostFiles<ReadOnlyFile> for ReadingFiles<'_, R> {
-    ghost opens = { λ files path file. Unit {0} };
+impl<R: Files<File = File> + AllocGlobal> HostFiles<ReadOnlyFile> for ReadingFiles<'_, R> {
+    ghost use Rattle.image_care.specs.Seen.{IsGiven};
+
+    ghost opens = { λ files path file. IsGiven files.takes_copies file };
 
     ghost makes = { λ files path file. Unit {0} };
 
@@ -104,15 +137,18 @@ impl<R: Files<File = File>> HostFiles<ReadOnlyFile> for ReadingFiles<'_, R> {
             .read(true)
             .open(self.rt, path)
             .map_err(|_| FileFault::Cannot)?;
-        lock(&file)?;
-        let of = file.metadata().map_err(|_| FileFault::Cannot)?;
-        if is_a_stream(self.rt, &of) {
-            return Err(FileFault::InUse);
+        match lock(&file) {
+            Ok(()) => {
+                let len = length_of(self.rt, &file)?;
+                Ok(ReadOnlyFile::Live { file, len })
+            }
+            Err(FileFault::InUse) if self.takes_copies => {
+                let len = length_of(self.rt, &file)?;
+                let bytes = read_whole_image(self.rt.alloc(), &file, len)?;
+                Ok(ReadOnlyFile::Still(bytes))
+            }
+            Err(fault) => Err(fault),
         }
-        Ok(ReadOnlyFile {
-            file,
-            len: of.len(),
-        })
     }
 
     fn make(&self, _path: &str) -> Result<ReadOnlyFile, FileFault> {
@@ -122,6 +158,17 @@ impl<R: Files<File = File>> HostFiles<ReadOnlyFile> for ReadingFiles<'_, R> {
     fn keep_name(&self, _path: &str) -> Result<(), HostFault> {
         Err(HostFault::Failed)
     }
+}
+
+// How many bytes a file has. One of this program's standard streams is in use.
+fn length_of(rt: &impl Files, file: &File) -> Result<u64, FileFault>
+    ensures { IfErr result (λ fault. fault ≢ FileFault.Exists) }
+{
+    let of = file.metadata().map_err(|_| FileFault::Cannot)?;
+    if is_a_stream(rt, &of) {
+        return Err(FileFault::InUse);
+    }
+    Ok(of.len())
 }
 
 // Locks a file until it is closed, beside others that only read it.
