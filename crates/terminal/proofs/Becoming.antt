@@ -1,6 +1,5 @@
 -- What a command makes of a device, of what its store makes of it; and how many blocks an image on a device has.
-use Rattle.std.proofs.Common.{◌≡◌, ◌∙◌, ◌+◌, ◌-◌, ◌*◌, ◌<◌, ◌≤◌, ℕ, zero, suc, Bool, false, List, length, Option, None, Result, Ok, Err, IsTrue, refl, cond, sym, subst, arith}
-use Rattle.std.specs.Prelude.{IfOk}
+use Rattle.std.proofs.Common.{◌≡◌, ◌∙◌, ◌+◌, ◌-◌, ◌*◌, ◌<◌, ◌≤◌, ℕ, zero, suc, Bool, false, List, length, Option, IsTrue, refl, cond, sym, subst, arith}
 use Rattle.std.specs.Io.KnownBytes.{Appends}
 use Rattle.sector_disk.specs.declared.device.SectorDevice.{Ghosts}
 use Rattle.journal.specs.declared.store.Store.{Store}
@@ -14,11 +13,10 @@ use Rattle.recovery.specs.Label.{blocks_in}
 use Rattle.journal.specs.BySize.{Means}
 use Rattle.journal.proofs.Suited.{stays}
 use Rattle.recovery.specs.Upgraded.{OldLeaves}
-use Rattle.interpreter.specs.Lines.{new_forth}
-use Rattle.terminal.specs.Done.{Comes, Exports, ImportsBlocks, ListsBlock, PutsBlock, RunsFrom, RunsSession, Upgrades, blocks_on, maps_on, meant_by}
+use Rattle.terminal.specs.Done.{Exports, ImportsBlocks, ListsBlock, PutsBlock, Upgrades, blocks_on, maps_on, meant_by}
 use Rattle.sessions.specs.Devices.{Becomes}
 use Rattle.terminal.specs.Files.{OpensAs}
-use Rattle.terminal.specs.Findings.{blocks_for, refusal, said, told}
+use Rattle.terminal.specs.Findings.{AreSound, blocks_for, said_all}
 use Rattle.terminal.specs.Older as older
 use Rattle.terminal.specs.Imported.{ImportsSome}
 use Rattle.terminal.specs.Putting.{PutsSome}
@@ -28,25 +26,6 @@ use Rattle.command_line.specs.declared.orders.Form.{Form}
 use Rattle.terminal.proofs.Saving.{length_blocks}
 
 module _ {D : Type 0} (G : Ghosts D) where
-  -- The session over a store that was opened on a device.
-  pub session_done : {T E : Type 0} (r : Result T E) (end : T → D) (first : D → Type 0) (steps : ℕ)
-      (left left' written written' : Option (List ℕ)) (device : D) (store : Store D G) → first device → OpensAs G device store
-      → IfOk r (λ t. Becomes G (device_of store) (end t))
-      → ((m : Maps) → StandsFor store m
-      → IfOk r (λ t. RunsFrom G (new_forth steps m) left left' written written' (device_of store) (end t)))
-      → IfOk r (λ t. Comes G first (RunsSession G steps left left' written written') (end t))
-  session_done (Ok t) end first steps left left' written written' device store is opens goes runs = (
-    device,
-    is,
-    record {
-      begun = device_of store;
-      recovers = opens.recovers;
-      goes = goes;
-      runs = λ keeps. runs (maps_on G device) (opens.stands keeps);
-    },
-  )
-  session_done (Err e) end first steps left left' written written' device store is opens goes runs = tt
-
   continued : (old new : Store D G) → Continues old new → Becomes G (device_of old) (device_of new)
   continued old new on = record { model = on.model; time = on.time; failures = on.failures }
 
@@ -92,21 +71,22 @@ module _ {D : Type 0} (G : Ghosts D) where
   }
 
   -- Blocks were imported into a store that was opened on a device.
-  pub imported : (device : D) (old new : Store D G) (form : Form) (first : ℕ) → OpensAs G device old → Continues old new
-      → ImportsSome form first old new → ImportsBlocks G form first device (device_of new)
-  imported device old new form first opens on some =
-      let count = length_blocks (said form some.file) in
+  pub imported : (device : D) (old new : Store D G) (form : Form) (first count : ℕ) → OpensAs G device old → Continues old new
+      → ImportsSome form first count old new → ImportsBlocks G form first count device (device_of new)
+  imported device old new form first count opens on some =
+      let many = length_blocks (said_all form some.files) in
       record {
         begun = device_of old;
         recovers = opens.recovers;
         goes = continued old new on;
-        file = some.file;
-        sound = subst (λ (n : ℕ). refusal (told form (n - first) some.file) ≡ None) opens.size some.sound;
+        files = some.files;
+        each = some.each;
+        sound = subst (λ (n : ℕ). AreSound form (n - first) some.files) opens.size some.sound;
         below = subst (λ (n : ℕ). first < n) opens.size some.below;
-        there = subst (λ (n : ℕ). first + blocks_for (length (said form some.file)) ≤ n) opens.size some.there;
+        there = subst (λ (n : ℕ). first + blocks_for (length (said_all form some.files)) ≤ n) opens.size some.there;
         saves = λ keeps. (some.imports.saved (maps_on G device) (opens.stands keeps)).1;
-        begins = record { few_writes = omega (arith, opens.pending, count, some.imports.begins.few_writes); few_syncs = some.imports.begins.few_syncs };
-        reads = omega (arith, opens.pending, count, some.imports.reads);
+        begins = record { few_writes = omega (arith, opens.pending, many, some.imports.begins.few_writes); few_syncs = some.imports.begins.few_syncs };
+        reads = omega (arith, opens.pending, many, some.imports.reads);
       }
 
   -- A block was put into a store that was opened on a device.

@@ -1,12 +1,11 @@
 -- What `list` promises of a block, of what was read and printed, and of how the file of its image was opened.
-use Rattle.std.proofs.Common.{◌≡◌, ◌≢◌, ◌⊎◌, ◌∙◌, ℕ, ◌+◌, ◌*◌, ◌<◌, false, List, Option, None, Some, Result, Ok, Err, IsTrue, ap, inl, inr, refl, subst, sym}
+use Rattle.std.proofs.Common.{◌≡◌, ◌⊎◌, ◌∙◌, ℕ, ◌+◌, ◌*◌, ◌<◌, false, List, Option, None, Some, Result, Ok, Err, IsTrue, ap, inl, inr, subst, sym}
 use Rattle.std.specs.Prelude.{if◌then◌else◌, nat_lt, IfErr, IfOk, MatchResult, OnOk, option_map, unwrap_or}
 use Rattle.std.proofs.lemmas.Bool.{lt-ltb}
 use Rattle.std.specs.Io.KnownBytes.{Appends}
 use Rattle.sector_disk.specs.Disk.{Image, MayLeave}
 use Rattle.sector_disk.specs.declared.device.SectorDevice.{Ghosts}
 use Rattle.sector_disk.specs.declared.opening.FileFault.{FileFault}
-use Rattle.sector_disk.specs.declared.opening.FileFault.TheVariants.{Cannot, Exists, InUse}
 use Rattle.journal.specs.Calls.{BeginsAtMost, Proceeds, ReadsAtMost, StopsLeave}
 use Rattle.journal.specs.Maps.{block_in, contents, fresh}
 use Rattle.journal.proofs.Blocks.{at_none}
@@ -17,7 +16,8 @@ use Rattle.shadow.specs.Upgraded.{known_blocks}
 use Rattle.stores.specs.Images.{HasMeaning}
 use Rattle.stores.specs.Opened.{image_refusal}
 use Rattle.image_care.specs.Looked.{reads_to_look}
-use Rattle.terminal.specs.Done.{DoneOn, ListsBlock, blocks_on, meant_by}
+use Rattle.command_line.specs.declared.orders.Form.{Form}
+use Rattle.terminal.specs.Done.{Comes, DoneOn, Exports, ListsBlock, blocks_on, meant_by}
 use Rattle.terminal.specs.Failures.{of_file, of_image}
 use Rattle.terminal.specs.Screen.{listing}
 use Rattle.terminal.specs.Shown.{ShowsImage, block_refusal}
@@ -26,7 +26,7 @@ use Rattle.terminal.specs.declared.failure.Failure.TheVariants.{CannotWrite, Dev
 use Rattle.journal.proofs.Suited.{stays}
 
 -- Of maps of the blocks that an image means, of which nothing is pending, a block is that of the image.
-contents_meant : (blocks : List (List ℕ)) (b : ℕ) → contents (fresh blocks) b ≡ block_in blocks b
+pub contents_meant : (blocks : List (List ℕ)) (b : ℕ) → contents (fresh blocks) b ≡ block_in blocks b
 contents_meant blocks b = ap (λ (p : Option (List ℕ)). unwrap_or p (block_in blocks b)) (at_none blocks b)
 
 module _ {D : Type 0} (G : Ghosts D) where
@@ -70,19 +70,35 @@ pub both_ok : {T E : Type 0} (r : Result T E) (A B C : T → Type 0) → ((t : T
 both_ok (Ok t) A B C f a b = f t a b
 both_ok (Err e) A B C f a b = tt
 
--- A block was listed, on the file that was opened for writing, or, as Shown says, on the one that was opened for reading where that was refused.
-pub list_done : {D T : Type 0} (G : Ghosts D) (Shown : Type 0) (file : Result D FileFault) (r : Result T Failure)
-    (opened : D → Type 0) (b : ℕ) (written written' : Option (List ℕ)) → IfOk file opened
-    → IfOk file (λ disk. OnOk r (DoneOn G (λ device. device ≡ disk) (ListsBlock G b written written')))
-    → IfErr file (λ fault. fault ≡ Cannot → OnOk r Shown)
-    → IfErr file (λ fault. fault ≢ Cannot → r ≡ Err (of_file fault))
-    → OnOk r (DoneOn G opened (ListsBlock G b written written') ⊎ Shown)
-list_done G Shown (Ok disk) (Ok t) opened b written written' is listed looks refused =
-    inl (listed.0, (disk, is, subst (λ device. ListsBlock G b written written' device listed.0) listed.1.1 listed.1.2))
-list_done G Shown (Ok disk) (Err e) opened b written written' is listed looks refused = tt
-list_done G Shown (Err Cannot) (Ok t) opened b written written' is listed looks refused = inr (looks refl)
-list_done G Shown (Err Exists) (Ok t) opened b written written' is listed looks refused =
-    let told = refused (λ e. cc) in absurd cc
-list_done G Shown (Err InUse) (Ok t) opened b written written' is listed looks refused =
-    let told = refused (λ e. cc) in absurd cc
-list_done G Shown (Err fault) (Err e) opened b written written' is listed looks refused = tt
+-- What P says was done on the file that was opened for writing, or on the one that was opened for reading what Shown says.
+module _ {D T : Type 0} (G : Ghosts D) (Shown : Type 0) (file : Result D FileFault) (r : Result T Failure) (opened : D → Type 0) where
+  either_done : (P : D → D → Type 0) → IfOk file opened → IfOk file (λ disk. OnOk r (DoneOn G (λ device. device ≡ disk) P))
+      → IfErr file (λ fault. OnOk r Shown) → OnOk r (DoneOn G opened P ⊎ Shown)
+  either_done P = go file r
+    where
+      go : (file : Result D FileFault) (r : Result T Failure) → IfOk file opened → IfOk file (λ disk. OnOk r (DoneOn G (λ device. device ≡ disk) P))
+          → IfErr file (λ fault. OnOk r Shown) → OnOk r (DoneOn G opened P ⊎ Shown)
+      go (Ok disk) (Ok t) is done looks = inl (done.0, (disk, is, subst (λ device. P device done.0) done.1.1 done.1.2))
+      go (Ok disk) (Err e) is done looks = tt
+      go (Err fault) (Ok t) is done looks = inr looks
+      go (Err fault) (Err e) is done looks = tt
+
+  pub list_done : (b : ℕ) (written written' : Option (List ℕ)) → IfOk file opened
+      → IfOk file (λ disk. OnOk r (DoneOn G (λ device. device ≡ disk) (ListsBlock G b written written')))
+      → IfErr file (λ fault. OnOk r Shown) → OnOk r (DoneOn G opened (ListsBlock G b written written') ⊎ Shown)
+  list_done b written written' = either_done (ListsBlock G b written written')
+
+  pub export_done : (form : Form) (first last : ℕ) (written written' : Option (List ℕ)) → IfOk file opened
+      → IfOk file (λ disk. OnOk r (DoneOn G (λ device. device ≡ disk) (Exports G form first last written written')))
+      → IfErr file (λ fault. OnOk r Shown) → OnOk r (DoneOn G opened (Exports G form first last written written') ⊎ Shown)
+  export_done form first last written written' = either_done (Exports G form first last written written')
+
+-- A block was shown of a file that was opened.
+pub shown_of : {D : Type 0} (G : Ghosts D) (file : Result D FileFault) (r : Result D Failure) (opened : D → Type 0) (b : ℕ)
+    (written written' : Option (List ℕ)) → IfOk file opened
+    → IfOk file (λ disk. IfOk r (λ after. ShowsImage G b written written' disk after))
+    → IfErr file (λ fault. r ≡ Err (of_file fault)) → IfOk r (λ after. Comes G opened (ShowsImage G b written written') after)
+shown_of G (Ok disk) (Ok after) opened b written written' is shows refused = (disk, is, shows)
+shown_of G (Ok disk) (Err e) opened b written written' is shows refused = tt
+shown_of G (Err fault) (Ok after) opened b written written' is shows refused = absurd (cc)
+shown_of G (Err fault) (Err e) opened b written written' is shows refused = tt

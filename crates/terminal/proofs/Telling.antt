@@ -1,11 +1,12 @@
 -- What is told of a file, and the blocks for which there is room.
-use Rattle.std.proofs.Common.{◌≡◌, ◌∙◌, ◌++◌, ◌∷◌, ◌-◌, ◌+◌, ◌≤◌, ◌<◌, [], ℕ, Bool, true, false, List, length, Option, Some, None, nat_lt, refl, sym, subst, ap, arith, append_assoc}
+use Rattle.std.proofs.Common.{◌≡◌, ◌∙◌, ◌++◌, ◌∷◌, ◌-◌, ◌+◌, ◌≤◌, ◌<◌, [], ℕ, Bool, true, false, List, length, Option, Some, None, nat_lt, ◌%◌, replicate, length-append, refl, sym, subst, ap, arith, append_assoc}
 use Rattle.std.proofs.lemmas.Bool.{ltb-false}
+use Rattle.std.proofs.lemmas.List.{length-replicate}
 use Rattle.terminal.specs.declared.findings.Finding.{Finding}
 use Rattle.terminal.specs.declared.failure.Failure.{Failure}
 use Rattle.command_line.specs.declared.orders.Form.{Form}
 use Rattle.command_line.specs.declared.orders.Form.TheVariants.{Text, Raw}
-use Rattle.terminal.specs.Findings.{all_rows, blocks_for, failure_of, findings, first_of, of_form, place, refusal, row_findings, said, told, unplaced, when}
+use Rattle.terminal.specs.Findings.{AreSound, all_rows, blocks_for, failure_of, findings, first_of, in_blocks, of_form, place, refusal, row_findings, said, said_all, told, unplaced, when}
 use Rattle.terminal.specs.Screen.{row, texts_of}
 
 -- nothing of what comes later is refused either
@@ -26,14 +27,34 @@ placed form room n none = go form (nat_lt room (blocks_for n)) refl none
     go Text true e none = cc
     go Raw true e none = cc
 
+-- what a file says has its place
+pub room_in : (form : Form) (room : ℕ) (bytes : List ℕ) → (file : List ℕ) × (refusal (told form room file) ≡ None) × (bytes ≡ said form file) → blocks_for (length bytes) ≤ room
+room_in form room bytes read =
+    subst (λ (l : List ℕ). blocks_for (length l) ≤ room) (sym read.2)
+    (placed form room (length (said form read.0)) (refusal_after (of_form form read.0) (place form room (length (said form read.0))) read.1))
+
+-- whole blocks and then others
+pub blocks_for-more : (n m : ℕ) → blocks_for ((n + (1024 - n % 1024) % 1024) + m) ≡ blocks_for n + blocks_for m
+blocks_for-more n m = omega arith
+
+-- so many blocks are enough for all that is said
+pub room_for_all : (form : Form) (room : ℕ) (files : List (List ℕ)) → AreSound form room files → blocks_for (length (said_all form files)) ≤ room
+room_for_all form room [] sound = omega arith
+room_for_all form room (file ∷ files) sound =
+    let bytes = said form file in
+    let fits = room_in form room bytes (file, sound.0, refl) in
+    let rest = room_for_all form (room - blocks_for (length bytes)) files sound.1 in
+    let long : length (in_blocks bytes ++ said_all form files) ≡ (length bytes + (1024 - length bytes % 1024) % 1024) + length (said_all form files) =
+    length-append (in_blocks bytes) (said_all form files)
+    ∙ ap (λ k. k + length (said_all form files)) (length-append bytes (replicate ((1024 - length bytes % 1024) % 1024) 32) ∙ ap (λ k. length bytes + k) (length-replicate ((1024 - length bytes % 1024) % 1024) 32)) in
+    let count = ap blocks_for long ∙ blocks_for-more (length bytes) (length (said_all form files)) in
+    omega (arith, fits, rest, count)
+
 -- what is said has its place behind the blocks before it
-pub room_for : (form : Form) (blocks first : ℕ) (bytes : List ℕ) → first < blocks
-    → (file : List ℕ) × (refusal (told form (blocks - first) file) ≡ None) × (bytes ≡ said form file) → first + blocks_for (length bytes) ≤ blocks
-room_for form blocks first bytes below read =
-    let fits : blocks_for (length (said form read.0)) ≤ blocks - first =
-    placed form (blocks - first) (length (said form read.0))
-    (refusal_after (of_form form read.0) (place form (blocks - first) (length (said form read.0))) read.1) in
-    let few : blocks_for (length bytes) ≤ blocks - first = subst (λ (l : List ℕ). blocks_for (length l) ≤ blocks - first) (sym read.2) fits in
+pub room_for : (form : Form) (blocks first : ℕ) (bytes : List ℕ) (count : ℕ) → first < blocks
+    → (files : List (List ℕ)) × (length files ≡ count) × AreSound form (blocks - first) files × (bytes ≡ said_all form files) → first + blocks_for (length bytes) ≤ blocks
+room_for form blocks first bytes count below read =
+    let few : blocks_for (length bytes) ≤ blocks - first = subst (λ (l : List ℕ). blocks_for (length l) ≤ blocks - first) (sym read.3) (room_for_all form (blocks - first) read.0 read.2) in
     omega (arith, below, few)
 
 -- one line more

@@ -1,11 +1,12 @@
--- What `copy`, `salvage` and `list` do of an image that is only read, by the layout that its size tells.
+-- What `copy`, `salvage`, `list` and `export` do of an image that is only read, by the layout that its size tells.
 use Rattle.std.specs.Prelude.{◌⊎◌, ℕ, List, Option}
 use Rattle.sector_disk.specs.declared.device.SectorDevice.{Ghosts}
 use Rattle.terminal.specs.Checked.{layout_by_size}
 use Rattle.terminal.specs.Copying.{MakesCopy, MakesSalvage}
-use Rattle.terminal.specs.Done.{DoneOn, ListsBlock}
+use Rattle.terminal.specs.Done.{DoneOn, Exports, ListsBlock}
 use Rattle.terminal.specs.NewerCare.{MakesNewerCopy, MakesNewerSalvage}
-use Rattle.terminal.specs.Shown.{ShowsImage}
+use Rattle.terminal.specs.Shown.{ShowsBlocks, ShowsImage}
+use Rattle.command_line.specs.declared.orders.Form.{Form}
 use Rattle.command_line.specs.declared.orders.Layout.{Layout}
 use Rattle.command_line.specs.declared.orders.Layout.TheVariants.{Two, Three}
 
@@ -53,3 +54,9 @@ abbrev pub ListDone : {D E : Type 0} (G : Ghosts D) (L : Ghosts E) (opened : D �
     (written written' : Option (List ℕ)) → Type 0
 ListDone G L opened looked b written written' =
     DoneOn G opened (ListsBlock G b written written') ⊎ DoneOn L looked (ShowsImage L b written written')
+
+-- Blocks were exported, in one of these ways.
+abbrev pub ExportDone : {D E : Type 0} (G : Ghosts D) (L : Ghosts E) (opened : D → Type 0) (looked : E → Type 0) (form : Form)
+    (first last : ℕ) (written written' : Option (List ℕ)) → Type 0
+ExportDone G L opened looked form first last written written' =
+    DoneOn G opened (Exports G form first last written written') ⊎ DoneOn L looked (ShowsBlocks L form first last written written')

@@ -1,5 +1,5 @@
 -- What a command over images does, on any device: from the device that it opens or makes to what that has become.
-use Rattle.std.specs.Prelude.{◌≡◌, ◌⊎◌, ◌+◌, ◌-◌, ◌*◌, ◌<◌, ◌≤◌, ℕ, false, IsTrue, List, length, Option, Some, None}
+use Rattle.std.specs.Prelude.{◌≡◌, ◌⊎◌, ◌+◌, ◌-◌, ◌*◌, ◌<◌, ◌≤◌, ℕ, false, IsTrue, List, length, Option, Some}
 use Rattle.std.specs.Io.KnownBytes.{Appends}
 use Rattle.sector_disk.specs.Disk.{Image, MayLeave}
 use Rattle.sector_disk.specs.declared.device.SectorDevice.{Ghosts}
@@ -17,7 +17,7 @@ use Rattle.interpreter.specs.State.{Forth}
 use Rattle.interpreter.specs.Lines.{new_forth}
 use Rattle.interpreter.specs.Promise.{Keeps}
 use Rattle.command_line.specs.declared.orders.Form.{Form}
-use Rattle.terminal.specs.Findings.{blocks_for, refusal, said, told}
+use Rattle.terminal.specs.Findings.{AreSound, blocks_for, said_all}
 use Rattle.terminal.specs.Older as older
 use Rattle.terminal.specs.Screen.{listing, screen_of}
 use Rattle.terminal.specs.Transfer.{as_blocks, exports, spilled_from}
@@ -135,27 +135,30 @@ module _ {D : Type 0} (G : Ghosts D) where
     pub begins : BeginsAtMost G begun after 0 0
     pub reads : ReadsAtMost G begun after (2 * (last + 1 - first))
 
-  -- `import`: a recovery, and the blocks that some file says, of which nothing is refused, were made those from the first on, in
-  -- one save, and no other block was changed.
-  pub record ImportsBlocks (form : Form) (first : ℕ) (device after : D) : Type 0 where
+  -- `import`: a recovery, and the blocks that so many files say, of which nothing is refused, were made those from the first on,
+  -- in one save, and no other block was changed. Each file begins a block.
+  pub record ImportsBlocks (form : Form) (first count : ℕ) (device after : D) : Type 0 where
     pub begun : D
     pub recovers : Recovers device begun
     pub goes : Becomes G begun after
-    pub file : List ℕ
-    pub sound : refusal (told form (blocks_on device - first) file) ≡ None
+    pub files : List (List ℕ)
+    pub each : length files ≡ count
+    pub sound : AreSound form (blocks_on device - first) files
     pub below : first < blocks_on device
-    pub there : first + blocks_for (length (said form file)) ≤ blocks_on device
-    pub saves : IsTrue (suits G device) → SavesBlocks (maps_on device) first (as_blocks (said form file)) begun after
-    pub begins : BeginsAtMost G begun after (4 * blocks_for (length (said form file)) + 3) 4
-    pub reads : ReadsAtMost G begun after (4 * blocks_for (length (said form file)))
+    pub there : first + blocks_for (length (said_all form files)) ≤ blocks_on device
+    pub saves : IsTrue (suits G device) → SavesBlocks (maps_on device) first (as_blocks (said_all form files)) begun after
+    pub begins : BeginsAtMost G begun after (4 * blocks_for (length (said_all form files)) + 3) 4
+    pub reads : ReadsAtMost G begun after (4 * blocks_for (length (said_all form files)))
 
-  -- `import --check`: nothing is refused of some file, for which there are blocks from the first on. No call of the device was made.
-  pub record LooksAt (form : Form) (first : ℕ) (device after : D) : Type 0 where
+  -- `import --check`: nothing is refused of so many files, for which there are blocks from the first on. No call of the device was
+  -- made.
+  pub record LooksAt (form : Form) (first count : ℕ) (device after : D) : Type 0 where
     pub same : after ≡ device
-    pub file : List ℕ
-    pub sound : refusal (told form (blocks_on device - first) file) ≡ None
+    pub files : List (List ℕ)
+    pub each : length files ≡ count
+    pub sound : AreSound form (blocks_on device - first) files
     pub below : first < blocks_on device
-    pub there : first + blocks_for (length (said form file)) ≤ blocks_on device
+    pub there : first + blocks_for (length (said_all form files)) ≤ blocks_on device
 
   -- `upgrade`: the one device has become an image of layout 2 of the blocks that the image of layout 1 on the other means. That one
   -- was recovered, and means the same.

@@ -1,5 +1,5 @@
 -- The exit status of a failure, and the failure that a fault is told as.
-use Rattle.std.specs.Prelude.{ℕ}
+use Rattle.std.specs.Prelude.{ℕ, Option, Some, None, Result, Ok, Err}
 use Rattle.sector_disk.specs.declared.opening.FileFault.{FileFault}
 use Rattle.sector_disk.specs.declared.opening.FileFault.TheVariants as file
 use Rattle.journal.specs.declared.store.StoreFault.{StoreFault}
@@ -8,13 +8,15 @@ use Rattle.recovery.specs.declared.fault.OpenFault.TheVariants as image
 use Rattle.recovery.specs.declared.fault.UpgradeFault.{UpgradeFault}
 use Rattle.recovery.specs.declared.fault.UpgradeFault.TheVariants.{Old, New}
 use Rattle.terminal.specs.declared.failure.Failure.{Failure}
-use Rattle.terminal.specs.declared.failure.Failure.TheVariants.{BadSize, NoLabel, OtherVersion, WrongCount, Damaged, Device, Exists, CannotOpen, InUse, NoBlock, CannotRead, NotAScreen, CannotWrite, NoMemory}
+use Rattle.terminal.specs.declared.failure.Failure.TheVariants.{BadSize, NoLabel, OtherVersion, WrongCount, Damaged, Device, Exists, CannotOpen, InUse, NoBlock, CannotRead, NotAScreen, CannotWrite, NoMemory, Stopped}
 use Rattle.image_care.specs.declared.all_blocks.ReadFault.{ReadFault}
 use Rattle.image_care.specs.declared.all_blocks.ReadFault.TheVariants as reading
+use Rattle.sessions.specs.declared.run_end.RunEnd.{RunEnd}
+use Rattle.sessions.specs.declared.run_end.RunEnd.TheVariants as by
 use Rattle.sessions.specs.declared.run_fault.RunFault.{RunFault}
 use Rattle.sessions.specs.declared.run_fault.RunFault.TheVariants.{Read, Write}
 
--- 3 where it lies with the image, 4 with input or output, 5 with memory
+-- 3 where it lies with the image, 4 with input or output, 5 with memory, 1 where a strict session stopped
 abbrev pub status_of : Failure → ℕ
 status_of BadSize = 3
 status_of NoLabel = 3
@@ -30,6 +32,7 @@ status_of CannotRead = 4
 status_of NotAScreen = 4
 status_of CannotWrite = 4
 status_of NoMemory = 5
+status_of Stopped = 1
 
 -- a fault of an image is told under its own name
 abbrev pub of_image : OpenFault → Failure
@@ -61,3 +64,9 @@ of_store fault = Device
 abbrev pub of_run : RunFault → Failure
 of_run Read = CannotRead
 of_run Write = CannotWrite
+
+-- what a session that ended so is told as: nothing where it came to the end of its input
+abbrev pub of_end : Result RunEnd RunFault → Option Failure
+of_end (Ok by.Input) = None
+of_end (Ok by.Fault) = Some Stopped
+of_end (Err fault) = Some (of_run fault)

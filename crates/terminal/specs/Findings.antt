@@ -1,5 +1,5 @@
 -- A file as blocks, and what is told of it.
-use Rattle.std.specs.Prelude.{ℕ, suc, ◌+◌, ◌*◌, ◌%◌, ◌/◌, ◌==◌, ◌&&◌, nat_le, nat_lt, not, if◌then◌else◌, Bool, false, List, [], ◌∷◌, ◌++◌, length, slice_index, Option, Some, None}
+use Rattle.std.specs.Prelude.{◌≡◌, ℕ, suc, ◌+◌, ◌-◌, ◌*◌, ◌%◌, ◌/◌, ◌==◌, ◌&&◌, nat_le, nat_lt, not, if◌then◌else◌, Bool, false, List, [], ◌∷◌, ◌++◌, length, replicate, slice_index, Option, Some, None, ⊤}
 use Rattle.std.specs.List.{list_all}
 use Rattle.terminal.specs.declared.failure.Failure.{Failure}
 use Rattle.terminal.specs.declared.failure.Failure.TheVariants as failure
@@ -82,3 +82,19 @@ first_of None next = next
 abbrev pub refusal : List Finding → Option Failure
 refusal [] = None
 refusal (finding ∷ found) = first_of (failure_of finding) (refusal found)
+
+-- ---- files, each of which begins a block
+
+-- bytes, and blanks up to the end of their last block
+abbrev pub in_blocks : List ℕ → List ℕ
+in_blocks bytes = bytes ++ replicate ((1024 - length bytes % 1024) % 1024) 32
+
+-- the bytes that files say
+abbrev pub said_all : Form → List (List ℕ) → List ℕ
+said_all form [] = []
+said_all form (file ∷ files) = in_blocks (said form file) ++ said_all form files
+
+-- nothing is refused of files, for which there are so many blocks: each has its place behind the one before it
+abbrev pub AreSound : Form → (room : ℕ) → List (List ℕ) → Type 0
+AreSound form room [] = ⊤
+AreSound form room (file ∷ files) = (refusal (told form room file) ≡ None) × AreSound form (room - blocks_for (length (said form file))) files

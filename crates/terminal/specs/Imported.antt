@@ -1,12 +1,12 @@
 -- Blocks of a store that were made those of a file.
-use Rattle.std.specs.Prelude.{◌≡◌, ◌⊎◌, ◌<◌, ◌≤◌, ◌+◌, ◌-◌, ◌*◌, ℕ, false, List, None, length}
+use Rattle.std.specs.Prelude.{◌≡◌, ◌⊎◌, ◌<◌, ◌≤◌, ◌+◌, ◌-◌, ◌*◌, ℕ, false, List, length}
 use Rattle.sector_disk.specs.declared.device.SectorDevice.{Ghosts}
 use Rattle.journal.specs.declared.store.Store.{Store}
 use Rattle.journal.specs.Calls.{StopsLeave}
 use Rattle.journal.specs.Maps.{Maps, committed, latest, spilled}
 use Rattle.journal.specs.Store.{DeviceBegins, DeviceReads, MeansBy, StandsFor, blocks_of, closed_of, device_of, pending_count}
 use Rattle.terminal.specs.Done.{SavesBlocks}
-use Rattle.terminal.specs.Findings.{blocks_for, refusal, said, told}
+use Rattle.terminal.specs.Findings.{AreSound, blocks_for, said_all}
 use Rattle.terminal.specs.Transfer.{as_blocks, spilled_from}
 use Rattle.command_line.specs.declared.orders.Form.{Form}
 
@@ -34,17 +34,18 @@ module _ {D : Type 0} {G : Ghosts D} where
     pub begins : DeviceBegins old new (2 * pending_count old + 4 * length blocks + 3) 4
     pub reads : DeviceReads old new (4 * pending_count old + 4 * length blocks)
 
-  -- The same of the blocks that some file says, of which nothing is refused.
-  pub record ImportsSome (form : Form) (b : ℕ) (old new : Store D G) : Type 0 where
-    pub file : List ℕ
-    pub sound : refusal (told form (blocks_of old - b) file) ≡ None
+  -- The same of the blocks that so many files say, of which nothing is refused.
+  pub record ImportsSome (form : Form) (b count : ℕ) (old new : Store D G) : Type 0 where
+    pub files : List (List ℕ)
+    pub each : length files ≡ count
+    pub sound : AreSound form (blocks_of old - b) files
     pub below : b < blocks_of old
-    pub there : b + blocks_for (length (said form file)) ≤ blocks_of old
-    pub imports : Imports b (as_blocks (said form file)) old new
+    pub there : b + blocks_for (length (said_all form files)) ≤ blocks_of old
+    pub imports : Imports b (as_blocks (said_all form files)) old new
 
-  -- A stop of an open store at any moment leaves the saved blocks, or these with all blocks that some such file says.
-  abbrev pub LeavesImported : (form : Form) (b : ℕ) (old new : Store D G) → Type 0
-  LeavesImported form b old new = (m : Maps) → StandsFor old m → m.closed ≡ false
+  -- A stop of an open store at any moment leaves the saved blocks, or these with all blocks that so many such files say.
+  abbrev pub LeavesImported : (form : Form) (b count : ℕ) (old new : Store D G) → Type 0
+  LeavesImported form b count old new = (m : Maps) → StandsFor old m → m.closed ≡ false
       → StopsLeave G (device_of old) (device_of new) (λ image. MeansBy old m.saved image
-      ⊎ ((file : List ℕ) × (refusal (told form (blocks_of old - b) file) ≡ None)
-      × MeansBy old (latest (spilled_from m b (as_blocks (said form file)))) image))
+      ⊎ ((files : List (List ℕ)) × (length files ≡ count) × AreSound form (blocks_of old - b) files
+      × MeansBy old (latest (spilled_from m b (as_blocks (said_all form files)))) image))

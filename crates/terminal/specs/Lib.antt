@@ -17,3 +17,4 @@ pub mod Putting
 pub mod Transfer
 pub mod Findings
 pub mod Imported
+pub mod Scripts

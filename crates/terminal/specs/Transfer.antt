@@ -1,10 +1,13 @@
 -- Many blocks at once: as they are exported, and as they are imported.
-use Rattle.std.specs.Prelude.{◌≡◌, ℕ, zero, suc, ◌-◌, List, [], ◌∷◌, ◌++◌, length, map, replicate, take, drop}
+use Rattle.std.specs.Prelude.{◌≡◌, ◌<◌, ℕ, zero, suc, ◌-◌, List, [], ◌∷◌, ◌++◌, length, map, replicate, take, drop}
+use Rattle.sector_disk.specs.Disk.{Image}
 use Rattle.sector_disk.specs.declared.device.SectorDevice.{Ghosts}
 use Rattle.cell_machine.specs.Effects.{trimmed}
 use Rattle.journal.specs.declared.store.Store.{Store}
 use Rattle.journal.specs.Maps.{Maps, contents, spilled}
 use Rattle.journal.specs.Store.{Continues, DeviceBegins, DeviceReads, KeepsSaved, StandsFor, closed_of}
+use Rattle.image_care.specs.View.{found_by}
+use Rattle.image_care.specs.declared.view.View.{View}
 use Rattle.command_line.specs.declared.orders.Form.{Form}
 use Rattle.command_line.specs.declared.orders.Form.TheVariants.{Text, Raw}
 use Rattle.terminal.specs.Findings.{blocks_for}
@@ -28,6 +31,10 @@ exported Raw block = block
 abbrev pub exports : Form → Maps → (b n : ℕ) → List ℕ
 exports form m b zero = []
 exports form m b (suc n) = exported form (contents m b) ++ exports form m (suc b) n
+
+-- What a look has found of each block of the image are the blocks of these maps.
+abbrev pub IsFound : View → Image → Maps → Type 0
+IsFound view image m = (b : ℕ) → b < view.blocks.number → found_by view image b ≡ contents m b
 
 -- a block that begins with these bytes; blanks fill it up
 abbrev pub block_of : List ℕ → List ℕ

@@ -1,11 +1,14 @@
 //! What a person at a terminal is told besides: how a session is left, and which file a failure is about. It goes to
 //! standard error, and only where that is a terminal, so a script reads nothing of it.
+ghost use Rattle.std.specs.Prelude.{◌<◌, IfSome};
 
+use super::importing::MOST_BYTES;
 use command_line::order;
-use command_line::orders::Order;
+use command_line::orders::{Order, Script};
 use std::convert::AsStr;
 use std::fs::{self, File, Files, OpenOptions};
 use std::io::{ErrorKind, Read, Write};
+use stores::blocks_of_size;
 
 /// How many bytes of a file are looked at to tell whether it is a text.
 const BEGINNING: usize = 512;
@@ -24,31 +27,35 @@ enum Cause {
     Text,
     /// It is there, and no image has so few bytes.
     Short(u64),
+    /// It is there, and no text for an image has so many bytes.
+    Long(u64),
 }
 
-/// Tells once, before a session that these words ask for, over what it runs and how it is left.
+/// Tells once, before a session that these words ask for, over what it runs and how it is left. Answers whether they
+/// ask for one whose lines are those of the input.
 pub(super) fn greet<S: AsStr, E: Write>(
     rt: &(impl Files<File = File> + AllocGlobal),
     words: &[S],
     errors: &mut E,
-) {
+) -> bool {
     match order(rt.alloc(), words) {
-        Ok(asked) => greet_over(rt, asked, errors),
-        Err(_) => {}
+        Ok(asked) => greet_over(rt, &asked, errors),
+        Err(_) => false,
     }
 }
 
-/// Tells over what an order runs its lines, and how the session is left.
-fn greet_over<E: Write>(rt: &impl Files<File = File>, asked: Order<'_>, errors: &mut E) {
+/// Tells over what an order runs the lines of the input, and how the session is left. Answers whether it runs them.
+fn greet_over<E: Write>(rt: &impl Files<File = File>, asked: &Order<'_>, errors: &mut E) -> bool {
     let over = match asked {
         Order::Memory => "32 blocks in memory, which are not kept",
-        Order::Run(path, _) | Order::Trace(path, _) if is_file(rt, path) => path,
-        _ => return,
+        Order::Run(path, _, script) if script.files.is_empty() && is_file(rt, *path) => *path,
+        _ => return false,
     };
     let _ = writeln!(
         errors,
-        "forth83 over {over}. Words are in capital letters; Ctrl-D ends the session."
+        "forth83 0.1.0 over {over}. Words are in capital letters; Ctrl-D ends the session."
     );
+    true
 }
 
 /// Tells after a failure of this status which file it was about, of those that these words name, and what is wrong with
@@ -60,43 +67,49 @@ pub(super) fn advise<S: AsStr, E: Write>(
     errors: &mut E,
 ) {
     match order(rt.alloc(), words) {
-        Ok(asked) => advise_on(rt, asked, status, errors),
+        Ok(asked) => advise_on(rt, &asked, status, errors),
         Err(_) => {}
     }
 }
 
 /// Tells after a failure of an order which file it was about, by the status, and what is wrong with that.
-fn advise_on<E: Write>(rt: &impl Files<File = File>, asked: Order<'_>, status: u8, errors: &mut E) {
+fn advise_on<E: Write>(
+    rt: &impl Files<File = File>,
+    asked: &Order<'_>,
+    status: u8,
+    errors: &mut E,
+) {
     match status {
         3 => tell_of_images(rt, asked, errors),
-        4 => tell_of_text(rt, asked, errors),
+        4 => tell_of_texts(rt, asked, errors),
         _ => {}
     }
 }
 
 /// Tells of the images of an order.
-fn tell_of_images<E: Write>(rt: &impl Files<File = File>, asked: Order<'_>, errors: &mut E) {
+fn tell_of_images<E: Write>(rt: &impl Files<File = File>, asked: &Order<'_>, errors: &mut E) {
     match asked {
         Order::Memory => {}
-        Order::New(path, _, _) => tell_of_new(rt, path, errors),
-        Order::Run(path, _)
-        | Order::Trace(path, _)
-        | Order::List(path, _)
-        | Order::Put(path, _, _)
-        | Order::Export(path, _, _, _)
-        | Order::Import(path, _, _, _)
-        | Order::CheckImport(path, _, _, _)
-        | Order::Check(path)
-        | Order::Digests(path) => tell_of_old(rt, path, is_written(asked), errors),
-        Order::Diff(old, new) => tell_of_two(rt, old, new, errors),
+        Order::New(path, _, _) => tell_of_new(rt, *path, errors),
+        Order::Run(path, _, _) | Order::Check(path) | Order::Digests(path) => {
+            tell_of_old(rt, *path, is_written(asked), errors)
+        }
+        Order::List(path, block)
+        | Order::Put(path, block, _)
+        | Order::Export(path, _, block, _)
+        | Order::Import(path, block, _, _)
+        | Order::CheckImport(path, block, _, _) => {
+            tell_of_block(rt, *path, *block, is_written(asked), errors)
+        }
+        Order::Diff(old, new) => tell_of_two(rt, *old, *new, errors),
         Order::Upgrade(old, new, _) | Order::Copy(old, new, _) | Order::Salvage(old, new, _) => {
-            tell_of_both(rt, old, new, is_written(asked), errors)
+            tell_of_both(rt, *old, *new, is_written(asked), errors)
         }
     }
 }
 
 /// Whether the image of an order is opened for writing too: one that is listed may be read alone.
-fn is_written(asked: Order<'_>) -> bool {
+fn is_written(asked: &Order<'_>) -> bool {
     !matches!(
         asked,
         Order::List(..)
@@ -136,6 +149,31 @@ fn tell_of_both<E: Write>(
     }
 }
 
+/// Tells of the file of an image of which this block was asked for: where it hasn't that, which blocks it has.
+fn tell_of_block<E: Write>(
+    rt: &impl Files<File = File>,
+    path: &str,
+    block: u16,
+    is_written: bool,
+    errors: &mut E,
+) {
+    match blocks_of_file(rt, path) {
+        Some(blocks) if blocks <= block && cause_of_image(rt, path, is_written).is_none() => {
+            let _ = writeln!(errors, "  {path}: its blocks are 0 to {}", blocks - 1);
+        }
+        _ => tell_of_old(rt, path, is_written, errors),
+    }
+}
+
+/// How many blocks an image has that is as long as a file.
+fn blocks_of_file(rt: &impl Files<File = File>, path: &str) -> Option<u16>
+    ensures { IfSome result (λ blocks. 0 < blocks) }
+{
+    let of = fs::metadata(rt, path).ok()?;
+    let sectors = u32::try_from(of.len() / 512).ok()?;
+    blocks_of_size(sectors)
+}
+
 /// Tells of the file of an image that was to be opened, for writing too or for reading alone.
 fn tell_of_old<E: Write>(
     rt: &impl Files<File = File>,
@@ -155,7 +193,7 @@ fn tell_of_old<E: Write>(
         Some(Cause::Short(bytes)) => {
             writeln!(errors, "  {path}: {bytes} bytes, fewer than an image has")
         }
-        None => writeln!(errors, "  {path}"),
+        Some(Cause::Long(_)) | None => writeln!(errors, "  {path}"),
     };
 }
 
@@ -168,20 +206,58 @@ fn tell_of_new<E: Write>(rt: &impl Files<File = File>, path: &str, errors: &mut 
     };
 }
 
-/// Tells of the text of an order.
-fn tell_of_text<E: Write>(rt: &impl Files<File = File>, asked: Order<'_>, errors: &mut E) {
-    let (Order::Put(_, _, path)
-    | Order::Import(_, _, path, _)
-    | Order::CheckImport(_, _, path, _)) = asked
-    else {
-        return;
-    };
-    let _ = match cause_of_file(rt, path) {
+/// Tells of the texts of an order: of the first that can be seen not to be readable, or of the only one.
+fn tell_of_texts<E: Write>(rt: &impl Files<File = File>, asked: &Order<'_>, errors: &mut E) {
+    match asked {
+        Order::Put(_, _, path) => tell_of_text(rt, *path, errors),
+        // (the status of a session is that of its output too)
+        Order::Run(_, _, Script { files, .. }) => tell_of_unreadable(rt, files.as_slice(), errors),
+        Order::Import(_, _, files, _) | Order::CheckImport(_, _, files, _) => {
+            tell_of_first(rt, files.as_slice(), errors)
+        }
+        _ => {}
+    }
+}
+
+/// Tells of the first of these files that can be seen not to be readable, or of the only one.
+fn tell_of_first<E: Write>(rt: &impl Files<File = File>, files: &[&str], errors: &mut E) {
+    match files {
+        [path] => tell_of_text(rt, *path, errors),
+        _ => tell_of_unreadable(rt, files, errors),
+    }
+}
+
+/// Tells of the first of these files that can be seen not to be readable.
+fn tell_of_unreadable<E: Write>(rt: &impl Files<File = File>, files: &[&str], errors: &mut E) {
+    for path in files {
+        if cause_of_text(rt, *path).is_some() {
+            return tell_of_text(rt, *path, errors);
+        }
+    }
+}
+
+/// Tells of a text.
+fn tell_of_text<E: Write>(rt: &impl Files<File = File>, path: &str, errors: &mut E) {
+    let _ = match cause_of_text(rt, path) {
         Some(Cause::Missing) => writeln!(errors, "  {path}: no such file"),
         Some(Cause::Folder) => writeln!(errors, "  {path}: a folder"),
         Some(Cause::NotReadable) => writeln!(errors, "  {path}: no right to read it"),
+        Some(Cause::Long(bytes)) => {
+            writeln!(errors, "  {path}: {bytes} bytes, more than a text may have")
+        }
         _ => writeln!(errors, "  {path}"),
     };
+}
+
+/// What keeps a file from being read as a text, if anything that can be seen does.
+fn cause_of_text(rt: &impl Files<File = File>, path: &str) -> Option<Cause> {
+    if let Some(cause) = cause_of_file(rt, path) {
+        return Some(cause);
+    }
+    match fs::metadata(rt, path) {
+        Ok(of) if of.is_file() && of.len() > MOST_BYTES as u64 => Some(Cause::Long(of.len())),
+        _ => None,
+    }
 }
 
 /// What keeps a file from being read, if anything does.

@@ -92,7 +92,11 @@ fn print_block<D: SectorDevice, W: Write>(
 }
 
 /// Prints the bytes of a block.
-fn print_bytes<W: Write>(bytes: &[u8; BLOCK], form: Form, output: &mut W) -> Result<(), Failure>
+pub(super) fn print_bytes<W: Write>(
+    bytes: &[u8; BLOCK],
+    form: Form,
+    output: &mut W,
+) -> Result<(), Failure>
     ensures ok { OnOk result (Appends (W.contents output.old) (W.contents output.new) (exported form bytes.now)) }
     ensures err { IfErr result (λ e. e ≡ Failure.CannotWrite) }
 {

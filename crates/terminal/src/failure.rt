@@ -40,13 +40,17 @@ pub enum Failure {
     CannotWrite,
     #[error("no memory")]
     NoMemory,
+    #[error("input: a fault ended a line")]
+    Stopped,
 }
 
 impl Failure {
-    /// The exit status: 3 where it lies with the image, 4 with input or output, 5 with memory.
+    /// The exit status: 3 where it lies with the image, 4 with input or output, 5 with memory, 1 where a strict session
+    /// stopped.
     pub fn status(self) -> u8
         ensures status { result ≡ status_of self }
-        ensures fails { 3 ≤ result }
+        ensures fails { 1 ≤ result }
+        ensures stopped { result ≡ 1 → self ≡ Failure.Stopped }
     {
         match self {
             Failure::BadSize
@@ -61,6 +65,7 @@ impl Failure {
             | Failure::NoBlock => 3,
             Failure::CannotRead | Failure::NotAScreen | Failure::CannotWrite => 4,
             Failure::NoMemory => 5,
+            Failure::Stopped => 1,
         }
     }
 }

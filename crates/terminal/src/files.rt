@@ -1,28 +1,23 @@
 //! The commands over images that are files of a system: each gives back what it has opened or made.
 //! Rule: MANUAL, Commands.
-ghost use Rattle.std.specs.Prelude.{◌≡◌, ◌≢◌, ◌⊎◌, ◌<◌, ◌≤◌, ◌+◌, ◌*◌, ◌↔◌, true, OnOk, IfOk, IfErr, IsErrOf};
+ghost use Rattle.std.specs.Prelude.{◌≡◌, ◌≢◌, ◌⊎◌, ◌<◌, ◌≤◌, ◌+◌, ◌*◌, ◌↔◌, length, true, OnOk, IfOk, IfErr, IsErrOf};
 ghost use Rattle.journal.specs.Layout.{sectors_for};
 ghost use Rattle.journal.specs.PageLayout as newer_layout;
 ghost use Rattle.journal.specs.Store.{Continues, DeviceBegins, DeviceFailed, DeviceReads, blocks_of, closed_of, device_of, pending_count};
-ghost use Rattle.terminal.specs.Done.{Comes, Exports, ImportsBlocks, LooksAt, MakesBlank, PutsBlock, RunsSession, Upgraded};
+ghost use Rattle.terminal.specs.Done.{Comes, ImportsBlocks, LooksAt, MakesBlank, PutsBlock, Upgraded};
 ghost use Rattle.terminal.specs.Files.{IsMade, IsOpened, OpensOn};
 ghost use Rattle.terminal.specs.Newer.{MakesNewer};
 ghost use Rattle.terminal.specs.Putting.{LeavesSome, PutsSome};
 
-use super::exporting::export_blocks;
 use super::failure::Failure;
 use super::images::{make_newer_over, make_over, open_over, put_text};
-use super::importing::{import_file, read_blocks};
-use super::program::run_session;
+use super::importing::{import_files, read_blocks};
 use command_line::orders::Form;
-use interpreter::promise::Lines;
 use journal::layout::MOST_BLOCKS_1;
 use recovery::upgrade;
 use sector_disk::{HostFile, HostFiles, SectorDevice, SectorFile, create_disk, open_disk};
-use sessions::Tracer;
-use std::alloc::Global;
 use std::fs::{File, Files};
-use std::io::{BufReader, Read, Write};
+use std::io::{BufReader, Write};
 use stores::{Store, blocks_of_size};
 
 /// Makes a file that is an image of blank blocks, 32 to 3,840, of layout 2. Its failures: `Exists` where something has
@@ -96,63 +91,13 @@ pub fn open_image<H: HostFile + Drop, O: HostFiles<H>>(
     ensures opened { IfOk result (λ store. OpensOn ⟦<SectorFile<H> as SectorDevice>⟧
         (IsOpened H.HostFile (O.opens files.now path.now)) store) }
     ensures well { IfOk result (λ store. ⟦<SectorFile<H> as SectorDevice>⟧.failures (device_of store) ≡ 0) }
+    // No session has begun that could stop.
+    ensures unstopped { IfErr result (λ e. e ≢ Failure.Stopped) }
 {
     let disk = open_disk(files, path)?;
     match open_over(disk) {
         Ok(store) => Ok(store),
         Err((failure, _)) => Err(failure),
-    }
-}
-
-/// Runs the input over an image, with at most `steps` steps a line, 1 or more. Its failures: those of `open_image`,
-/// then `NoMemory`, then `CannotRead` or `CannotWrite` where the input or the output failed.
-/// Rule: MANUAL, forth83 run IMAGE [--steps S] [--trace].
-pub fn run_image<
-    H: HostFile + Drop,
-    O: HostFiles<H>,
-    F: Lines<SectorFile<H>>,
-    R: Read,
-    W: Write,
-    T: Tracer,
->(
-    alloc: Global,
-    files: &O,
-    path: &str,
-    steps: u32,
-    input: &mut R,
-    output: &mut W,
-    tracer: &mut T,
-) -> Result<Store<SectorFile<H>>, Failure>
-    requires { 0 < steps }
-    ensures ran { IfOk result (λ store. Comes ⟦<SectorFile<H> as SectorDevice>⟧
-        (IsOpened H.HostFile (O.opens files.now path.now))
-        (RunsSession ⟦<SectorFile<H> as SectorDevice>⟧ steps (R.remaining input.old) (R.remaining input.new)
-        (W.contents output.old) (W.contents output.new)) (device_of store)) }
-{
-    let store = open_image(files, path)?;
-    run_session::<SectorFile<H>, F, R, W, T>(alloc, store, steps, input, output, tracer)
-}
-
-/// Prints the blocks of an image from the one to the other. Nothing is written to the image, but by its recovery. Its
-/// failures: those of `open_image`, then those of `export_blocks`.
-/// Rule: MANUAL, forth83 export IMAGE FIRST LAST [--raw].
-pub fn export_image<H: HostFile + Drop, O: HostFiles<H>, W: Write>(
-    files: &O,
-    path: &str,
-    first: u16,
-    last: u16,
-    form: Form,
-    output: &mut W,
-) -> Result<Store<SectorFile<H>>, Failure>
-    ensures exported { IfOk result (λ store. Comes ⟦<SectorFile<H> as SectorDevice>⟧
-        (IsOpened H.HostFile (O.opens files.now path.now))
-        (Exports ⟦<SectorFile<H> as SectorDevice>⟧ form first last (W.contents output.old) (W.contents output.new))
-        (device_of store)) }
-{
-    let mut store = open_image(files, path)?;
-    match export_blocks(&mut store, first, last, form, output) {
-        Ok(()) => Ok(store),
-        Err(failure) => Err(failure),
     }
 }
 
@@ -178,52 +123,52 @@ pub fn put_into_image<H: HostFile + Drop, O: HostFiles<H>>(
     }
 }
 
-/// Makes the blocks that a file says those of an image from `first` on, in one save. What keeps it from that is told in
-/// lines of `errors`, and then nothing is written to the image, but by its recovery. Its failures: those of
-/// `open_image`, then those of `import_file`.
-/// Rule: MANUAL, forth83 import IMAGE FIRST FILE [--raw] [--check].
+/// Makes the blocks that files say those of an image from `first` on, in one save. Each file begins a block. What
+/// keeps one from that is told in lines of `errors`, and then nothing is written to the image, but by its recovery.
+/// Its failures: those of `open_image`, then those of `import_files`.
+/// Rule: MANUAL, forth83 import IMAGE FIRST FILE .. [--raw] [--check].
 pub fn import_image<H: HostFile + Drop, O: HostFiles<H>, E: Write>(
     rt: &(impl Files<File = File> + AllocGlobal),
     files: &O,
     path: &str,
     first: u16,
-    source: &str,
+    sources: &[&str],
     form: Form,
     errors: &mut E,
 ) -> Result<Store<SectorFile<H>>, Failure>
     ensures imported { IfOk result (λ store. Comes ⟦<SectorFile<H> as SectorDevice>⟧
         (IsOpened H.HostFile (O.opens files.now path.now))
-        (ImportsBlocks ⟦<SectorFile<H> as SectorDevice>⟧ form first) (device_of store)) }
+        (ImportsBlocks ⟦<SectorFile<H> as SectorDevice>⟧ form first (length sources.now)) (device_of store)) }
 {
     let mut store = open_image(files, path)?;
-    match import_file(rt, &mut store, first, source, form, errors) {
+    match import_files(rt, &mut store, first, sources, form, errors) {
         Ok(()) => Ok(store),
         Err(failure) => Err(failure),
     }
 }
 
-/// Tells in lines of `errors` whatever is told of a file that would be imported. Of the image only the size is looked
-/// at, and no call of its device is made. Its failures: `CannotOpen` or `InUse` where the image can't be opened,
-/// `BadSize` where it has the size of none, then those of `read_blocks`.
-/// Rule: MANUAL, forth83 import IMAGE FIRST FILE [--raw] [--check].
+/// Tells in lines of `errors` whatever is told of files that would be imported, up to the first that is refused. Of
+/// the image only the size is looked at, and no call of its device is made. Its failures: `CannotOpen` or `InUse`
+/// where the image can't be opened, `BadSize` where it has the size of none, then those of `read_blocks`.
+/// Rule: MANUAL, forth83 import IMAGE FIRST FILE .. [--raw] [--check].
 pub fn check_import<H: HostFile + Drop, O: HostFiles<H>, E: Write>(
     rt: &(impl Files<File = File> + AllocGlobal),
     files: &O,
     path: &str,
     first: u16,
-    source: &str,
+    sources: &[&str],
     form: Form,
     errors: &mut E,
 ) -> Result<SectorFile<H>, Failure>
     ensures looked { IfOk result (λ disk. Comes ⟦<SectorFile<H> as SectorDevice>⟧
         (IsOpened H.HostFile (O.opens files.now path.now))
-        (LooksAt ⟦<SectorFile<H> as SectorDevice>⟧ form first) disk) }
+        (LooksAt ⟦<SectorFile<H> as SectorDevice>⟧ form first (length sources.now)) disk) }
 {
     let disk = open_disk(files, path)?;
     let Some(blocks) = blocks_of_size(disk.sectors()) else {
         return Err(Failure::BadSize);
     };
-    match read_blocks(rt, blocks, first, source, form, true, errors) {
+    match read_blocks(rt, blocks, first, sources, form, true, errors) {
         Ok(_) => Ok(disk),
         Err(failure) => Err(failure),
     }

@@ -1,5 +1,5 @@
 //! A file as blocks, and what is told of it.
-//! Rule: MANUAL, forth83 import IMAGE FIRST FILE [--raw] [--check].
+//! Rule: MANUAL, forth83 import IMAGE FIRST FILE .. [--raw] [--check].
 ghost use Rattle.std.specs.Prelude.{◌≡◌, ◌⊎◌, ◌==◌, ◌%◌, ◌&&◌, ◌++◌, ◌∷◌, [], false, not, length, map, replicate, Some, None, IfErr, IfOk, OnOk, MatchResult};
 ghost use Rattle.std.specs.List.{list_all};
 ghost use Rattle.sessions.specs.Cut.{blank_for_tab};
@@ -168,7 +168,7 @@ fn add_text(bytes: &mut Vec<u8>, text: &[u8]) -> Result<(), AllocError>
 }
 
 /// Adds so many blanks.
-fn add_blanks(bytes: &mut Vec<u8>, count: usize) -> Result<(), AllocError>
+pub(super) fn add_blanks(bytes: &mut Vec<u8>, count: usize) -> Result<(), AllocError>
     ensures { OnOk result (bytes.new.items ≡ bytes.old.items ++ replicate count 32) }
 {
     let mut left = count;
@@ -272,7 +272,7 @@ fn add_place(
 }
 
 /// How many blocks these bytes take.
-fn blocks_for(bytes: &[u8]) -> usize
+pub(super) fn blocks_for(bytes: &[u8]) -> usize
     ensures { result ≡ blocks_for (length bytes.now) }
 {
     (bytes.len() + (BLOCK - 1)) / BLOCK

@@ -96,6 +96,8 @@ pub fn open_over<D: SectorDevice + Drop>(device: D) -> Result<Store<D>, (Failure
     // A fault of the device is told just where one of its calls failed.
     ensures device { IfErr result (λ e. e.0 ≡ Failure.Device → D.failures e.1 ≡ count_up (D.failures device)) }
     ensures refused { IfErr result (λ e. e.0 ≢ Failure.Device → D.failures e.1 ≡ D.failures device) }
+    // No session has begun that could stop.
+    ensures unstopped { IfErr result (λ e. e.0 ≢ Failure.Stopped) }
 {
     match open(device) {
         Ok(store) => Ok(store),

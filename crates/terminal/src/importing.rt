@@ -1,68 +1,70 @@
 //! Many blocks at once, saved.
-//! Rule: MANUAL, forth83 import IMAGE FIRST FILE [--raw] [--check].
+//! Rule: MANUAL, forth83 import IMAGE FIRST FILE .. [--raw] [--check].
 ghost use Rattle.std.specs.Prelude.{◌≡◌, ◌≢◌, ◌⊎◌, ◌<◌, ◌≤◌, ◌+◌, ◌-◌, ◌*◌, ◌++◌, ℕ, List, Some, None, length, take, drop, replicate, true, false, OnOk, IfErr, IfOk, MatchResult, vec_len};
 ghost use Rattle.std.specs.Io.KnownBytes.{Consumes, IsAtEnd};
 ghost use Rattle.journal.specs.Calls.{StopsLeave};
 ghost use Rattle.journal.specs.Maps.{Maps, latest};
 ghost use Rattle.journal.specs.Store.{Continues, DeviceBegins, DeviceFailed, DeviceReads, DeviceWentWell, KeepsSaved, MeansBy, StandsFor, blocks_of, closed_of, device_of, pending_count};
-ghost use Rattle.terminal.specs.Findings.{blocks_for, refusal, said, told};
+ghost use Rattle.terminal.specs.Findings.{AreSound, blocks_for, in_blocks, refusal, said, said_all, told};
 ghost use Rattle.terminal.specs.Imported.{Imports, ImportsSome, LeavesImported, Spills, SpillsNext};
 ghost use Rattle.terminal.specs.Transfer.{as_blocks, block_of, spilled_from};
 
 use super::failure::Failure;
-use super::findings::{Finding, Screens, read_screens, refusal};
+use super::findings::{
+    Finding, Screens, add_blanks as add_more_blanks, blocks_for, read_screens, refusal,
+};
 use super::screen::{BLOCK, add_blanks};
 use arrayvec::ArrayVec;
 use command_line::orders::Form;
 use sector_disk::SectorDevice;
 use sessions::streams::read_byte;
-use std::alloc::Global;
+use std::alloc::{AllocError, Global};
 use std::fs::{File, Files};
 use std::io::{BufReader, Read, Write};
 use stores::Store;
 
 /// The bytes of the longest text for an image: 61,440 lines of 64 bytes, a carriage return and a line feed.
-const MOST_BYTES: usize = 4_055_040;
+pub(super) const MOST_BYTES: usize = 4_055_040;
 
-/// Makes the blocks that a file says those of a store from `first` on, in one save. What keeps it from that is told in
-/// lines of `errors`, and then nothing is written. Its failures: those of `read_blocks`, and `Device` where a call of
-/// the device failed, or the store is closed.
-pub fn import_file<D: SectorDevice, E: Write>(
+/// Makes the blocks that files say those of a store from `first` on, in one save. Each file begins a block. What
+/// keeps one from that is told in lines of `errors`, and then nothing is written. Its failures: those of
+/// `read_blocks`, and `Device` where a call of the device failed, or the store is closed.
+pub fn import_files<D: SectorDevice, E: Write>(
     rt: &(impl Files<File = File> + AllocGlobal),
     store: &mut Store<D>,
     first: u16,
-    path: &str,
+    paths: &[&str],
     form: Form,
     errors: &mut E,
 ) -> Result<(), Failure>
-    ensures imported { OnOk result (ImportsSome form first store.old store.new) }
-    ensures kept { LeavesImported form first store.old store.new }
+    ensures imported { OnOk result (ImportsSome form first (length paths.now) store.old store.new) }
+    ensures kept { LeavesImported form first (length paths.now) store.old store.new }
     ensures unread { IfErr result (λ e. e ≢ Failure.Device → store.new ≡ store.old) }
     ensures device { IfErr result (λ e. e ≡ Failure.Device
         → (closed_of store.old ≡ true) ⊎ DeviceFailed store.old store.new) }
     ensures continues { Continues store.old store.new }
 {
-    match read_blocks(rt, store.blocks(), first, path, form, false, errors) {
+    match read_blocks(rt, store.blocks(), first, paths, form, false, errors) {
         Ok(bytes) => import_bytes(store, first, bytes.as_slice()),
         Err(failure) => Err(failure),
     }
 }
 
-/// The bytes of the blocks that a file says, where it says some for which there are blocks from `first` on, of `blocks`
-/// in all. Its refusals are told in lines of `errors`, and with `all` whatever else is told of it. Its failures:
-/// `NoBlock` where `first` isn't there, `CannotRead` where the file can't be read, `NoMemory`, then that of the first
-/// refusal: `NotAScreen` or `NoBlock`.
+/// The bytes of the blocks that files say, each file from the beginning of one on, where there are blocks for them
+/// from `first` on, of `blocks` in all. The refusals of the first file that is refused are told in lines of `errors`,
+/// and with `all` whatever else is told of each. Its failures: `NoBlock` where `first` isn't there, `CannotRead`
+/// where a file can't be read, `NoMemory`, then that of the first refusal: `NotAScreen` or `NoBlock`.
 pub fn read_blocks<E: Write>(
     rt: &(impl Files<File = File> + AllocGlobal),
     blocks: u16,
     first: u16,
-    path: &str,
+    paths: &[&str],
     form: Form,
     all: bool,
     errors: &mut E,
 ) -> Result<Vec<u8>, Failure>
-    ensures said { IfOk result (λ bytes. (file : List ℕ) × (refusal (told form (blocks - first) file) ≡ None)
-        × (bytes.items ≡ said form file)) }
+    ensures said { IfOk result (λ bytes. (files : List (List ℕ)) × (length files ≡ length paths.now)
+        × AreSound form (blocks - first) files × (bytes.items ≡ said_all form files)) }
     ensures below { OnOk result (first < blocks) }
     ensures there { IfOk result (λ bytes. first + blocks_for (length bytes.items) ≤ blocks) }
     ensures only { IfErr result (λ e. e ≢ Failure.Device) }
@@ -70,9 +72,83 @@ pub fn read_blocks<E: Write>(
     if first >= blocks {
         return Err(Failure::NoBlock);
     }
+    let mut bytes = Vec::new(rt.alloc());
+    match add_files(rt, &mut bytes, blocks - first, paths, form, all, errors) {
+        Ok(()) => Ok(bytes),
+        Err(reason) => Err(reason),
+    }
+}
+
+/// Adds the bytes of the blocks that files say, for which so many blocks are there.
+fn add_files<E: Write>(
+    rt: &(impl Files<File = File> + AllocGlobal),
+    bytes: &mut Vec<u8>,
+    room: u16,
+    paths: &[&str],
+    form: Form,
+    all: bool,
+    errors: &mut E,
+) -> Result<(), Failure>
+    ensures added { OnOk result ((files : List (List ℕ)) × (length files ≡ length paths.now)
+        × AreSound form room files × (bytes.new.items ≡ bytes.old.items ++ said_all form files)) }
+    ensures only { IfErr result (λ e. e ≢ Failure.Device) }
+{
+    let mut left = room;
+    let mut rest = paths;
+    while let [path, others @ ..] = rest {
+        left = add_file(rt, bytes, left, *path, form, all, errors)?;
+        rest = others;
+    }
+    Ok(())
+}
+
+/// Adds the bytes of the blocks that a file says, for which so many blocks are there, and answers how many are left.
+fn add_file<E: Write>(
+    rt: &(impl Files<File = File> + AllocGlobal),
+    bytes: &mut Vec<u8>,
+    room: u16,
+    path: &str,
+    form: Form,
+    all: bool,
+    errors: &mut E,
+) -> Result<u16, Failure>
+    ensures added { IfOk result (λ left. (file : List ℕ) × (refusal (told form room file) ≡ None)
+        × (left ≡ room - blocks_for (length (said form file))) × (bytes.new.items ≡ bytes.old.items ++ in_blocks (said form file))) }
+    ensures only { IfErr result (λ e. e ≢ Failure.Device) }
+{
+    let said = read_file(rt, room, path, form, all, errors)?;
+    match add_in_blocks(bytes, said.as_slice()) {
+        Ok(()) => Ok(room - blocks_for(said.as_slice()) as u16),
+        Err(AllocError) => Err(Failure::NoMemory),
+    }
+}
+
+/// Adds bytes, and blanks up to the end of their last block.
+fn add_in_blocks(bytes: &mut Vec<u8>, said: &[u8]) -> Result<(), AllocError>
+    ensures { OnOk result (bytes.new.items ≡ bytes.old.items ++ in_blocks said.now) }
+{
+    bytes.extend_from_slice(said)?;
+    add_more_blanks(bytes, (BLOCK - said.len() % BLOCK) % BLOCK)
+}
+
+/// The bytes that a file says, where nothing of it is refused. Else its refusals are told, and with `all` whatever is
+/// told of it.
+fn read_file<E: Write>(
+    rt: &(impl Files<File = File> + AllocGlobal),
+    room: u16,
+    path: &str,
+    form: Form,
+    all: bool,
+    errors: &mut E,
+) -> Result<Vec<u8>, Failure>
+    ensures said { IfOk result (λ bytes. (file : List ℕ) × (refusal (told form room file) ≡ None)
+        × (bytes.items ≡ said form file)) }
+    ensures there { IfOk result (λ bytes. blocks_for (length bytes.items) ≤ room) }
+    ensures only { IfErr result (λ e. e ≢ Failure.Device) }
+{
     let file = File::open(rt, path).map_err(|_| Failure::CannotRead)?;
     let mut reader = BufReader::new(rt.alloc(), file).map_err(|_| Failure::NoMemory)?;
-    let screens = read_from(rt.alloc(), form, blocks - first, &mut reader)?;
+    let screens = read_from(rt.alloc(), form, room, &mut reader)?;
     tell(path, screens.found.as_slice(), all, errors);
     refusal(screens.found.as_slice())?;
     let Screens { bytes, .. } = screens;
@@ -100,7 +176,7 @@ fn read_from<R: Read>(
 }
 
 /// Reads to the end, or one byte more than the longest text for an image. Bytes are read one by one.
-fn read_all<R: Read>(alloc: Global, reader: &mut R) -> Result<Vec<u8>, Failure>
+pub(super) fn read_all<R: Read>(alloc: Global, reader: &mut R) -> Result<Vec<u8>, Failure>
     ensures given { IfOk result (λ file. Consumes (R.remaining reader.old) (R.remaining reader.new) file.items) }
     ensures whole { IfOk result (λ file. vec_len file ≤ 4055040 → IsAtEnd (R.remaining reader.new)) }
     ensures only { IfErr result (λ e. (e ≡ Failure.CannotRead) ⊎ (e ≡ Failure.NoMemory)) }

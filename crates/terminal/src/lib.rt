@@ -3,6 +3,7 @@
 
 pub use command_line::{order, orders};
 pub use failure::Failure;
+pub use input::{Input, Led};
 pub use program::{command, command_over};
 pub use starting::start;
 
@@ -13,18 +14,22 @@ mod comparing;
 mod copying;
 mod damage;
 mod digests;
+mod ending;
 mod exporting;
+mod exporting_images;
 mod failure;
 mod files;
 mod findings;
 mod hints;
 mod images;
 mod importing;
+mod input;
 mod layouts;
 mod newer_copying;
 mod newer_salvaging;
 mod newer_upgrading;
 mod program;
 mod screen;
+mod scripts;
 mod showing;
 mod starting;

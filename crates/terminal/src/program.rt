@@ -1,6 +1,6 @@
 //! The program: words, streams and files to an exit status.
 //! Rule: PROGRAM, Exit status and messages; MANUAL, Commands.
-ghost use Rattle.std.specs.Prelude.{◌≡◌, ◌≢◌, ◌⊎◌, ◌<◌, ◌≤◌, List, [], map, Err, IsOk, IsErr, IfOk, IfErr, IsErrOf, MatchResult, OnOk};
+ghost use Rattle.std.specs.Prelude.{◌≡◌, ◌≢◌, ◌⊎◌, ◌<◌, ◌≤◌, List, [], map, true, Err, IsOk, IsErr, IfOk, IfErr, IsErrOf, MatchResult, OnOk};
 ghost use Rattle.clap.specs.Words.{fault_of, kind_of};
 ghost use Rattle.journal.specs.Maps.{Maps};
 ghost use Rattle.journal.specs.Store.{StandsFor, device_of};
@@ -9,12 +9,13 @@ ghost use Rattle.interpreter.specs.State.{Forth as Abstract};
 ghost use Rattle.interpreter.specs.Lines.{new_forth};
 ghost use Rattle.sessions.specs.declared.run_fault.RunFault.{RunFault as AbstractFault};
 ghost use Rattle.command_line.specs.Commands.{IsInRange, forth83};
-ghost use Rattle.terminal.specs.OrderDone.{IsDone, OrderIsDone};
-ghost use Rattle.terminal.specs.Done.{RunsFrom};
+ghost use Rattle.terminal.specs.OrderDone.{IsDone, IsStopped, OrderIsDone, OrderIsStopped};
+ghost use Rattle.terminal.specs.Done.{DoneOn, RunsFrom};
 ghost use Rattle.sessions.specs.Devices.{Becomes};
 ghost use Rattle.terminal.specs.Failures.{status_of};
 ghost use Rattle.terminal.specs.Files.{IsMade, IsOpened};
 ghost use Rattle.terminal.specs.Newer.{NewDone, UpgradeDone};
+ghost use Rattle.terminal.specs.Scripts.{RunsScript, StopsScript, is_plain};
 ghost use Rattle.terminal.specs.InMemory.{AsksForNothing, IsForMemory, CompletesInMemory, BreaksInMemory, IsHelp};
 ghost use Rattle.sessions.specs.Sessions.{BreaksOff};
 
@@ -22,17 +23,20 @@ use super::checking::check_image;
 use super::comparing::compare_images;
 use super::copying::{copy_image, salvage_image};
 use super::digests::digest_image;
+use super::ending::conclude;
+use super::exporting_images::export_image;
 use super::failure::Failure;
 use super::files::{
-    check_import, export_image, import_image, make_image, make_newer_image, put_into_image,
-    run_image, upgrade_image,
+    check_import, import_image, make_image, make_newer_image, put_into_image, upgrade_image,
 };
+use super::input::Input;
 use super::newer_upgrading::upgrade_to_newer;
+use super::scripts::run_image;
 use super::showing::list_image;
 use clap::Error;
 use clap::error::ErrorKind;
 use command_line::order;
-use command_line::orders::{Layout, Order};
+use command_line::orders::{Layout, Order, Script};
 use image_care::ReadingFiles;
 use interpreter::Memory;
 use interpreter::promise::Lines;
@@ -51,12 +55,12 @@ const STEPS: u32 = 1_000_000;
 /// How many blocks there are in memory.
 const BLOCKS: u16 = 32;
 
-/// Does what the words ask for, of which the first is the name of the program, and answers the exit status: 0, 2 where
-/// the words are no command, 3 for a fault of the image, 4 where the input can't be read or the output can't be
-/// written, 5 where there is no memory. A fault is told in one line of `errors`. An image is run by a system `F`,
-/// blocks in memory by one `M`. Input is read byte by byte and a reply is written piece by piece, so both should be
-/// buffered.
-pub fn command<F: Lines<FileDisk>, M: Lines<MemoryDisk>, S: AsStr, R: Read, W: Write, E: Write>(
+/// Does what the words ask for, of which the first is the name of the program, and answers the exit status: 0, 1
+/// where a strict session stopped, 2 where the words are no command, 3 for a fault of the image, 4 where the input
+/// can't be read or the output can't be written, 5 where there is no memory. A fault is told in one line of `errors`.
+/// An image is run by a system `F`, blocks in memory by one `M`. Input is read byte by byte and a reply is written
+/// piece by piece, so both should be buffered.
+pub fn command<F: Lines<FileDisk>, M: Lines<MemoryDisk>, S: AsStr, R: Input, W: Write, E: Write>(
     rt: &(impl Files<File = File> + AllocGlobal),
     words: &[S],
     input: &mut R,
@@ -70,12 +74,16 @@ pub fn command<F: Lines<FileDisk>, M: Lines<MemoryDisk>, S: AsStr, R: Read, W: W
         (R.remaining input.old) (R.remaining input.new) (W.contents output.old) (W.contents output.new) }
 {
     let files = StdFiles::new(rt);
-    let looking = ReadingFiles::new(rt);
-    command_over::<_, _, _, _, F, M, S, R, W, E>(rt, &files, &looking, words, input, output, errors)
+    let looking = ReadingFiles::with_copies(rt);
+    let alone = ReadingFiles::new(rt);
+    command_over::<_, _, _, _, F, M, S, R, W, E>(
+        rt, &files, &looking, &alone, words, input, output, errors,
+    )
 }
 
 /// Does what the words ask for, and answers the exit status, as `command`, over the images of any system of files, and
-/// of one for those that are read alone. The text for `put` is a file of this one.
+/// of two for those that are read alone: `looking` may give what another program has open for writing, and `alone` is
+/// for a salvage, which is to have no such image. The text for `put` is a file of this one.
 pub fn command_over<
     H: HostFile + Drop,
     O: HostFiles<H>,
@@ -84,13 +92,14 @@ pub fn command_over<
     F: Lines<SectorFile<H>>,
     M: Lines<MemoryDisk>,
     S: AsStr,
-    R: Read,
+    R: Input,
     W: Write,
     E: Write,
 >(
     rt: &(impl Files<File = File> + AllocGlobal),
     files: &O,
     looking: &P,
+    alone: &P,
     words: &[S],
     input: &mut R,
     output: &mut W,
@@ -105,13 +114,18 @@ pub fn command_over<
     ensures done { fault_of forth83 (map S.text words.now) ≡ [] → result ≡ 0
         → OrderIsDone ⟦<SectorFile<H> as SectorDevice>⟧ ⟦<SectorFile<K> as SectorDevice>⟧ (map S.text words.now)
         (λ path. IsOpened H.HostFile (O.opens files.now path)) (λ path. IsMade H.HostFile (O.makes files.now path))
-        (λ path. IsOpened K.HostFile (P.opens looking.now path))
+        (λ path. IsOpened K.HostFile (P.opens looking.now path)) (λ path. IsOpened K.HostFile (P.opens alone.now path))
+        (R.remaining input.old) (R.remaining input.new) (W.contents output.old) (W.contents output.new) }
+    // Status 1 comes of `run` only where its script is strict: behind the first line that a fault ended.
+    ensures stopped { fault_of forth83 (map S.text words.now) ≡ [] → result ≡ 1
+        → OrderIsStopped ⟦<SectorFile<H> as SectorDevice>⟧ (map S.text words.now)
+        (λ path. IsOpened H.HostFile (O.opens files.now path))
         (R.remaining input.old) (R.remaining input.new) (W.contents output.old) (W.contents output.new) }
 {
     match order(rt.alloc(), words) {
         Ok(asked) => {
             let outcome = perform::<H, O, K, P, F, M, R, W, E>(
-                rt, files, looking, asked, input, output, errors,
+                rt, files, looking, alone, asked, input, output, errors,
             );
             told(outcome, errors)
         }
@@ -127,13 +141,14 @@ fn perform<
     P: HostFiles<K>,
     F: Lines<SectorFile<H>>,
     M: Lines<MemoryDisk>,
-    R: Read,
+    R: Input,
     W: Write,
     E: Write,
 >(
     rt: &(impl Files<File = File> + AllocGlobal),
     files: &O,
     looking: &P,
+    alone: &P,
     asked: Order<'_>,
     input: &mut R,
     output: &mut W,
@@ -147,44 +162,44 @@ fn perform<
         (R.remaining input.old) (R.remaining input.new) (W.contents output.old) (W.contents output.new)) }
     ensures done { OnOk result (IsDone ⟦<SectorFile<H> as SectorDevice>⟧ ⟦<SectorFile<K> as SectorDevice>⟧
         (λ path. IsOpened H.HostFile (O.opens files.now path)) (λ path. IsMade H.HostFile (O.makes files.now path))
-        (λ path. IsOpened K.HostFile (P.opens looking.now path)) asked.entry
+        (λ path. IsOpened K.HostFile (P.opens looking.now path)) (λ path. IsOpened K.HostFile (P.opens alone.now path)) asked.entry
         (R.remaining input.old) (R.remaining input.new) (W.contents output.old) (W.contents output.new)) }
+    ensures stopped { IsErrOf result Failure.Stopped → IsStopped ⟦<SectorFile<H> as SectorDevice>⟧
+        (λ path. IsOpened H.HostFile (O.opens files.now path)) asked.entry
+        (R.remaining input.old) (R.remaining input.new) (W.contents output.old) (W.contents output.new) }
 {
     match asked {
-        Order::Memory => run_in_memory::<M, R, W>(rt, input, output),
+        Order::Memory => run_in_memory::<M, R, W, Untraced>(rt, input, output, &mut Untraced),
         Order::New(path, blocks, layout) => make_by::<H, O>(files, path, blocks, layout),
-        Order::Run(path, steps) => closed(run_image::<H, O, F, R, W, Untraced>(
-            rt.alloc(),
-            files,
-            path,
-            steps,
-            input,
-            output,
-            &mut Untraced,
-        )),
-        Order::Trace(path, steps) => closed(run_image::<H, O, F, R, W, Traces<'_, E>>(
-            rt.alloc(),
-            files,
-            path,
-            steps,
-            input,
-            output,
-            &mut Traces::new(errors),
-        )),
+        Order::Run(path, steps, script) => run_by::<H, O, F, R, W, E>(
+            rt, files, path, steps, &script, input, output, errors,
+        ),
         Order::List(path, block) => {
             list_image::<H, O, K, P, W>(files, looking, path, block, output)
         }
         Order::Put(path, block, text) => {
             closed(put_into_image::<H, O>(rt, files, path, block, text))
         }
-        Order::Export(path, first, last, form) => closed(export_image::<H, O, W>(
-            files, path, first, last, form, output,
+        Order::Export(path, first, last, form) => export_image::<H, O, K, P, W>(
+            files, looking, path, first, last, form, output,
+        ),
+        Order::Import(path, first, sources, form) => closed(import_image::<H, O, E>(
+            rt,
+            files,
+            path,
+            first,
+            sources.as_slice(),
+            form,
+            errors,
         )),
-        Order::Import(path, first, source, form) => closed(import_image::<H, O, E>(
-            rt, files, path, first, source, form, errors,
-        )),
-        Order::CheckImport(path, first, source, form) => closed(check_import::<H, O, E>(
-            rt, files, path, first, source, form, errors,
+        Order::CheckImport(path, first, sources, form) => closed(check_import::<H, O, E>(
+            rt,
+            files,
+            path,
+            first,
+            sources.as_slice(),
+            form,
+            errors,
         )),
         Order::Check(path) => closed(check_image::<K, P, W>(rt.alloc(), looking, path, output)),
         Order::Digests(path) => closed(digest_image::<K, P, W>(rt.alloc(), looking, path, output)),
@@ -197,13 +212,69 @@ fn perform<
         }
         Order::Salvage(old, new, asked) => closed(salvage_image::<K, P, H, O, W>(
             rt.alloc(),
-            looking,
+            alone,
             files,
             old,
             new,
             asked,
             output,
         )),
+    }
+}
+
+/// Runs lines over an image. It tells of their faults where that is asked for, and at the end of changed blocks that
+/// were not saved, but nothing of the input alone.
+fn run_by<
+    H: HostFile + Drop,
+    O: HostFiles<H>,
+    F: Lines<SectorFile<H>>,
+    R: Input,
+    W: Write,
+    E: Write,
+>(
+    rt: &(impl Files<File = File> + AllocGlobal),
+    files: &O,
+    path: &str,
+    steps: u32,
+    script: &Script<'_>,
+    input: &mut R,
+    output: &mut W,
+    errors: &mut E,
+) -> Result<(), Failure>
+    requires { 0 < steps }
+    ensures done { OnOk result (DoneOn ⟦<SectorFile<H> as SectorDevice>⟧ (IsOpened H.HostFile (O.opens files.now path.now))
+        (RunsScript ⟦<SectorFile<H> as SectorDevice>⟧ steps script.now (R.remaining input.old) (R.remaining input.new)
+        (W.contents output.old) (W.contents output.new))) }
+    ensures stopped { IsErrOf result Failure.Stopped → DoneOn ⟦<SectorFile<H> as SectorDevice>⟧
+        (IsOpened H.HostFile (O.opens files.now path.now))
+        (StopsScript ⟦<SectorFile<H> as SectorDevice>⟧ steps script.now (R.remaining input.old) (R.remaining input.new)
+        (W.contents output.old) (W.contents output.new)) }
+    ensures silent { is_plain script.now ≡ true → errors.new ≡ errors.old }
+{
+    if script.is_traced {
+        let session = run_image::<H, O, F, R, W, Traces<'_, E>>(
+            rt,
+            files,
+            path,
+            steps,
+            script,
+            input,
+            output,
+            &mut Traces::from_line(errors, script.first_line()),
+        );
+        conclude(session, script, errors)
+    } else {
+        let session = run_image::<H, O, F, R, W, Untraced>(
+            rt,
+            files,
+            path,
+            steps,
+            script,
+            input,
+            output,
+            &mut Untraced,
+        );
+        conclude(session, script, errors)
     }
 }
 
@@ -251,11 +322,30 @@ pub(super) fn closed<T: Drop>(outcome: Result<T, Failure>) -> Result<(), Failure
     }
 }
 
-/// Runs the input over blocks in memory.
-fn run_in_memory<M: Lines<MemoryDisk>, R: Read, W: Write>(
+/// Runs the input over blocks in memory, as `command` does without one, and tells where each fault came, as `run` does
+/// with `--trace`. Answers the exit status.
+/// Rule: PROGRAM, Exit status and messages.
+pub(super) fn traced_in_memory<M: Lines<MemoryDisk>, R: Read, W: Write, E: Write>(
     rt: &impl AllocGlobal,
     input: &mut R,
     output: &mut W,
+    errors: &mut E,
+) -> u8
+    ensures well { result ≡ 0 → CompletesInMemory ⟦<MemoryDisk as SectorDevice>⟧
+        (R.remaining input.old) (R.remaining input.new) (W.contents output.old) (W.contents output.new) }
+    ensures broken { result ≡ 4 → BreaksInMemory ⟦<MemoryDisk as SectorDevice>⟧
+        (R.remaining input.old) (R.remaining input.new) (W.contents output.old) (W.contents output.new) }
+{
+    let end = run_in_memory::<M, R, W, Traces<'_, E>>(rt, input, output, &mut Traces::new(errors));
+    told(end, errors)
+}
+
+/// Runs the input over blocks in memory.
+fn run_in_memory<M: Lines<MemoryDisk>, R: Read, W: Write, T: Tracer>(
+    rt: &impl AllocGlobal,
+    input: &mut R,
+    output: &mut W,
+    tracer: &mut T,
 ) -> Result<(), Failure>
     ensures well { OnOk result (CompletesInMemory ⟦<MemoryDisk as SectorDevice>⟧
         (R.remaining input.old) (R.remaining input.new) (W.contents output.old) (W.contents output.new)) }
@@ -264,13 +354,13 @@ fn run_in_memory<M: Lines<MemoryDisk>, R: Read, W: Write>(
 {
     match MemoryDisk::new(rt.alloc(), 3 + 4 * BLOCKS as u32) {
         Ok(disk) => match format(disk, BLOCKS) {
-            Ok(store) => closed(run_session::<MemoryDisk, M, R, W, Untraced>(
+            Ok(store) => closed(run_session::<MemoryDisk, M, R, W, T>(
                 rt.alloc(),
                 store,
                 STEPS,
                 input,
                 output,
-                &mut Untraced,
+                tracer,
             )),
             Err((fault, _)) => Err(Failure::from(fault)),
         },
@@ -317,6 +407,7 @@ fn told<E: Write>(outcome: Result<(), Failure>, errors: &mut E) -> u8
     ensures well { result ≡ 0 → IsOk outcome }
     ensures broken { result ≡ 4 → IsErr outcome }
     ensures not_memory { result ≡ 4 → IfErr outcome (λ e. e ≢ Failure.NoMemory) }
+    ensures stopped { result ≡ 1 → IsErrOf outcome Failure.Stopped }
     ensures status { MatchResult outcome (λ _. result ≡ 0) (λ e. result ≡ status_of e) }
 {
     match outcome {
@@ -333,6 +424,7 @@ fn explain<W: Write, E: Write>(error: &Error, output: &mut W, errors: &mut E) ->
     ensures shown { result ≡ 0 → IsHelp (kind_of error.now) }
     ensures unshown { result ≡ 4 → IsHelp (kind_of error.now) }
     ensures refused { (result ≡ 2) ⊎ (result ≡ 5) ⊎ IsHelp (kind_of error.now) }
+    ensures unstopped { result ≢ 1 }
 {
     match error.kind() {
         ErrorKind::OutOfMemory => told(Err(Failure::NoMemory), errors),

@@ -1,4 +1,4 @@
-//! A block of an image is printed: of one whose file can't be opened for writing by reads alone.
+//! A block of an image is printed: of one whose file can't be opened for writing, or is in use, by reads alone.
 //! Rule: MANUAL, forth83 list IMAGE BLOCK.
 ghost use Rattle.std.specs.Prelude.{◌≡◌, ◌≢◌, ◌⊎◌, ◌<◌, ◌≤◌, ◌+◌, Some, None, IsTrue, IfErr, IfOk, MatchBool, MatchResult, OnOk, Err};
 ghost use Rattle.sector_disk.specs.Counting.{count_up};
@@ -22,8 +22,8 @@ use sector_disk::{FileFault, HostFile, HostFiles, SectorDevice, SectorFile, open
 use std::io::Write;
 
 /// Prints a block of an image: after its recovery where its file can be opened for writing, and by reads alone where it
-/// can't. What was opened is closed. Its failures: `InUse`, or `CannotOpen` where it can't be opened for reading
-/// either, then those of `list_over` or `show_over`.
+/// can't, or is in use. What was opened is closed. Its failures: `InUse` or `CannotOpen` where it can't be opened for
+/// reading either, then those of `list_over` or `show_over`.
 pub fn list_image<
     H: HostFile + Drop,
     O: HostFiles<H>,
@@ -38,9 +38,9 @@ pub fn list_image<
     list_opened::<H, K, P, W>(open_disk(files, path), looking, path, block, output)
 }
 
-/// Prints a block of an image, as `list_image`, once its file was opened for writing or wasn't: it is opened for
-/// reading only where the system refused that. Its failures: `InUse`, or `CannotOpen` where it can't be opened for
-/// reading either, then those of `list_over` or `show_over`.
+/// Prints a block of an image, as `list_image`, once its file was opened for writing or wasn't: only where it wasn't it
+/// is opened for reading. Its failures: `InUse` or `CannotOpen` where it can't be opened for reading either, then those
+/// of `list_over` or `show_over`.
 pub fn list_opened<H: HostFile + Drop, K: HostFile + Drop, P: HostFiles<K>, W: Write>(
     opened: Result<SectorFile<H>, FileFault>,
     looking: &P,
@@ -51,17 +51,14 @@ pub fn list_opened<H: HostFile + Drop, K: HostFile + Drop, P: HostFiles<K>, W: W
     // The image on the file that could be opened for writing was recovered, and listed.
     ensures listed { IfOk opened (λ disk. OnOk result (DoneOn ⟦<SectorFile<H> as SectorDevice>⟧ (λ device. device ≡ disk)
         (ListsBlock ⟦<SectorFile<H> as SectorDevice>⟧ block (W.contents output.old) (W.contents output.new)))) }
-    ensures shown { IfErr opened (λ fault. fault ≡ FileFault.Cannot → OnOk result (DoneOn ⟦<SectorFile<K> as SectorDevice>⟧
+    // That on one that couldn't was looked at, and shown.
+    ensures shown { IfErr opened (λ _. OnOk result (DoneOn ⟦<SectorFile<K> as SectorDevice>⟧
         (IsOpened K.HostFile (P.opens looking.now path.now))
         (ShowsImage ⟦<SectorFile<K> as SectorDevice>⟧ block (W.contents output.old) (W.contents output.new)))) }
-    // A file that is in use stays so: it isn't listed at all.
-    ensures refused { IfErr opened (λ fault. fault ≢ FileFault.Cannot → result ≡ Err (of_file fault)) }
-    ensures silent { IfErr opened (λ fault. fault ≢ FileFault.Cannot → output.new ≡ output.old) }
 {
     match opened {
         Ok(disk) => closed(list_over(disk, block, output)),
-        Err(FileFault::Cannot) => closed(show_image::<K, P, W>(looking, path, block, output)),
-        Err(fault) => Err(Failure::from(fault)),
+        Err(_) => closed(show_image::<K, P, W>(looking, path, block, output)),
     }
 }
 
@@ -77,10 +74,27 @@ pub fn show_image<H: HostFile + Drop, O: HostFiles<H>, W: Write>(
         (IsOpened H.HostFile (O.opens files.now path.now))
         (ShowsImage ⟦<SectorFile<H> as SectorDevice>⟧ block (W.contents output.old) (W.contents output.new)) disk) }
 {
-    let mut disk = open_disk(files, path)?;
-    match show_over(&mut disk, block, output) {
-        Ok(()) => Ok(disk),
-        Err(failure) => Err(failure),
+    show_opened::<H, W>(open_disk(files, path), block, output)
+}
+
+/// Prints a block of an image, as `show_image`, once its file was opened for reading or wasn't.
+pub fn show_opened<H: HostFile + Drop, W: Write>(
+    opened: Result<SectorFile<H>, FileFault>,
+    block: u16,
+    output: &mut W,
+) -> Result<SectorFile<H>, Failure>
+    ensures shown { IfOk opened (λ disk. IfOk result (λ after. ShowsImage ⟦<SectorFile<H> as SectorDevice>⟧
+        block (W.contents output.old) (W.contents output.new) disk after)) }
+    // Of a file that couldn't be opened nothing is listed.
+    ensures refused { IfErr opened (λ fault. result ≡ Err (of_file fault)) }
+    ensures silent { IfErr opened (λ _. output.new ≡ output.old) }
+{
+    match opened {
+        Ok(mut disk) => match show_over(&mut disk, block, output) {
+            Ok(()) => Ok(disk),
+            Err(failure) => Err(failure),
+        },
+        Err(unopened) => Err(Failure::from(unopened)),
     }
 }
 

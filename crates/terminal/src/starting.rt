@@ -4,7 +4,8 @@ ghost use Rattle.std.specs.Prelude.{◌↔◌, ◌≤ℤ◌, pos, IsTrue};
 
 use super::attending::{advise, greet};
 use super::hints::hint;
-use super::program::command;
+use super::input::{Input, Led};
+use super::program::{command, traced_in_memory};
 use interpreter::promise::Lines;
 use sector_disk::{FileDisk, MemoryDisk};
 use sessions::ByteReader;
@@ -20,7 +21,7 @@ use std::{env, fs, io};
 const LAST_STREAM: i32 = 2;
 
 /// Does what the words ask for that the program was started with, between these streams, and answers the exit status, 0
-/// to 5 but 1. Where the standard error is a terminal, a person is told more there: how a session is left, where each
+/// to 5. Where the standard error is a terminal, a person is told more there: how a session is left, where each
 /// fault came, and of which file a failure is.
 pub fn start<
     F: Lines<FileDisk>,
@@ -63,38 +64,40 @@ fn call_program<
     let _taken = taken_streams(rt)?;
     let mut words: Vec<String> = env::args(rt)?.collect(rt.alloc())?;
     let is_attended = errors.is_terminal();
-    let is_typed = is_attended && input.is_terminal();
+    let is_terminal = input.is_terminal();
     if is_attended {
         ask_for_traces(rt.alloc(), &mut words)?;
     }
-    let mut input = ByteReader::new(input);
+    let mut input = Led::new(rt.alloc(), ByteReader::new(input));
     let mut output = BufWriter::new(rt.alloc(), output)?;
     let words = words.as_slice();
-    if is_typed {
-        greet(rt, words, errors);
-    }
-    let status = called::<F, M, _, _, _>(rt, words, is_typed, &mut input, &mut output, errors);
+    let is_typed = is_attended && is_terminal && greet(rt, words, errors);
+    let messages = Messages {
+        rt,
+        words,
+        is_typed,
+        errors,
+    };
+    let status = called::<F, M, _, _, _>(rt, words, is_attended, &mut input, &mut output, messages);
     if is_attended {
         advise(rt, words, status, errors);
     }
     Ok(status)
 }
 
-/// Calls the program with these words, which writes no message over a file that they name.
-fn called<F: Lines<FileDisk>, M: Lines<MemoryDisk>, R: Read, W: Write, E: Write>(
+/// Does what the words ask for. A person is told where faults come in a session in memory too, which has no option for
+/// that.
+fn called<F: Lines<FileDisk>, M: Lines<MemoryDisk>, R: Input, W: Write, E: Write + Drop>(
     rt: &(impl Files<File = File> + AllocGlobal),
     words: &[String],
-    is_typed: bool,
+    is_attended: bool,
     input: &mut R,
     output: &mut W,
-    errors: &mut E,
+    mut messages: E,
 ) -> u8 {
-    let mut messages = Messages {
-        rt,
-        words,
-        is_typed,
-        errors,
-    };
+    if is_attended && words.len() < 2 {
+        return traced_in_memory::<M, _, _, _>(rt, input, output, &mut messages);
+    }
     command::<F, M, _, _, _, _>(rt, words, input, output, &mut messages)
 }
 

@@ -1,3 +1,4 @@
+use Rattle.std.proofs.Common.{length}
 use Rattle.terminal.proofs.Becoming.{imported}
 use Rattle.terminal.proofs.files.import_image.Goals as goal
 
@@ -8,6 +9,6 @@ returns-in-Ok g c =
       imported = (
         opened.0,
         opened.1,
-        imported _ opened.0 c.in_ok-store.store c.import_file.new.store c.args.form c.args.first opened.2 c.import_file.ensures.continues c.in-Ok.ensures.imported,
+        imported _ opened.0 c.in_ok-store.store c.import_files.new.store c.args.form c.args.first (length c.args.sources.now) opened.2 c.import_files.ensures.continues c.in-Ok.ensures.imported,
       );
     }

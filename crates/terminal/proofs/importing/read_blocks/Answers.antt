@@ -2,11 +2,11 @@ use Rattle.std.proofs.Common.{rules}
 use Rattle.terminal.proofs.Telling.{room_for}
 use Rattle.terminal.proofs.importing.read_blocks.Goals as goal
 
-pub returns-clause-said : goal.returns-clause-said
-returns-clause-said g c = search rules
+pub returns-in-Ok-clause-said : goal.returns-in-Ok-clause-said
+returns-in-Ok-clause-said g c = search rules
 
-pub returns-clause-below : goal.returns-clause-below
-returns-clause-below g c = search rules
+pub returns-in-Ok-clause-below : goal.returns-in-Ok-clause-below
+returns-in-Ok-clause-below g c = search rules
 
-pub returns-clause-there : goal.returns-clause-there
-returns-clause-there g c = room_for c.args.form c.args.blocks c.args.first _ (returns-clause-below g c) (returns-clause-said g c)
+pub returns-in-Ok-clause-there : goal.returns-in-Ok-clause-there
+returns-in-Ok-clause-there g c = room_for c.args.form c.args.blocks c.args.first _ _ (returns-in-Ok-clause-below g c) (returns-in-Ok-clause-said g c)

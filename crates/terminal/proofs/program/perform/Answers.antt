@@ -6,34 +6,33 @@ pub returns-in-New-clause-done : goal.returns-in-New-clause-done
 returns-in-New-clause-done g c = rw c.in-New.is c.make_by.ensures
 
 pub returns-in-Run-clause-done : goal.returns-in-Run-clause-done
-returns-in-Run-clause-done g c =
-    rw c.in-Run.is (done_of c.run_image.result c.closed.result c.closed.ensures _ _ (λ store ran. (device_of store, ran)) c.run_image.ensures.ran)
+returns-in-Run-clause-done g c = rw c.in-Run.is c.run_by.ensures.done
 
-pub returns-in-Trace-clause-done : goal.returns-in-Trace-clause-done
-returns-in-Trace-clause-done g c =
-    rw c.in-Trace.is (done_of c.run_image-in-Trace.result c.closed-in-Trace.result c.closed-in-Trace.ensures _ _ (λ store ran. (device_of store, ran)) c.run_image-in-Trace.ensures.ran)
+pub returns-in-Run-clause-stopped : goal.returns-in-Run-clause-stopped
+returns-in-Run-clause-stopped g c = rw c.in-Run.is c.run_by.ensures.stopped
 
 pub returns-in-List-clause-done : goal.returns-in-List-clause-done
 returns-in-List-clause-done g c = rw c.in-List.is c.list_image.ensures.listed
 
 pub returns-in-Put-clause-done : goal.returns-in-Put-clause-done
 returns-in-Put-clause-done g c =
-    rw c.in-Put.is (done_of c.put_into_image.result c.closed-in-Put.result c.closed-in-Put.ensures _ _ (λ store put. (device_of store, put)) c.put_into_image.ensures.put)
+    rw c.in-Put.is (done_of c.put_into_image.result c.closed.result c.closed.ensures _ _ (λ store put. (device_of store, put)) c.put_into_image.ensures.put)
 
 pub returns-in-Upgrade-clause-done : goal.returns-in-Upgrade-clause-done
 returns-in-Upgrade-clause-done g c = rw c.in-Upgrade.is c.upgrade_by.ensures
 
 pub returns-in-Export-clause-done : goal.returns-in-Export-clause-done
-returns-in-Export-clause-done g c =
-    rw c.in-Export.is (done_of c.export_image.result c.closed-in-Export.result c.closed-in-Export.ensures _ _ (λ store exported. (device_of store, exported)) c.export_image.ensures.exported)
+returns-in-Export-clause-done g c = rw c.in-Export.is c.export_image.ensures.exported
 
 pub returns-in-Import-clause-done : goal.returns-in-Import-clause-done
 returns-in-Import-clause-done g c =
-    rw c.in-Import.is (done_of c.import_image.result c.closed-in-Import.result c.closed-in-Import.ensures _ _ (λ store imported. (device_of store, imported)) c.import_image.ensures.imported)
+    let imported = rw c.as_slice.ensures.value at c.import_image.ensures.imported in
+    rw c.in-Import.is (done_of c.import_image.result c.closed-in-Import.result c.closed-in-Import.ensures _ _ (λ store imported. (device_of store, imported)) imported)
 
 pub returns-in-CheckImport-clause-done : goal.returns-in-CheckImport-clause-done
 returns-in-CheckImport-clause-done g c =
-    rw c.in-CheckImport.is (done_of c.check_import.result c.closed-in-CheckImport.result c.closed-in-CheckImport.ensures _ _ (λ disk looked. (disk, looked)) c.check_import.ensures.looked)
+    let looked = rw c.as_slice-in-CheckImport.ensures.value at c.check_import.ensures.looked in
+    rw c.in-CheckImport.is (done_of c.check_import.result c.closed-in-CheckImport.result c.closed-in-CheckImport.ensures _ _ (λ disk looked. (disk, looked)) looked)
 
 pub returns-in-Check-clause-done : goal.returns-in-Check-clause-done
 returns-in-Check-clause-done g c =

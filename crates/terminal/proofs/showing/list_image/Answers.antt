@@ -8,5 +8,5 @@ returns g c =
     record {
       listed = list_done _ _ c.open_disk.result c.list_opened.result _ c.args.block _ _
           (both_ok c.open_disk.result _ _ _ (λ disk file sectors. record { file = file; sectors = sectors }) opened.file opened.sectors)
-          done.listed done.shown done.refused;
+          done.listed done.shown;
     }

@@ -7,7 +7,6 @@ pub returns-in-Ok-clause-listed : goal.returns-in-Ok-clause-listed
 returns-in-Ok-clause-listed g c =
     rw c.in-Ok.is (done_of c.list_over.result c.closed.result c.closed.ensures _ _ (λ store listed. (device_of store, (c.in-Ok.disk, refl, listed))) c.list_over.ensures.listed)
 
-pub returns-in-Err-Cannot-clause-shown : goal.returns-in-Err-Cannot-clause-shown
-returns-in-Err-Cannot-clause-shown g c =
-    rw c.in-Err-Cannot.is
-    (λ cannot. done_of c.show_image.result c.closed-in-Err-Cannot.result c.closed-in-Err-Cannot.ensures _ _ (λ disk shown. (disk, shown)) c.show_image.ensures.shown)
+pub returns-in-Err-clause-shown : goal.returns-in-Err-clause-shown
+returns-in-Err-clause-shown g c =
+    rw c.in-Err.is (done_of c.show_image.result c.closed-in-Err.result c.closed-in-Err.ensures _ _ (λ disk shown. (disk, shown)) c.show_image.ensures.shown)

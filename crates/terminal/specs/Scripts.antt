@@ -1,0 +1,98 @@
+-- Sessions over an image: of the input, or of files, and behind a block that is loaded.
+use Rattle.std.specs.Prelude.{◌≡◌, ◌==◌, ◌&&◌, ℕ, Bool, false, true, not, is_none, IfOk, IsTrue, List, [], ◌∷◌, ◌++◌, codes, length, Option, Some, None, Result}
+use Rattle.std.specs.Borrow.{Bor}
+use Rattle.std.specs.Fmt.{decimal}
+use Rattle.std.specs.Io.BufRead.{strip_last}
+use Rattle.std.specs.Io.KnownBytes.{prepend_known}
+use Rattle.std.specs.List.{flat_map}
+use Rattle.sector_disk.specs.declared.device.SectorDevice.{Ghosts}
+use Rattle.journal.specs.Suits.{suits}
+use Rattle.block_words.specs.Words.{Save, has_unsaved}
+use Rattle.interpreter.specs.State.{Forth}
+use Rattle.interpreter.specs.Lines.{LineEnd, new_forth}
+use Rattle.interpreter.specs.Promise.{Keeps}
+use Rattle.interpreter.specs.declared.place.Place.{Place}
+use Rattle.sessions.specs.Devices.{Becomes}
+use Rattle.sessions.specs.Heard.{EndsBy}
+use Rattle.sessions.specs.Sessions.{AreFaultless, StopsAtFault}
+use Rattle.sessions.specs.declared.run_end.RunEnd.{RunEnd}
+use Rattle.sessions.specs.declared.run_end.RunEnd.TheVariants as by
+use Rattle.sessions.specs.declared.run_fault.RunFault.{RunFault}
+use Rattle.command_line.specs.declared.orders.Script.{Script}
+use Rattle.terminal.specs.Done.{LeavesBlocks, Recovers, RunsSession, maps_on}
+
+-- a text that ends with a line feed, unless it is empty: its last line may lack that
+abbrev pub lined : List ℕ → List ℕ
+lined [] = []
+lined (b ∷ bytes) = strip_last 10 (b ∷ bytes) ++ 10 ∷ []
+
+-- the line that loads a block, where one is asked for
+abbrev pub load_line : Option ℕ → List ℕ
+load_line None = []
+load_line (Some block) = decimal block ++ codes " LOAD" ++ 10 ∷ []
+
+-- What a session reads in which this line and these files are asked for: behind the line the input, or in its place the lines of
+-- the files, one file after another.
+abbrev pub IsLed : (line : List ℕ) (files : List (Bor (List ℕ))) (left led : Option (List ℕ)) → Type 0
+IsLed line [] left led = led ≡ prepend_known line left
+IsLed line (file ∷ files) left led =
+    (texts : List (List ℕ)) × (length texts ≡ length (file ∷ files)) × (led ≡ Some (line ++ flat_map lined texts))
+
+-- nothing is asked for but a session of the input
+abbrev pub is_plain : Script → Bool
+is_plain script = not script.is_traced && not script.is_strict && is_none script.load && length script.files.items == 0
+
+-- what is told where changed blocks were not saved
+abbrev pub unsaved_notice : List ℕ
+unsaved_notice = codes "forth83: image: changed blocks were not saved" ++ 10 ∷ []
+
+module _ {D : Type 0} (G : Ghosts D) where
+  -- `run`: a session over the image of what the script asks for. Where it is strict no fault ended a line.
+  pub record RunsScript (steps : ℕ) (script : Script) (left left' written written' : Option (List ℕ)) (device after : D) : Type 0 where
+    pub led : Option (List ℕ)
+    pub leads : IsLed (load_line script.load) script.files.items left led
+    pub session : RunsSession G steps led left' written written' device after
+    pub faultless : script.is_strict ≡ true → (keeps : IsTrue (suits G device)) → AreFaultless (session.runs keeps).completes.turns
+
+  -- A session from the opening state on, up to the first line that a fault ended. What a stop may have left are blocks as they
+  -- were saved.
+  pub record StopsFrom (opening : Forth) (left left' written written' : Option (List ℕ)) (old new : D) : Type 0 where
+    pub closing : Forth
+    pub made : List Save
+    pub stops : StopsAtFault G opening closing left left' written written' old new made
+    pub keeps : Keeps G opening closing old new made
+
+  -- The same of a script: it is strict, and its image was recovered before.
+  pub record StopsScript (steps : ℕ) (script : Script) (left left' written written' : Option (List ℕ)) (device after : D) : Type 0 where
+    pub strict : script.is_strict ≡ true
+    pub led : Option (List ℕ)
+    pub leads : IsLed (load_line script.load) script.files.items left led
+    pub begun : D
+    pub recovers : Recovers G device begun
+    pub goes : Becomes G begun after
+    pub stops : IsTrue (suits G device) → StopsFrom (new_forth steps (maps_on G device)) led left' written written' begun after
+
+  -- ---- how a session ended, and whether blocks were changed in it and not saved
+
+  -- A session from the opening state on, of which a tracer is told. What a stop may have left are blocks as they were saved, and at
+  -- the end those that were saved last. Of the blocks of a store that a fault has closed nothing is said.
+  pub record EndsFrom {T : Type 0} (hears : (old new : T) → LineEnd → Option Place → List ℕ → List Place → Type 0) (is_strict : Bool) (end : Result RunEnd RunFault) (is_unsaved : Bool)
+      (opening : Forth) (left left' written written' : Option (List ℕ)) (old new : D) (tracer tracer' : T) : Type 0 where
+    pub closing : Forth
+    pub made : List Save
+    pub ends : EndsBy hears G is_strict end opening closing left left' written written' old new made tracer tracer'
+    pub keeps : Keeps G opening closing old new made
+    pub saved : closing.world.maps.closed ≡ false → LeavesBlocks G new closing.world.maps.saved
+    pub unsaved : closing.world.maps.closed ≡ false → is_unsaved ≡ has_unsaved closing.world.buffers closing.world.maps
+
+  -- The same of a script, whose image was recovered before: a fault ends its session only where it is strict.
+  pub record EndsScript {T : Type 0} (hears : (old new : T) → LineEnd → Option Place → List ℕ → List Place → Type 0) (steps : ℕ) (script : Script) (end : Result RunEnd RunFault) (is_unsaved : Bool)
+      (left left' written written' : Option (List ℕ)) (tracer tracer' : T) (device after : D) : Type 0 where
+    pub led : Option (List ℕ)
+    pub leads : IsLed (load_line script.load) script.files.items left led
+    pub begun : D
+    pub recovers : Recovers G device begun
+    pub goes : Becomes G begun after
+    pub strict : IfOk end (λ end. end ≡ by.Fault → script.is_strict ≡ true)
+    pub ends : IsTrue (suits G device)
+        → EndsFrom hears script.is_strict end is_unsaved (new_forth steps (maps_on G device)) led left' written written' begun after tracer tracer'

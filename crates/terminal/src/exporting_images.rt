@@ -1,0 +1,252 @@
+//! Many blocks of an image are printed: of one whose file can't be opened for writing, or is in use, by reads alone.
+//! Rule: MANUAL, forth83 export IMAGE FIRST LAST [--raw].
+ghost use Rattle.std.specs.Prelude.{◌≡◌, ◌≢◌, ◌⊎◌, ◌<◌, ◌≤◌, ◌-◌, ◌+◌, ◌*◌, None, Some, IsTrue, IfErr, IfOk, MatchResult, OnOk, option_map};
+ghost use Rattle.std.specs.Io.KnownBytes.{Appends};
+ghost use Rattle.sector_disk.specs.Counting.{count_up};
+ghost use Rattle.journal.specs.Calls.{ReadsAtMost};
+ghost use Rattle.journal.specs.Maps.{Maps};
+ghost use Rattle.journal.specs.Store.{device_of};
+ghost use Rattle.recovery.specs.Steps.{OnlyRead};
+ghost use Rattle.shadow.specs.Upgraded.{known_blocks};
+ghost use Rattle.stores.specs.Opened.{image_refusal};
+ghost use Rattle.image_care.specs.View.{found_by, sectors_of};
+ghost use Rattle.terminal.specs.Care.{ExportDone};
+ghost use Rattle.terminal.specs.Done.{Comes, DoneOn, Exports};
+ghost use Rattle.terminal.specs.Failures.{of_image};
+ghost use Rattle.terminal.specs.Files.{IsOpened};
+ghost use Rattle.terminal.specs.Shown.{ShowsBlocks};
+ghost use Rattle.terminal.specs.Transfer.{IsFound, exported, exports};
+
+use super::exporting::{export_blocks, print_bytes};
+use super::failure::Failure;
+use super::images::open_over;
+use super::program::closed;
+use command_line::orders::Form;
+use image_care::{View, look, read_found};
+use sector_disk::{FileFault, HostFile, HostFiles, SectorDevice, SectorFile, open_disk};
+use sessions::streams::flush;
+use std::io::Write;
+use stores::Store;
+
+/// Prints the blocks of an image from the one to the other: after its recovery where its file can be opened for
+/// writing, and by reads alone where it can't, or is in use. What was opened is closed. Its failures: `InUse` or
+/// `CannotOpen` where it can't be opened for reading either, then those of `export_over` or `show_blocks_over`.
+pub fn export_image<
+    H: HostFile + Drop,
+    O: HostFiles<H>,
+    K: HostFile + Drop,
+    P: HostFiles<K>,
+    W: Write,
+>(
+    files: &O,
+    looking: &P,
+    path: &str,
+    first: u16,
+    last: u16,
+    form: Form,
+    output: &mut W,
+) -> Result<(), Failure>
+    ensures exported { OnOk result (ExportDone ⟦<SectorFile<H> as SectorDevice>⟧ ⟦<SectorFile<K> as SectorDevice>⟧
+        (IsOpened H.HostFile (O.opens files.now path.now)) (IsOpened K.HostFile (P.opens looking.now path.now))
+        form first last (W.contents output.old) (W.contents output.new)) }
+{
+    export_opened::<H, K, P, W>(
+        open_disk(files, path),
+        looking,
+        path,
+        first,
+        last,
+        form,
+        output,
+    )
+}
+
+/// Prints blocks of an image, as `export_image`, once its file was opened for writing or wasn't: only where it wasn't
+/// it is opened for reading. Its failures: `InUse` or `CannotOpen` where it can't be opened for reading either, then
+/// those of `export_over` or `show_blocks_over`.
+pub fn export_opened<H: HostFile + Drop, K: HostFile + Drop, P: HostFiles<K>, W: Write>(
+    opened: Result<SectorFile<H>, FileFault>,
+    looking: &P,
+    path: &str,
+    first: u16,
+    last: u16,
+    form: Form,
+    output: &mut W,
+) -> Result<(), Failure>
+    // The image on the file that could be opened for writing was recovered, and exported.
+    ensures exported { IfOk opened (λ disk. OnOk result (DoneOn ⟦<SectorFile<H> as SectorDevice>⟧ (λ device. device ≡ disk)
+        (Exports ⟦<SectorFile<H> as SectorDevice>⟧ form first last (W.contents output.old) (W.contents output.new)))) }
+    // That on one that couldn't was looked at, and its blocks were printed.
+    ensures shown { IfErr opened (λ _. OnOk result (DoneOn ⟦<SectorFile<K> as SectorDevice>⟧
+        (IsOpened K.HostFile (P.opens looking.now path.now))
+        (ShowsBlocks ⟦<SectorFile<K> as SectorDevice>⟧ form first last (W.contents output.old) (W.contents output.new)))) }
+{
+    match opened {
+        Ok(disk) => closed(export_over(disk, first, last, form, output)),
+        Err(_) => closed(show_blocks::<K, P, W>(looking, path, first, last, form, output)),
+    }
+}
+
+/// Prints the blocks of the image on a device from the one to the other. Nothing is written to it, but by its recovery.
+/// Its failures: those of `open_over`, then those of `export_blocks`.
+/// Rule: MANUAL, forth83 export IMAGE FIRST LAST [--raw].
+pub fn export_over<D: SectorDevice + Drop, W: Write>(
+    device: D,
+    first: u16,
+    last: u16,
+    form: Form,
+    output: &mut W,
+) -> Result<Store<D>, Failure>
+    ensures exported { IfOk result (λ store. Exports D.SectorDevice form first last
+        (W.contents output.old) (W.contents output.new) device (device_of store)) }
+{
+    let mut store = match open_over(device) {
+        Ok(store) => store,
+        Err((failure, _)) => return Err(failure),
+    };
+    match export_blocks(&mut store, first, last, form, output) {
+        Ok(()) => Ok(store),
+        Err(failure) => Err(failure),
+    }
+}
+
+/// Prints the blocks of an image from the one to the other. Its file is opened for nothing but that, and is given back.
+/// Its failures: `CannotOpen` or `InUse` where the file can't be opened for reading, then those of `show_blocks_over`.
+pub fn show_blocks<H: HostFile + Drop, O: HostFiles<H>, W: Write>(
+    files: &O,
+    path: &str,
+    first: u16,
+    last: u16,
+    form: Form,
+    output: &mut W,
+) -> Result<SectorFile<H>, Failure>
+    ensures shown { IfOk result (λ disk. Comes ⟦<SectorFile<H> as SectorDevice>⟧
+        (IsOpened H.HostFile (O.opens files.now path.now))
+        (ShowsBlocks ⟦<SectorFile<H> as SectorDevice>⟧ form first last (W.contents output.old) (W.contents output.new)) disk) }
+{
+    let mut disk = open_disk(files, path)?;
+    match show_blocks_over(&mut disk, first, last, form, output) {
+        Ok(()) => Ok(disk),
+        Err(failure) => Err(failure),
+    }
+}
+
+/// Prints the blocks of the image on a device from the one to the other, by reads alone. Its failures are those of an
+/// opening, the first that holds, then `NoBlock` where one of the blocks isn't there, or `last` comes before `first`:
+/// nothing is printed then. `Device` where a call failed, and `CannotWrite` where the output failed: then some may be
+/// printed.
+pub fn show_blocks_over<D: SectorDevice, W: Write>(
+    device: &mut D,
+    first: u16,
+    last: u16,
+    form: Form,
+    output: &mut W,
+) -> Result<(), Failure>
+    ensures shows { OnOk result (ShowsBlocks D.SectorDevice form first last (W.contents output.old) (W.contents output.new)
+        device.old device.new) }
+    // Each refusal tells the first test that the image fails, and that a block isn't there is told only where it isn't.
+    ensures exact { IsTrue (D.keeps_model device.old) → MatchResult result
+        (λ _. image_refusal (D.sector_count device.old) (D.disk device.old).content ≡ None)
+        (λ e. (e ≡ Failure.Device) ⊎ (e ≡ Failure.CannotWrite) ⊎ (e ≡ Failure.NoBlock) ⊎ (Some e ≡ option_map of_image
+        (image_refusal (D.sector_count device.old) (D.disk device.old).content))) }
+    ensures no_block { IfErr result (λ e. e ≡ Failure.NoBlock
+        → (last < first) ⊎ (known_blocks (D.sector_count device.old) ≤ last)) }
+    // A fault of the device is told just where one of its calls failed.
+    ensures device { IfErr result (λ e. e ≡ Failure.Device → D.failures device.new ≡ count_up (D.failures device.old)) }
+    ensures refused { IfErr result (λ e. e ≢ Failure.Device → D.failures device.new ≡ D.failures device.old) }
+    ensures well { OnOk result (D.failures device.new ≡ D.failures device.old) }
+    // Where the image is refused, or a block isn't there, nothing was printed.
+    ensures unprinted { IfErr result (λ e. e ≢ Failure.Device → e ≢ Failure.CannotWrite → output.new ≡ output.old) }
+    // Whatever the answer is, nothing was written or synced.
+    ensures only_read { OnlyRead D.SectorDevice device.old device.new }
+{
+    match look(device) {
+        Ok(view) => show_found(device, &view, first, last, form, output),
+        Err(fault) => Err(Failure::from(fault)),
+    }
+}
+
+/// Prints the blocks from the one to the other, of an image whose blocks stand there.
+fn show_found<D: SectorDevice, W: Write>(
+    device: &mut D,
+    view: &View,
+    first: u16,
+    last: u16,
+    form: Form,
+    output: &mut W,
+) -> Result<(), Failure>
+    requires size { D.sector_count device.old ≡ sectors_of view.now }
+    ensures ok { IsTrue (D.keeps_model device.old) → (m : Maps) → IsFound view.now (D.disk device.old).content m
+        → OnOk result (Appends (W.contents output.old) (W.contents output.new) (exports form m first (last + 1 - first))) }
+    ensures ordered { OnOk result (first ≤ last) }
+    ensures there { OnOk result (last < view.now.blocks.number) }
+    ensures only { IfErr result (λ e. (e ≡ Failure.Device) ⊎ (e ≡ Failure.CannotWrite) ⊎ (e ≡ Failure.NoBlock)) }
+    ensures no_block { IfErr result (λ e. e ≡ Failure.NoBlock → (last < first) ⊎ (view.now.blocks.number ≤ last)) }
+    ensures unprinted { IfErr result (λ e. e ≡ Failure.NoBlock → output.new ≡ output.old) }
+    ensures device { IfErr result (λ e. e ≡ Failure.Device → D.failures device.new ≡ count_up (D.failures device.old)) }
+    ensures refused { IfErr result (λ e. e ≢ Failure.Device → D.failures device.new ≡ D.failures device.old) }
+    ensures well { OnOk result (D.failures device.new ≡ D.failures device.old) }
+    ensures only_read { OnlyRead D.SectorDevice device.old device.new }
+    ensures reads { ReadsAtMost D.SectorDevice device.old device.new (2 * (last + 1 - first)) }
+{
+    if last < first {
+        return Err(Failure::NoBlock);
+    }
+    if last >= view.blocks.number {
+        return Err(Failure::NoBlock);
+    }
+    print_found(device, view, first, last + 1, form, output)?;
+    flush(output).map_err(|_| Failure::CannotWrite)
+}
+
+/// Prints the blocks from `first` on that stand before `past`.
+fn print_found<D: SectorDevice, W: Write>(
+    device: &mut D,
+    view: &View,
+    first: u16,
+    past: u16,
+    form: Form,
+    output: &mut W,
+) -> Result<(), Failure>
+    requires size { D.sector_count device.old ≡ sectors_of view.now }
+    requires ordered { first ≤ past }
+    requires there { past ≤ view.now.blocks.number }
+    ensures ok { IsTrue (D.keeps_model device.old) → (m : Maps) → IsFound view.now (D.disk device.old).content m
+        → OnOk result (Appends (W.contents output.old) (W.contents output.new) (exports form m first (past - first))) }
+    ensures only { IfErr result (λ e. (e ≡ Failure.Device) ⊎ (e ≡ Failure.CannotWrite)) }
+    ensures device { IfErr result (λ e. e ≡ Failure.Device → D.failures device.new ≡ count_up (D.failures device.old)) }
+    ensures refused { IfErr result (λ e. e ≢ Failure.Device → D.failures device.new ≡ D.failures device.old) }
+    ensures well { OnOk result (D.failures device.new ≡ D.failures device.old) }
+    ensures only_read { OnlyRead D.SectorDevice device.old device.new }
+    ensures reads { ReadsAtMost D.SectorDevice device.old device.new (2 * (past - first)) }
+{
+    for block in first..past {
+        print_block(device, view, block, form, output)?;
+    }
+    Ok(())
+}
+
+/// Prints a block that is there.
+fn print_block<D: SectorDevice, W: Write>(
+    device: &mut D,
+    view: &View,
+    block: u16,
+    form: Form,
+    output: &mut W,
+) -> Result<(), Failure>
+    requires size { D.sector_count device.old ≡ sectors_of view.now }
+    requires below { block < view.now.blocks.number }
+    ensures ok { IsTrue (D.keeps_model device.old) → OnOk result (Appends
+        (W.contents output.old) (W.contents output.new) (exported form (found_by view.now (D.disk device.old).content block))) }
+    ensures only { IfErr result (λ e. (e ≡ Failure.Device) ⊎ (e ≡ Failure.CannotWrite)) }
+    ensures device { IfErr result (λ e. e ≡ Failure.Device → D.failures device.new ≡ count_up (D.failures device.old)) }
+    ensures refused { IfErr result (λ e. e ≢ Failure.Device → D.failures device.new ≡ D.failures device.old) }
+    ensures well { OnOk result (D.failures device.new ≡ D.failures device.old) }
+    ensures only_read { OnlyRead D.SectorDevice device.old device.new }
+    ensures reads { ReadsAtMost D.SectorDevice device.old device.new 2 }
+{
+    match read_found(device, view, block) {
+        Ok(bytes) => print_bytes(&bytes, form, output),
+        Err(_) => Err(Failure::Device),
+    }
+}

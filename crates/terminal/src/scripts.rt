@@ -1,0 +1,225 @@
+//! Sessions over an image: of the input, or of files, and behind a block that is loaded.
+//! Rule: MANUAL, forth83 run IMAGE [FILE ..].
+ghost use Rattle.std.specs.Prelude.{◌≡◌, ◌≢◌, ◌⊎◌, ◌<◌, ◌≤◌, ◌++◌, ℕ, List, length, true, IfErr, IfOk, OnOk};
+ghost use Rattle.std.specs.Io.BufRead.{strip_last};
+ghost use Rattle.std.specs.List.{flat_map};
+ghost use Rattle.journal.specs.Maps.{Maps};
+ghost use Rattle.journal.specs.Store.{StandsFor, device_of};
+ghost use Rattle.interpreter.specs.Lines.{new_forth};
+ghost use Rattle.sessions.specs.Devices.{Becomes};
+ghost use Rattle.sessions.specs.OverStore.{RunsOverBy};
+ghost use Rattle.terminal.specs.Done.{Comes};
+ghost use Rattle.terminal.specs.Files.{IsOpened};
+ghost use Rattle.terminal.specs.Scripts.{EndsScript, IsLed, lined, load_line};
+
+use super::ending::Ended;
+use super::failure::Failure;
+use super::files::open_image;
+use super::importing::{MOST_BYTES, read_all};
+use super::input::Input;
+use command_line::orders::Script;
+use interpreter::Memory;
+use interpreter::promise::Lines;
+use sector_disk::{HostFile, HostFiles, SectorDevice, SectorFile};
+use sessions::{RunEnd, Tracer, run_over_until};
+use std::alloc::{AllocError, Global};
+use std::fs::{File, Files};
+use std::io::{BufReader, Write};
+use stores::Store;
+
+/// Runs lines over an image, with at most `steps` steps a line, 1 or more: those of the files of the script, or of the
+/// input where it has none; before them its block is loaded. A fault ends the session only where the script is strict.
+/// Its failures, where no session begins: `CannotRead` where a file can't be read or has more bytes than the text of an
+/// image may have, and `NoMemory`, where nothing was opened; those of `open_image`; `NoMemory`.
+/// Rule: MANUAL, forth83 run IMAGE [FILE ..].
+pub fn run_image<
+    H: HostFile + Drop,
+    O: HostFiles<H>,
+    F: Lines<SectorFile<H>>,
+    R: Input,
+    W: Write,
+    T: Tracer,
+>(
+    rt: &(impl Files<File = File> + AllocGlobal),
+    files: &O,
+    path: &str,
+    steps: u32,
+    script: &Script<'_>,
+    input: &mut R,
+    output: &mut W,
+    tracer: &mut T,
+) -> Result<Ended<Store<SectorFile<H>>>, Failure>
+    requires { 0 < steps }
+    // How it ended, and whether blocks were changed and not saved.
+    ensures ends { IfOk result (λ ended. Comes ⟦<SectorFile<H> as SectorDevice>⟧
+        (IsOpened H.HostFile (O.opens files.now path.now))
+        (EndsScript ⟦<SectorFile<H> as SectorDevice>⟧ T.hears steps script.now ended.end ended.is_unsaved
+        (R.remaining input.old) (R.remaining input.new) (W.contents output.old) (W.contents output.new) tracer.old tracer.new)
+        (device_of ended.store)) }
+    ensures unstopped { IfErr result (λ e. e ≢ Failure.Stopped) }
+{
+    lead(rt, script, input)?;
+    let store = open_image(files, path)?;
+    run_until_end::<SectorFile<H>, F, R, W, T>(
+        rt.alloc(),
+        store,
+        steps,
+        script.is_strict,
+        input,
+        output,
+        tracer,
+    )
+}
+
+/// Runs the input over a store, strictly or not. Its failure is `NoMemory`, where no session begins.
+fn run_until_end<D: SectorDevice + Drop, F: Lines<D>, R: Input, W: Write, T: Tracer>(
+    alloc: Global,
+    store: Store<D>,
+    steps: u32,
+    is_strict: bool,
+    input: &mut R,
+    output: &mut W,
+    tracer: &mut T,
+) -> Result<Ended<Store<D>>, Failure>
+    requires { 0 < steps }
+    ensures session { (m : Maps) → StandsFor store m → IfOk result (λ ended. RunsOverBy T.hears D.SectorDevice is_strict (new_forth steps m)
+        store ended.store ended.end ended.is_unsaved
+        (R.remaining input.old) (R.remaining input.new) (W.contents output.old) (W.contents output.new) tracer.old tracer.new) }
+    ensures strict { IfOk result (λ ended. IfOk ended.end (λ end. end ≡ RunEnd.Fault → is_strict ≡ true)) }
+    ensures goes { IfOk result (λ ended. Becomes D.SectorDevice (device_of store) (device_of ended.store)) }
+    // Memory is refused before the session begins.
+    ensures memory { IfErr result (λ e. e ≡ Failure.NoMemory) }
+    ensures unread { IfErr result (λ _. input.new ≡ input.old) }
+    ensures unwritten { IfErr result (λ _. output.new ≡ output.old) }
+{
+    let Ok(memory) = Memory::new(alloc) else {
+        return Err(Failure::NoMemory);
+    };
+    let (store, end, is_unsaved) = run_over_until::<D, F, R, W, T>(
+        memory, store, steps, input, output, is_strict, tracer,
+    );
+    Ok(Ended {
+        store,
+        end,
+        is_unsaved,
+    })
+}
+
+/// Puts before the input what a script says, or in its place.
+fn lead<R: Input>(
+    rt: &(impl Files<File = File> + AllocGlobal),
+    script: &Script<'_>,
+    input: &mut R,
+) -> Result<(), Failure>
+    ensures led { OnOk result (IsLed (load_line script.now.load) script.now.files.items (R.remaining input.old) (R.remaining input.new)) }
+    ensures same { IfErr result (λ _. input.new ≡ input.old) }
+    ensures only { IfErr result (λ e. (e ≡ Failure.CannotRead) ⊎ (e ≡ Failure.NoMemory)) }
+{
+    let line = match load_line(rt.alloc(), script.load) {
+        Ok(line) => line,
+        Err(AllocError) => return Err(Failure::NoMemory),
+    };
+    if script.files.is_empty() {
+        match input.begin_with(line) {
+            Ok(()) => Ok(()),
+            Err(AllocError) => Err(Failure::NoMemory),
+        }
+    } else {
+        lead_by_files(rt, line, script.files.as_slice(), input)
+    }
+}
+
+/// Puts a line and the lines of files in the place of the input.
+fn lead_by_files<R: Input>(
+    rt: &(impl Files<File = File> + AllocGlobal),
+    line: Vec<u8>,
+    paths: &[&str],
+    input: &mut R,
+) -> Result<(), Failure>
+    ensures led { OnOk result ((texts : List (List ℕ)) × (length texts ≡ length paths.now)
+        × (R.remaining input.new ≡ Some (line.items ++ flat_map lined texts))) }
+    ensures same { IfErr result (λ _. input.new ≡ input.old) }
+    ensures only { IfErr result (λ e. (e ≡ Failure.CannotRead) ⊎ (e ≡ Failure.NoMemory)) }
+{
+    let mut text = line;
+    match add_files(rt, &mut text, paths) {
+        Ok(()) => {
+            input.replace_by(text);
+            Ok(())
+        }
+        Err(failure) => Err(failure),
+    }
+}
+
+/// The line that loads a block, where one is asked for.
+fn load_line(alloc: Global, load: Option<u16>) -> Result<Vec<u8>, AllocError>
+    ensures { IfOk result (λ line. line.items ≡ load_line load) }
+{
+    let mut line = Vec::new(alloc);
+    if let Some(block) = load {
+        let text = format!(in alloc; "{block} LOAD\n")?;
+        line.extend_from_slice(text.as_bytes())?;
+    }
+    Ok(line)
+}
+
+/// Adds the lines of files, one file after another.
+fn add_files(
+    rt: &(impl Files<File = File> + AllocGlobal),
+    text: &mut Vec<u8>,
+    paths: &[&str],
+) -> Result<(), Failure>
+    ensures added { OnOk result ((texts : List (List ℕ)) × (length texts ≡ length paths.now)
+        × (text.new.items ≡ text.old.items ++ flat_map lined texts)) }
+    ensures only { IfErr result (λ e. (e ≡ Failure.CannotRead) ⊎ (e ≡ Failure.NoMemory)) }
+{
+    let mut rest = paths;
+    while let [path, others @ ..] = rest {
+        add_file(rt, text, *path)?;
+        rest = others;
+    }
+    Ok(())
+}
+
+/// Adds the lines of a file.
+fn add_file(
+    rt: &(impl Files<File = File> + AllocGlobal),
+    text: &mut Vec<u8>,
+    path: &str,
+) -> Result<(), Failure>
+    ensures added { OnOk result ((bytes : List ℕ) × (text.new.items ≡ text.old.items ++ lined bytes)) }
+    ensures only { IfErr result (λ e. (e ≡ Failure.CannotRead) ⊎ (e ≡ Failure.NoMemory)) }
+{
+    let file = File::open(rt, path).map_err(|_| Failure::CannotRead)?;
+    let mut reader = BufReader::new(rt.alloc(), file).map_err(|_| Failure::NoMemory)?;
+    let bytes = read_all(rt.alloc(), &mut reader)?;
+    if bytes.len() > MOST_BYTES {
+        return Err(Failure::CannotRead);
+    }
+    match add_lined(text, bytes.as_slice()) {
+        Ok(()) => Ok(()),
+        Err(AllocError) => Err(Failure::NoMemory),
+    }
+}
+
+/// Adds a text, and the line feed that its last line may lack.
+fn add_lined(text: &mut Vec<u8>, bytes: &[u8]) -> Result<(), AllocError>
+    ensures { OnOk result (text.new.items ≡ text.old.items ++ lined bytes.now) }
+{
+    if bytes.is_empty() {
+        return Ok(());
+    }
+    text.extend_from_slice(without_feed(bytes))?;
+    text.push(b'\n')?;
+    Ok(())
+}
+
+/// A text without the line feed at its end.
+fn without_feed(bytes: &[u8]) -> &[u8]
+    ensures { result.now ≡ strip_last 10 bytes.now }
+{
+    match bytes {
+        [text @ .., b'\n'] => text,
+        _ => bytes,
+    }
+}
