@@ -1,6 +1,6 @@
 #include "measure.h"
 
-enum { DEVICE = 1, CONSOLE = 2, BLOCKS = 32, SECTORS = 3 + 4 * BLOCKS, BLOCK_BYTES = 1024, STEPS = 1000000 };
+enum { DEVICE = 1, CONSOLE = 2, BLOCKS = 32, OLDER_SECTORS = 3 + 4 * BLOCKS, NEWER_SECTORS = 32 + 16 * BLOCKS, BLOCK_BYTES = 1024, STEPS = 1000000 };
 
 size_t silgwyrad_heap_most(void);
 
@@ -30,20 +30,23 @@ static int emit(void *context, const uint8_t *text, size_t n) {
     return 0;
 }
 
+/* Those of an image of layout 2, or of layout 3. */
+static uint32_t sectors;
+
 static uint8_t answer;
 static uint8_t bytes[4 * BLOCK_BYTES];
 static const uint16_t four[4] = {1, 2, 3, 4};
 static struct silgwyrad_store store;
 
 static void nothing(void) {}
-static void format(void) { answer = silgwyrad_format(DEVICE, SECTORS, BLOCKS); }
-static void recover(void) { answer = silgwyrad_recover(DEVICE, SECTORS); }
-static void read_one(void) { answer = silgwyrad_read(DEVICE, SECTORS, 1, bytes, BLOCK_BYTES); }
-static void save_four(void) { answer = silgwyrad_save(DEVICE, SECTORS, four, 4, bytes, sizeof bytes); }
-static void open_store(void) { answer = silgwyrad_open(DEVICE, SECTORS, &store); }
+static void format(void) { answer = silgwyrad_format(DEVICE, sectors, BLOCKS); }
+static void recover(void) { answer = silgwyrad_recover(DEVICE, sectors); }
+static void read_one(void) { answer = silgwyrad_read(DEVICE, sectors, 1, bytes, BLOCK_BYTES); }
+static void save_four(void) { answer = silgwyrad_save(DEVICE, sectors, four, 4, bytes, sizeof bytes); }
+static void open_store(void) { answer = silgwyrad_open(DEVICE, sectors, &store); }
 static void read_open(void) { answer = silgwyrad_read_open(&store, 1, bytes, BLOCK_BYTES); }
 static void save_open(void) { answer = silgwyrad_save_open(&store, four, 4, bytes, sizeof bytes); }
-static void session(void) { answer = silgwyrad_run(DEVICE, SECTORS, CONSOLE, CONSOLE, STEPS); }
+static void session(void) { answer = silgwyrad_run(DEVICE, sectors, CONSOLE, CONSOLE, STEPS); }
 
 static int told(const char *name, void (*call)(void)) {
     const size_t touched = touched_by(call);
@@ -59,12 +62,23 @@ static int told_steps(void) {
     return tell_time(TIMED_STEPS, milliseconds() - begin), 0;
 }
 
+static int told_all(const char *const names[8], uint32_t of) {
+    static void (*const calls[8])(void) = {format, recover, read_one, save_four, open_store, read_open, save_open, session};
+    int failed = 0;
+    sectors = of;
+    left_of_text = DEEP;
+    for (int i = 0; i < 8; i++) failed += told(names[i], calls[i]);
+    return failed;
+}
+
 int measure(const struct silgwyrad_device *device) {
     static const struct silgwyrad_console console = {NULL, key, emit};
     silgwyrad_use_device(DEVICE, device);
     silgwyrad_use_console(CONSOLE, &console);
-    left_of_text = DEEP;
-    return told("(no call)", nothing) + told("format", format) + told("recover", recover) + told("read", read_one)
-        + told("save of four blocks", save_four) + told("open", open_store) + told("read of an open store", read_open)
-        + told("save of four blocks to an open store", save_open) + told("session", session) + told_steps();
+    static const char *const older[8] = {"format", "recover", "read", "save of four blocks", "open", "read of an open store",
+        "save of four blocks to an open store", "session"};
+    static const char *const newer[8] = {"format by layout 3", "recover by layout 3", "read by layout 3", "save of four blocks by layout 3",
+        "open by layout 3", "read of an open store by layout 3", "save of four blocks to an open store by layout 3", "session by layout 3"};
+    const int failed = told("(no call)", nothing) + told_all(newer, NEWER_SECTORS) + told_all(older, OLDER_SECTORS);
+    return failed + told_steps();
 }

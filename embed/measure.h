@@ -4,7 +4,7 @@
 
 #include "silgwyrad.h"
 
-/* Calls each on a device with room for 131 sectors, and tells what it took. Answers how many of them weren't done. */
+/* Calls each by either layout on a device with room for 544 sectors, and tells what it took. Answers how many of them weren't done. */
 int measure(const struct silgwyrad_device *device);
 
 /* Those below are the system's on which it is measured. */

@@ -42,7 +42,7 @@ void tell_refusal(const char *name, uint8_t answer) { printf("%s: answer %d\n", 
 int main(void) {
     static struct disk disk;
     const struct silgwyrad_device device = device_of(&disk);
-    disk.sectors = SECTORS;
+    disk.sectors = PAGED_SECTORS;
     disk.in_unit = 1;
     disk.stop_at = disk.fail_at = NEVER;
     return measure(&device) ? 1 : 0;

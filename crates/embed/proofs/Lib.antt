@@ -8,3 +8,4 @@ pub mod Runs
 pub mod Sizes
 pub mod Spills
 pub mod Stores
+pub mod Staying

@@ -5,16 +5,11 @@ use Rattle.journal.specs.Maps.{block_in, contents, fresh, none_pending, pending_
 use Rattle.recovery.specs.Opened.{first_of}
 use Rattle.recovery.specs.declared.fault.OpenFault.{OpenFault}
 use Rattle.recovery.specs.declared.fault.OpenFault.TheVariants as image
-use Rattle.embed.specs.Calls.{device_after}
 use Rattle.embed.specs.Refusals.{IsOfImage, IsOfSession, of_image}
 use Rattle.embed.specs.declared.refusal.Refusal.{Refusal}
 use Rattle.embed.specs.declared.refusal.Refusal.TheVariants.{BadSize, NoLabel, OtherVersion, WrongCount, Device, Damaged, NoBlock, BadLength, NoSteps, Input, Output, NoMemory}
 
 module _ {D : Type 0} where
-  pub ok_after : (r : Result D (Refusal × D)) (P : D → Type 0) → P (device_after r) → IfOk r P
-  ok_after (Ok d) P p = p
-  ok_after (Err e) P p = tt
-
   pub on_any : (r : Result D (Refusal × D)) (P : Type 0) → P → OnOk r P
   on_any (Ok d) P p = p
   on_any (Err e) P p = tt
@@ -32,10 +27,6 @@ module _ {D : Type 0} where
       → MatchResult r (λ d. A) (λ e. (e.0 ≡ Device) ⊎ B e)
   blames (Ok d) A B a is = a
   blames (Err e) A B a is = inl is
-
-  pub never : (r : Result D (Refusal × D)) (Q : Refusal × D → Type 0) → IfErr r (λ e. e.0 ≡ Device) → IfErr r (λ e. e.0 ≢ Device → Q e)
-  never (Ok d) Q is = tt
-  never (Err e) Q is = λ other. absurd (other is)
 
 no_pending : (saved : List (List ℕ)) (b : ℕ) → pending_in (none_pending saved) b ≡ None
 no_pending [] b = refl

@@ -1,5 +1,5 @@
 -- What a call makes of a device, through a store that was opened on it.
-use Rattle.std.proofs.Common.{◌≡◌, ◌⊎◌, ℕ, List, false, sym, subst, inl, inr, ⊎_elim, ◌∙◌, arith}
+use Rattle.std.proofs.Common.{◌≡◌, ◌⊎◌, ℕ, Bool, List, false, sym, subst, inl, inr, ⊎_elim, ◌∙◌, arith}
 use Rattle.sector_disk.specs.declared.device.SectorDevice.{Ghosts}
 use Rattle.sector_disk.proofs.Moments.{elapses_then, leaves_then}
 use Rattle.journal.specs.declared.store.Store.{Store}
@@ -9,9 +9,11 @@ use Rattle.journal.specs.Maps.{Maps, fresh, latest}
 use Rattle.journal.specs.Store.{Continues, KeepsSaved, MeansBy, SavesAllOrNone, StandsFor, closed_of, device_of}
 use Rattle.sessions.specs.Devices.{Becomes}
 use Rattle.embed.specs.Calls.{AllOrNone, KeepsBlocks, LeavesBlocks, MayRecover, MeansOn, meant_by}
+use Rattle.embed.specs.Keeping.{HoldsOpen, SavesOpen}
+use Rattle.embed.specs.Saving.{with_blocks}
 use Rattle.embed.specs.Spilling.{all_spilled}
 use Rattle.embed.proofs.Devices.{Widens}
-use Rattle.embed.proofs.Spills.{closed_same, saved_same, saves}
+use Rattle.embed.proofs.Spills.{closed_same, saved_same}
 
 module _ {D : Type 0} (G : Ghosts D) where
   pub continued : (old new : Store D G) → Continues old new → Becomes G (device_of old) (device_of new)
@@ -67,20 +69,22 @@ module _ {D : Type 0} (G : Ghosts D) where
       leaves_then G.time G.left_since device begun after (MayRecover G device) (MeansOn G begun (meant_by G device)) (KeepsBlocks G device) one.time two.time
       first then (λ image may. inl may) (λ image means. inr (subst (λ n. Means n (meant_by G device) image) size means))
 
-  -- A recovery, and then a save.
+  -- A recovery, and then a save to the store that rests.
   pub saved_then : (device begun after : D) (blocks bytes : List ℕ) → G.sector_count begun ≡ G.sector_count device → Becomes G device begun → Becomes G begun after
-      → StopsLeave G device begun (MayRecover G device)
-      → StopsLeave G begun after
-      (λ image. MeansOn G begun (meant_by G device) image ⊎ MeansOn G begun (latest (all_spilled (fresh (meant_by G device)) blocks bytes)) image)
+      → StopsLeave G device begun (MayRecover G device) → StopsLeave G begun after (SavesOpen G begun (meant_by G device) blocks bytes)
       → StopsLeave G device after (AllOrNone G device blocks bytes)
   saved_then device begun after blocks bytes size one two first then =
-      leaves_then G.time G.left_since device begun after (MayRecover G device)
-      (λ image. MeansOn G begun (meant_by G device) image ⊎ MeansOn G begun (latest (all_spilled (fresh (meant_by G device)) blocks bytes)) image)
+      leaves_then G.time G.left_since device begun after (MayRecover G device) (SavesOpen G begun (meant_by G device) blocks bytes)
       (AllOrNone G device blocks bytes) one.time two.time first then
       (λ image may. inl (inl may))
       (λ image either. ⊎_elim (λ old. inl (inr (subst (λ n. Means n (meant_by G device) image) size old)))
-      (λ new. inr (subst (λ saved. MeansOn G device saved image) (saves (meant_by G device) blocks bytes)
-      (subst (λ n. Means n (latest (all_spilled (fresh (meant_by G device)) blocks bytes)) image) size new))) either)
+      (λ new. inr (subst (λ n. Means n (with_blocks (meant_by G device) blocks bytes) image) size new)) either)
+
+  -- What an open store leaves that rests.
+  pub held_leaves : (device : D) (is_open : Bool) (listing : List ℕ) (saved : List (List ℕ)) → HoldsOpen G device is_open listing saved
+      → LeavesBlocks G device saved
+  held_leaves device is_open listing saved holds =
+      leaves holds.store device (fresh saved) (sym holds.rests.on) holds.rests.open_still holds.stands
 
   -- Refused arguments leave the device uncalled, so a stop leaves what it left.
   pub kept_still : (device : D) → StopsLeave G device device (MayRecover G device) → StopsLeave G device device (KeepsBlocks G device)

@@ -3,58 +3,27 @@
 ghost use Rattle.std.specs.Prelude.{◌≡◌, ◌≢◌, ◌⊎◌, ◌<◌, ◌≤◌, ◌+◌, ◌*◌, ℕ, true, false, None, Some, length, nat_lt, IsTrue, OnOk, OnErr, IfOk, IfErr, IfSome, MatchBool, MatchResult, Err};
 ghost use Rattle.std.specs.List.{list_all};
 ghost use Rattle.sector_disk.specs.Counting.{count_up};
-ghost use Rattle.journal.specs.Calls.{StopsLeave, BeginsAtMost, ReadsAtMost};
-ghost use Rattle.journal.specs.Maps.{Maps, block_in, committed, contents, latest};
+ghost use Rattle.journal.specs.Calls.{StopsLeave};
+ghost use Rattle.journal.specs.Maps.{Maps, block_in, committed, latest};
 ghost use Rattle.journal.specs.Store.{MeansBy, StandsFor, Continues, DeviceBegins, DeviceReads, KeepsSaved, DeviceFailed, DeviceWentWell, blocks_of, closed_of, device_of, is_pending, pending_count};
 ghost use Rattle.journal.specs.Suits.{suits};
 ghost use Rattle.recovery.specs.Opened.{first_of};
 ghost use Rattle.shadow.specs.Label.{is_known_size};
 ghost use Rattle.sessions.specs.Devices.{Becomes};
-ghost use Rattle.embed.specs.Calls.{AllOrNone, KeepsBlocks, LeavesBlocks, MayRecover, OpensOn, blocks_on, device_after, meant_by};
+ghost use Rattle.embed.specs.Calls.{AllOrNone, KeepsBlocks, LeavesBlocks, MayRecover, device_after, meant_by};
 ghost use Rattle.embed.specs.Costs.{OpeningBegins, ReadingBegins, SavingBegins, SavesAtMost};
-ghost use Rattle.embed.specs.Refusals.{IsOfImage, read_refusal, save_refusal, refusal_of};
+ghost use Rattle.embed.specs.Refusals.{read_refusal, save_refusal, refusal_of};
 ghost use Rattle.embed.specs.Saving.{with_blocks};
 ghost use Rattle.embed.specs.Spilling.{all_spilled};
 
 use crate::arguments::{BLOCK, check_read, check_save};
+use crate::kept_calls::{open_kept, read_resting, save_resting};
 use crate::refusal::Refusal;
 use journal::StoreFault;
 use sector_disk::SectorDevice;
-use stores::{Store, open};
+use stores::Store;
 
-/// Opens the image: what a stop has left half done is finished first. A refusal hands the device back: `BadSize`, with
-/// no call of it, `NoLabel`, `OtherVersion`, `WrongCount` or `Damaged`, the first that holds, or `Device` where a call
-/// of it failed.
-/// Rule: IMAGE, A recovery; IMAGE, Layout 3, An opening.
-pub fn opened<D: SectorDevice>(device: D) -> Result<Store<D>, (Refusal, D)>
-    ensures ok { IfOk result (λ store. OpensOn D.SectorDevice device store) }
-    ensures sized { IfOk result (λ _. is_known_size (D.sector_count device) ≡ true) }
-    ensures bad_size { IfErr result (λ e. MatchBool (is_known_size (D.sector_count device))
-        (e.0 ≢ Refusal.BadSize) (e.0 ≡ Refusal.BadSize)) }
-    ensures unasked { IfErr result (λ e. e.0 ≡ Refusal.BadSize → e.1 ≡ device) }
-    ensures image { IfErr result (λ e. IsOfImage e.0) }
-    // Each refusal tells the first test that the image fails.
-    ensures exact { IsTrue (suits D.SectorDevice device) → MatchResult result
-        (λ _. refusal_of (D.sector_count device) (D.disk device).content ≡ None)
-        (λ e. (e.0 ≡ Refusal.Device) ⊎ (refusal_of (D.sector_count device) (D.disk device).content ≡ Some e.0)) }
-    ensures well { IfOk result (λ store. D.failures (device_of store) ≡ D.failures device) }
-    ensures failed { IfErr result (λ e. e.0 ≡ Refusal.Device → D.failures e.1 ≡ count_up (D.failures device)) }
-    ensures unfailed { IfErr result (λ e. e.0 ≢ Refusal.Device → D.failures e.1 ≡ D.failures device) }
-    ensures content { IsTrue (suits D.SectorDevice device)
-        → IfErr result (λ e. e.0 ≢ Refusal.Device → (D.disk e.1).content ≡ (D.disk device).content) }
-    ensures goes { IfErr result (λ e. Becomes D.SectorDevice device e.1) }
-    ensures stops { IsTrue (suits D.SectorDevice device) → IfErr result (λ e.
-        StopsLeave D.SectorDevice device e.1 (MayRecover D.SectorDevice device)) }
-    ensures begins { IsTrue (suits D.SectorDevice device) → MatchResult result
-        (λ store. OpeningBegins D.SectorDevice device (device_of store)) (λ e. OpeningBegins D.SectorDevice device e.1) }
-{
-    match open(device) {
-        Ok(store) => Ok(store),
-        Err((fault, device)) => Err((Refusal::from(fault), device)),
-    }
-}
-
-/// Finishes what a stop has left half done. A refusal hands the device back: one of those of `opened`.
+/// Finishes what a stop has left half done. A refusal hands the device back: one of those of `open_kept`.
 pub fn recover<D: SectorDevice>(device: D) -> Result<D, (Refusal, D)>
     ensures ok { IsTrue (suits D.SectorDevice device)
         → IfOk result (λ after. LeavesBlocks D.SectorDevice after (meant_by D.SectorDevice device)) }
@@ -75,14 +44,15 @@ pub fn recover<D: SectorDevice>(device: D) -> Result<D, (Refusal, D)>
     ensures goes { Becomes D.SectorDevice device (device_after result) }
     ensures begins { IsTrue (suits D.SectorDevice device) → OpeningBegins D.SectorDevice device (device_after result) }
 {
-    match opened(device) {
-        Ok(store) => Ok(store.into_device()),
+    let mut ignored = [0; 512];
+    match open_kept(device, &mut ignored) {
+        Ok((recovered, _)) => Ok(recovered),
         Err(refused) => Err(refused),
     }
 }
 
 /// Reads block `block` into `out`, of 1,024 bytes. A refusal hands the device back, and leaves `out`: those of the
-/// arguments come first, as `check_read` says, with no call of the device, and then those of `opened`.
+/// arguments come first, as `check_read` says, with no call of the device, and then those of `open_kept`.
 pub fn read_block<D: SectorDevice>(device: D, block: u16, out: &mut [u8]) -> Result<D, (Refusal, D)>
     ensures bytes { IsTrue (suits D.SectorDevice device)
         → OnOk result (out.new ≡ block_in (meant_by D.SectorDevice device) block) }
@@ -108,44 +78,25 @@ pub fn read_block<D: SectorDevice>(device: D, block: u16, out: &mut [u8]) -> Res
     ensures begins { IsTrue (suits D.SectorDevice device) → ReadingBegins D.SectorDevice device (device_after result) }
 {
     match check_read(device.sectors(), block, out.len()) {
-        Ok(()) => match opened(device) {
-            Ok(store) => read_from(store, block, out),
-            Err(refused) => Err(refused),
-        },
+        Ok(()) => {
+            let mut listing = [0; 512];
+            match open_kept(device, &mut listing) {
+                Ok((begun, is_open)) => {
+                    match read_resting(begun, is_open, &mut listing, block, out) {
+                        Ok((after, _)) => Ok(after),
+                        Err(refused) => Err(refused),
+                    }
+                }
+                Err(refused) => Err(refused),
+            }
+        }
         Err(refusal) => Err((refusal, device)),
-    }
-}
-
-/// Reads a block of a store that was opened.
-fn read_from<D: SectorDevice>(
-    mut store: Store<D>,
-    block: u16,
-    out: &mut [u8],
-) -> Result<D, (Refusal, D)>
-    requires below { block < blocks_of store }
-    requires whole { length out.old ≡ 1024 }
-    requires live { closed_of store ≡ false }
-    ensures bytes { (m : Maps) → StandsFor store m → OnOk result (out.new ≡ contents m block) }
-    ensures kept { OnErr result (out.new ≡ out.old) }
-    ensures same { (m : Maps) → StandsFor store m → LeavesBlocks D.SectorDevice (device_after result) m.saved }
-    ensures stops { (m : Maps) → StandsFor store m
-        → StopsLeave D.SectorDevice (device_of store) (device_after result) (MeansBy store m.saved) }
-    ensures refusal { IfErr result (λ e. e.0 ≡ Refusal.Device) }
-    ensures well { IfOk result (λ after. D.failures after ≡ D.failures (device_of store)) }
-    ensures failed { IfErr result (λ e. D.failures e.1 ≡ count_up (D.failures (device_of store))) }
-    ensures goes { Becomes D.SectorDevice (device_of store) (device_after result) }
-    ensures begins { BeginsAtMost D.SectorDevice (device_of store) (device_after result) 0 0 }
-    ensures reads { ReadsAtMost D.SectorDevice (device_of store) (device_after result) 2 }
-{
-    match store.read_block(block, out) {
-        Ok(()) => Ok(store.into_device()),
-        Err(_) => Err((Refusal::Device, store.into_device())),
     }
 }
 
 /// Saves `blocks`, all or none, each with its 1,024 of `bytes`; of a block that stands twice the last bytes count. A
 /// refusal hands the device back: those of the arguments come first, as `check_save` says, with no call of the device,
-/// then those of `opened`, and `Device` where the save failed.
+/// then those of `open_kept`, and `Device` where the save failed.
 pub fn save_blocks<D: SectorDevice>(
     device: D,
     blocks: &[u16],
@@ -173,38 +124,19 @@ pub fn save_blocks<D: SectorDevice>(
     ensures begins { IsTrue (suits D.SectorDevice device) → SavingBegins D.SectorDevice device (device_after result) (length blocks.now) }
 {
     match check_save(device.sectors(), blocks, bytes.len()) {
-        Ok(()) => match opened(device) {
-            Ok(store) => save_to(store, blocks, bytes),
-            Err(refused) => Err(refused),
-        },
+        Ok(()) => {
+            let mut listing = [0; 512];
+            match open_kept(device, &mut listing) {
+                Ok((begun, is_open)) => {
+                    match save_resting(begun, is_open, &mut listing, blocks, bytes) {
+                        Ok((ended, _)) => Ok(ended),
+                        Err(refused) => Err(refused),
+                    }
+                }
+                Err(refused) => Err(refused),
+            }
+        }
         Err(refusal) => Err((refusal, device)),
-    }
-}
-
-/// Saves blocks to a store that was opened.
-fn save_to<D: SectorDevice>(
-    mut store: Store<D>,
-    blocks: &[u16],
-    bytes: &[u8],
-) -> Result<D, (Refusal, D)>
-    requires below { list_all (λ b. nat_lt b (blocks_of store)) blocks.now ≡ true }
-    requires whole { length bytes.now ≡ 1024 * length blocks.now }
-    requires live { closed_of store ≡ false }
-    requires none { (b : ℕ) → is_pending store b ≡ false }
-    ensures saved { (m : Maps) → StandsFor store m → IfOk result (λ after.
-        LeavesBlocks D.SectorDevice after (latest (all_spilled m blocks.now bytes.now))) }
-    ensures stops { (m : Maps) → StandsFor store m
-        → StopsLeave D.SectorDevice (device_of store) (device_after result)
-        (λ image. MeansBy store m.saved image ⊎ MeansBy store (latest (all_spilled m blocks.now bytes.now)) image) }
-    ensures refusal { IfErr result (λ e. e.0 ≡ Refusal.Device) }
-    ensures well { IfOk result (λ after. D.failures after ≡ D.failures (device_of store)) }
-    ensures failed { IfErr result (λ e. D.failures e.1 ≡ count_up (D.failures (device_of store))) }
-    ensures goes { Becomes D.SectorDevice (device_of store) (device_after result) }
-    ensures begins { SavesAtMost D.SectorDevice (device_of store) (device_after result) (length blocks.now) }
-{
-    match save_all(&mut store, blocks, bytes) {
-        Ok(()) => Ok(store.into_device()),
-        Err(_) => Err((Refusal::Device, store.into_device())),
     }
 }
 

@@ -5,9 +5,10 @@ ghost use Rattle.std.specs.Prelude.{◌≡◌, ◌≢◌, ◌⊎◌, ◌<◌, �
 ghost use Rattle.std.specs.List.{list_all};
 ghost use Rattle.sector_disk.specs.Counting.{count_up};
 ghost use Rattle.journal.specs.Calls.{StopsLeave};
-ghost use Rattle.journal.specs.Maps.{Maps, block_in, fresh};
-ghost use Rattle.stores.specs.Resting.{HasRested, Rests, StandsAsRested};
-ghost use Rattle.journal.specs.Store.{StandsFor, blocks_of, closed_of, device_of, is_pending};
+ghost use Rattle.journal.specs.Maps.{block_in};
+ghost use Rattle.stores.specs.Opened.{IsReady};
+ghost use Rattle.stores.specs.Resting.{HasRested, Rests};
+ghost use Rattle.journal.specs.Store.{closed_of, is_pending};
 ghost use Rattle.journal.specs.Suits.{suits};
 ghost use Rattle.shadow.specs.Label.{is_known_size};
 ghost use Rattle.shadow.specs.Upgraded.{known_blocks};
@@ -19,17 +20,17 @@ ghost use Rattle.embed.specs.Refusals.{IsOfImage, read_refusal, save_refusal, re
 ghost use Rattle.embed.specs.Saving.{with_blocks};
 
 use crate::arguments::{check_read, check_save};
-use crate::block_calls::{opened, save_all};
+use crate::block_calls::save_all;
 use crate::refusal::Refusal;
 use sector_disk::SectorDevice;
-use stores::{Store, blocks_of_size, named, resume};
+use stores::{Store, adopt, blocks_of_size, named, ready, resume};
 
 /// Opens the image: what a stop has left half done is finished first. It answers the device and whether the gate is
 /// open, and puts the record that the gate names into `listing`. A refusal hands the device back, and leaves `listing`:
 /// `BadSize`, with no call of the device, `NoLabel`, `OtherVersion`, `WrongCount` or `Damaged`, the first that holds,
 /// or `Device`.
 pub fn open_kept<D: SectorDevice>(
-    device: D,
+    mut device: D,
     listing: &mut [u8; 512],
 ) -> Result<(D, bool), (Refusal, D)>
     // A store rests there, which has the blocks that the image meant.
@@ -56,9 +57,10 @@ pub fn open_kept<D: SectorDevice>(
         → StopsLeave D.SectorDevice device (kept_after result) (MayRecover D.SectorDevice device) }
     ensures begins { IsTrue (suits D.SectorDevice device) → OpeningBegins D.SectorDevice device (kept_after result) }
 {
-    match opened(device) {
-        Ok(store) => Ok(rested(store, listing)),
-        Err(refused) => Err(refused),
+    let mut found = [0; 512];
+    match ready(&mut device, &mut found) {
+        Ok((blocks, is_open)) => Ok(laid_to_rest(device, blocks, is_open, &found, listing)),
+        Err(fault) => Err((Refusal::from(fault), device)),
     }
 }
 
@@ -96,7 +98,7 @@ pub fn read_kept<D: SectorDevice>(
     ensures begins { Begins D.SectorDevice device (kept_after result) 0 0 2 }
 {
     match check_read(device.sectors(), block, out.len()) {
-        Ok(()) => read_resumed(resumed(device, is_open, listing), listing, block, out),
+        Ok(()) => read_resting(device, is_open, listing, block, out),
         Err(refusal) => Err((refusal, device)),
     }
 }
@@ -133,86 +135,113 @@ pub fn save_kept<D: SectorDevice>(
     ensures begins { SavesAtMost D.SectorDevice device (kept_after result) (length blocks.now) }
 {
     match check_save(device.sectors(), blocks, bytes.len()) {
-        Ok(()) => save_resumed(resumed(device, is_open, listing), listing, blocks, bytes),
+        Ok(()) => save_resting(device, is_open, listing, blocks, bytes),
         Err(refusal) => Err((refusal, device)),
     }
 }
 
-/// Reads a block of a store that rested, and lets it rest again.
-fn read_resumed<D: SectorDevice>(
-    mut store: Store<D>,
+/// Reads a block of the store that rests on the device, and lets it rest again.
+// A call of its own, as the save is, so that one store lies on the stack, and none while an image is opened.
+#[inline(never)]
+pub fn read_resting<D: SectorDevice>(
+    device: D,
+    is_open: bool,
     listing: &mut [u8; 512],
     block: u16,
     out: &mut [u8],
 ) -> Result<(D, bool), (Refusal, D)>
-    requires below { block < blocks_of store }
+    requires known { is_known_size (D.sector_count device) ≡ true }
+    requires below { block < known_blocks (D.sector_count device) }
     requires whole { length out.old ≡ 1024 }
-    requires live { closed_of store ≡ false }
-    requires none { (b : ℕ) → is_pending store b ≡ false }
-    ensures bytes { (saved : List (List ℕ)) → StandsFor store (fresh saved) → OnOk result (out.new ≡ block_in saved block) }
+    requires rested { IsTrue (suits D.SectorDevice device) → HasRested D.SectorDevice device is_open listing.old }
+    ensures bytes { (saved : List (List ℕ)) → HoldsOpen D.SectorDevice device is_open listing.old saved
+        → OnOk result (out.new ≡ block_in saved block) }
     ensures kept { OnErr result (out.new ≡ out.old) }
     ensures rests { IfOk result (λ kept. HasRested D.SectorDevice kept.0 kept.1 listing.new) }
-    ensures holds { (saved : List (List ℕ)) → StandsFor store (fresh saved)
+    ensures holds { (saved : List (List ℕ)) → HoldsOpen D.SectorDevice device is_open listing.old saved
         → IfOk result (λ kept. HoldsOpen D.SectorDevice kept.0 kept.1 listing.new saved) }
-    ensures sectors { IfOk result (λ kept. D.sector_count kept.0 ≡ D.sector_count (device_of store)) }
-    ensures stops { (saved : List (List ℕ)) → StandsFor store (fresh saved)
-        → StopsLeave D.SectorDevice (device_of store) (kept_after result) (MeansOn D.SectorDevice (device_of store) saved) }
+    ensures sectors { IfOk result (λ kept. D.sector_count kept.0 ≡ D.sector_count device) }
+    ensures stops { (saved : List (List ℕ)) → HoldsOpen D.SectorDevice device is_open listing.old saved
+        → StopsLeave D.SectorDevice device (kept_after result) (MeansOn D.SectorDevice device saved) }
     ensures refusal { IfErr result (λ e. e.0 ≡ Refusal.Device) }
     ensures same { OnErr result (listing.new ≡ listing.old) }
-    ensures well { IfOk result (λ kept. D.failures kept.0 ≡ D.failures (device_of store)) }
-    ensures failed { IfErr result (λ e. D.failures e.1 ≡ count_up (D.failures (device_of store))) }
-    ensures goes { Becomes D.SectorDevice (device_of store) (kept_after result) }
-    ensures begins { Begins D.SectorDevice (device_of store) (kept_after result) 0 0 2 }
+    ensures well { IfOk result (λ kept. D.failures kept.0 ≡ D.failures device) }
+    ensures failed { IfErr result (λ e. D.failures e.1 ≡ count_up (D.failures device)) }
+    ensures goes { Becomes D.SectorDevice device (kept_after result) }
+    ensures begins { Begins D.SectorDevice device (kept_after result) 0 0 2 }
 {
+    let count = block_count(&device);
+    let mut store = resume(device, count, is_open, listing);
     match store.read_block(block, out) {
         Ok(()) => Ok(rested(store, listing)),
         Err(_) => Err((Refusal::Device, store.into_device())),
     }
 }
 
-/// Saves blocks to a store that rested, and lets it rest again.
-fn save_resumed<D: SectorDevice>(
-    mut store: Store<D>,
+/// Saves blocks to the store that rests on the device, and lets it rest again.
+#[inline(never)]
+pub fn save_resting<D: SectorDevice>(
+    device: D,
+    is_open: bool,
     listing: &mut [u8; 512],
     blocks: &[u16],
     bytes: &[u8],
 ) -> Result<(D, bool), (Refusal, D)>
-    requires below { list_all (λ b. nat_lt b (blocks_of store)) blocks.now ≡ true }
+    requires known { is_known_size (D.sector_count device) ≡ true }
+    requires below { list_all (λ b. nat_lt b (known_blocks (D.sector_count device))) blocks.now ≡ true }
     requires whole { length bytes.now ≡ 1024 * length blocks.now }
-    requires live { closed_of store ≡ false }
-    requires none { (b : ℕ) → is_pending store b ≡ false }
+    requires rested { IsTrue (suits D.SectorDevice device) → HasRested D.SectorDevice device is_open listing.old }
     ensures rests { IfOk result (λ kept. HasRested D.SectorDevice kept.0 kept.1 listing.new) }
-    ensures saved { (saved : List (List ℕ)) → StandsFor store (fresh saved)
+    ensures saved { (saved : List (List ℕ)) → HoldsOpen D.SectorDevice device is_open listing.old saved
         → IfOk result (λ kept. HoldsOpen D.SectorDevice kept.0 kept.1 listing.new (with_blocks saved blocks.now bytes.now)) }
-    ensures sectors { IfOk result (λ kept. D.sector_count kept.0 ≡ D.sector_count (device_of store)) }
-    ensures stops { (saved : List (List ℕ)) → StandsFor store (fresh saved)
-        → StopsLeave D.SectorDevice (device_of store) (kept_after result)
-        (SavesOpen D.SectorDevice (device_of store) saved blocks.now bytes.now) }
+    ensures sectors { IfOk result (λ kept. D.sector_count kept.0 ≡ D.sector_count device) }
+    ensures stops { (saved : List (List ℕ)) → HoldsOpen D.SectorDevice device is_open listing.old saved
+        → StopsLeave D.SectorDevice device (kept_after result) (SavesOpen D.SectorDevice device saved blocks.now bytes.now) }
     ensures refusal { IfErr result (λ e. e.0 ≡ Refusal.Device) }
     ensures same { OnErr result (listing.new ≡ listing.old) }
-    ensures well { IfOk result (λ kept. D.failures kept.0 ≡ D.failures (device_of store)) }
-    ensures failed { IfErr result (λ e. D.failures e.1 ≡ count_up (D.failures (device_of store))) }
-    ensures goes { Becomes D.SectorDevice (device_of store) (kept_after result) }
-    ensures begins { SavesAtMost D.SectorDevice (device_of store) (kept_after result) (length blocks.now) }
+    ensures well { IfOk result (λ kept. D.failures kept.0 ≡ D.failures device) }
+    ensures failed { IfErr result (λ e. D.failures e.1 ≡ count_up (D.failures device)) }
+    ensures goes { Becomes D.SectorDevice device (kept_after result) }
+    ensures begins { SavesAtMost D.SectorDevice device (kept_after result) (length blocks.now) }
 {
+    let count = block_count(&device);
+    let mut store = resume(device, count, is_open, listing);
     match save_all(&mut store, blocks, bytes) {
         Ok(()) => Ok(rested(store, listing)),
         Err(_) => Err((Refusal::Device, store.into_device())),
     }
 }
 
-/// The store that rested on the device.
-fn resumed<D: SectorDevice>(device: D, is_open: bool, listing: &[u8; 512]) -> Store<D>
+/// Lets a store rest over an image that was made ready for one, with this state of its gate and the record `found`.
+// A call of its own, so that no store lies on the stack while the image is made ready.
+#[inline(never)]
+fn laid_to_rest<D: SectorDevice>(
+    device: D,
+    blocks: u16,
+    is_open: bool,
+    found: &[u8; 512],
+    listing: &mut [u8; 512],
+) -> (D, bool)
     requires known { is_known_size (D.sector_count device) ≡ true }
-    requires rested { IsTrue (suits D.SectorDevice device) → HasRested D.SectorDevice device is_open listing.now }
-    ensures device { device_of result ≡ device }
-    ensures blocks { blocks_of result ≡ known_blocks (D.sector_count device) }
-    ensures closed { closed_of result ≡ false }
-    ensures none { (b : ℕ) → is_pending result b ≡ false }
-    ensures state { StandsAsRested D.SectorDevice device is_open listing.now result }
+    requires count { blocks ≡ known_blocks (D.sector_count device) }
+    requires is_ready { IsTrue (suits D.SectorDevice device)
+        → IsReady (D.sector_count device) blocks is_open found.now (D.disk device) }
+    ensures device { result.0 ≡ device }
+    ensures rests { HasRested D.SectorDevice result.0 result.1 listing.new }
+    ensures holds { IsTrue (suits D.SectorDevice device)
+        → HoldsOpen D.SectorDevice result.0 result.1 listing.new (meant_by D.SectorDevice device) }
 {
-    let blocks = blocks_of_size(device.sectors()).unwrap();
-    resume(device, blocks, is_open, listing)
+    rested(adopt(device, blocks, is_open, found), listing)
+}
+
+/// How many blocks the image on the device has.
+// A call of its own: where nothing branches before a store is made it is made in its place, and not moved there.
+#[inline(never)]
+pub fn block_count<D: SectorDevice>(device: &D) -> u16
+    requires { is_known_size (D.sector_count device.now) ≡ true }
+    ensures { result ≡ known_blocks (D.sector_count device.now) }
+{
+    blocks_of_size(device.sectors()).unwrap()
 }
 
 /// Lets an open store rest of which nothing is pending: its device, and whether the gate is open; the record goes into

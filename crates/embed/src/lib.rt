@@ -15,6 +15,8 @@ mod making;
 mod memory_console;
 mod memory_host;
 mod open_store;
+#[cfg(test)]
+mod opening_tests;
 mod promises;
 mod refusal;
 mod running;

@@ -11,6 +11,7 @@ pub const GATE_SHUT: u32 = 0x5348_5554;
 pub const GATE_OPEN: u32 = 0x4F50_454E;
 
 /// What stays of an open store between two calls. It lies in the memory of the C program, which looks at nothing of it.
+#[derive(Drop)]
 #[repr(C)]
 pub struct OpenStore {
     /// The number of its device.

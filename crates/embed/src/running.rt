@@ -8,12 +8,12 @@ ghost use Rattle.journal.specs.Suits.{suits};
 ghost use Rattle.shadow.specs.Label.{is_known_size};
 ghost use Rattle.sessions.specs.declared.run_fault.RunFault.TheVariants.{Read as ReadFault, Write as WriteFault};
 ghost use Rattle.sessions.specs.Devices.{Becomes};
-ghost use Rattle.embed.specs.Calls.{MayRecover, device_after};
+ghost use Rattle.embed.specs.Calls.{MayRecover, OpensOn, device_after};
 ghost use Rattle.embed.specs.Costs.{OpeningBegins};
 ghost use Rattle.embed.specs.Refusals.{IsOfImage, IsOfSession, refusal_of};
 ghost use Rattle.embed.specs.Sessions.{RunsSession, BreaksSession, BegunOn, BegunOver, EndsOn};
 
-use crate::block_calls::opened;
+use crate::kept_calls::{block_count, open_kept};
 use crate::refusal::Refusal;
 use interpreter::promise::Lines;
 use interpreter::{Forth, Memory};
@@ -21,7 +21,7 @@ use sector_disk::SectorDevice;
 use sessions::run;
 use std::alloc::Global;
 use std::io::{Read, Write};
-use stores::Store;
+use stores::{Store, resume};
 
 /// Opens the image, and runs the lines of the input over it by a new system, at most `steps` steps a line, 1 or more.
 /// It answers the device where the input was run to its end. A refusal hands the device back: `NoSteps`, with no call
@@ -85,6 +85,44 @@ pub fn run_image<D: SectorDevice + Drop, R: Read, W: Write>(
                 Ok(()) => Ok(after),
                 Err(fault) => Err((Refusal::from(fault), after)),
             }
+        }
+        Err(refused) => Err(refused),
+    }
+}
+
+/// Opens the image: what a stop has left half done is finished first. A refusal hands the device back: `BadSize`, with
+/// no call of it, `NoLabel`, `OtherVersion`, `WrongCount` or `Damaged`, the first that holds, or `Device` where a call
+/// of it failed.
+/// Rule: IMAGE, A recovery; IMAGE, Layout 3, An opening.
+// A call of its own, so that what it has doesn't lie on the stack while the system is made.
+#[inline(never)]
+fn opened<D: SectorDevice>(device: D) -> Result<Store<D>, (Refusal, D)>
+    ensures ok { IfOk result (λ store. OpensOn D.SectorDevice device store) }
+    ensures sized { IfOk result (λ _. is_known_size (D.sector_count device) ≡ true) }
+    ensures bad_size { IfErr result (λ e. MatchBool (is_known_size (D.sector_count device))
+        (e.0 ≢ Refusal.BadSize) (e.0 ≡ Refusal.BadSize)) }
+    ensures unasked { IfErr result (λ e. e.0 ≡ Refusal.BadSize → e.1 ≡ device) }
+    ensures image { IfErr result (λ e. IsOfImage e.0) }
+    // Each refusal tells the first test that the image fails.
+    ensures exact { IsTrue (suits D.SectorDevice device) → MatchResult result
+        (λ _. refusal_of (D.sector_count device) (D.disk device).content ≡ None)
+        (λ e. (e.0 ≡ Refusal.Device) ⊎ (refusal_of (D.sector_count device) (D.disk device).content ≡ Some e.0)) }
+    ensures well { IfOk result (λ store. D.failures (device_of store) ≡ D.failures device) }
+    ensures failed { IfErr result (λ e. e.0 ≡ Refusal.Device → D.failures e.1 ≡ count_up (D.failures device)) }
+    ensures unfailed { IfErr result (λ e. e.0 ≢ Refusal.Device → D.failures e.1 ≡ D.failures device) }
+    ensures content { IsTrue (suits D.SectorDevice device)
+        → IfErr result (λ e. e.0 ≢ Refusal.Device → (D.disk e.1).content ≡ (D.disk device).content) }
+    ensures goes { IfErr result (λ e. Becomes D.SectorDevice device e.1) }
+    ensures stops { IsTrue (suits D.SectorDevice device) → IfErr result (λ e.
+        StopsLeave D.SectorDevice device e.1 (MayRecover D.SectorDevice device)) }
+    ensures begins { IsTrue (suits D.SectorDevice device) → MatchResult result
+        (λ store. OpeningBegins D.SectorDevice device (device_of store)) (λ e. OpeningBegins D.SectorDevice device e.1) }
+{
+    let mut listing = [0; 512];
+    match open_kept(device, &mut listing) {
+        Ok((begun, is_open)) => {
+            let count = block_count(&begun);
+            Ok(resume(begun, count, is_open, &listing))
         }
         Err(refused) => Err(refused),
     }
