@@ -19,6 +19,9 @@ const WHOLE: Script = Script {
     calls: 0,
 };
 
+/// What is told of changed blocks.
+const NOTICE: &[u8] = b"forth83: image: changed blocks were not saved\n";
+
 /// A disk with an image of blank blocks.
 fn formatted(rt: &impl AllocGlobal) -> Result<MemoryDisk, Fail> {
     match format(MemoryDisk::new(rt.alloc(), SECTORS)?, 32) {
@@ -89,6 +92,29 @@ fn commands_on_an_image(rt: HostRuntime) -> Result<(), Fail> {
         0,
         b"8224  ok\n",
     );
+    Ok(())
+}
+
+/// Changed blocks count as not saved where the save of them failed; where none was changed before a call failed nothing
+/// is told of them.
+#[test]
+fn changed_blocks_where_a_call_fails(rt: HostRuntime) -> Result<(), Fail> {
+    let words = ["forth83", "run", "A", "--strict"];
+    let lines = b"1 BLOCK DROP\n7 1 BLOCK ! UPDATE FLUSH\n";
+    let mut failed_saves = 0u32;
+    for fails_after in 0..32 {
+        let script = Script {
+            fails_after,
+            ..WHOLE
+        };
+        let files = MemoryFiles::new(rt.alloc(), as_file(&rt, formatted(&rt)?)?, script);
+        let left = call_over(&rt, &files, &words, lines);
+        let is_told = left.errors.as_slice().starts_with(NOTICE);
+        let is_failed = left.output.as_slice() == b" ok\n ? DEVICE\n".as_slice();
+        assert_same!(rt; is_told, is_failed, "{fails_after}");
+        failed_saves = failed_saves.saturating_add(u32::from(is_failed));
+    }
+    assert_same!(rt; failed_saves > 8, true);
     Ok(())
 }
 

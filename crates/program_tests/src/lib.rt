@@ -14,6 +14,8 @@ mod newer_images;
 #[cfg(test)]
 mod newer_images_in_memory;
 #[cfg(test)]
+mod scripts;
+#[cfg(test)]
 mod standard_streams;
 #[cfg(test)]
 mod stopping;

@@ -1,4 +1,4 @@
-//! Images of layout 3 on disks in memory, whose calls fail and are stopped, that are checked, copied, salvaged, and listed by reads alone.
+//! Images of layout 3 on disks in memory, whose calls fail and are stopped, that are checked, copied, salvaged, and listed and exported by reads alone.
 use super::newer_images::{LENGTH, NAMED};
 use super::stopping::{Disk, FATES, Fate, OneDisk, Opened};
 use super::support::{
@@ -257,10 +257,11 @@ fn making_is_stopped(
     Ok(())
 }
 
-/// The disk, as a system of files that can't be opened for writing.
+/// The disk, as a system of files of which none is opened for writing.
 #[derive(Drop)]
 struct Unwritable<'a> {
     files: OneDisk<'a>,
+    fault: FileFault,
 }
 
 impl<'a> HostFiles<Opened<'a>> for Unwritable<'a> {
@@ -269,7 +270,7 @@ impl<'a> HostFiles<Opened<'a>> for Unwritable<'a> {
     ghost makes = { λ files path file. Unit {0} };
 
     fn open(&self, _path: &str) -> Result<Opened<'a>, FileFault> {
-        Err(FileFault::Cannot)
+        Err(self.fault)
     }
 
     fn make(&self, path: &str) -> Result<Opened<'a>, FileFault> {
@@ -283,11 +284,26 @@ impl<'a> HostFiles<Opened<'a>> for Unwritable<'a> {
 
 /// Lists a block of the image on a disk that may only be read.
 fn list_unwritable(rt: &(impl Files<File = File> + AllocGlobal), disk: &Disk, block: &str) -> Left {
+    call_unwritable(
+        rt,
+        disk,
+        FileFault::Cannot,
+        &["forth83", "list", "A", block],
+    )
+}
+
+/// Calls the program over the image on a disk that isn't opened for writing, for this reason.
+fn call_unwritable(
+    rt: &(impl Files<File = File> + AllocGlobal),
+    disk: &Disk,
+    fault: FileFault,
+    words: &[&str],
+) -> Left {
     let files = Unwritable {
         files: OneDisk::new(disk),
+        fault,
     };
-    let words = ["forth83", "list", "A", block];
-    call_over_both(rt, &files, &OneDisk::new(disk), &words, b"")
+    call_over_both(rt, &files, &OneDisk::new(disk), words, b"")
 }
 
 /// A block of an image that may only be read is listed as after an opening, and nothing is written.
@@ -360,5 +376,70 @@ fn check_unlisted(
     let wanted = format!(in rt.alloc(); "forth83: image: {text}\n")?;
     assert_same!(rt; (left.status, left.output.is_empty()), (3, true), "{text}");
     assert_same!(rt; left.errors.as_slice(), wanted.as_bytes(), "{text}");
+    Ok(())
+}
+
+/// Blocks of an image that can't be opened for writing, or is in use, are exported as after an opening, and nothing is
+/// written.
+#[test]
+fn exports_by_reads_alone(rt: HostRuntime) -> Result<(), Fail> {
+    let disk = with_sevens(&rt)?;
+    let before = disk.copy(&rt)?;
+    // Label, gate, record, each block with its tag, and each block that is asked for once more.
+    for (first, last, calls) in [("0", "31", 163), ("2", "2", 101), ("1", "3", 105)] {
+        let words = ["forth83", "export", "A", first, last];
+        check_exported(&rt, &disk, &words, calls)?;
+        let words = ["forth83", "export", "A", first, last, "--raw"];
+        check_exported(&rt, &disk, &words, calls)?;
+    }
+    assert!(rt; disk.copy(&rt)? == before);
+    Ok(())
+}
+
+/// What is exported by reads alone, and by so many calls.
+fn check_exported(
+    rt: &(impl Files<File = File> + AllocGlobal + Abort),
+    disk: &Disk,
+    words: &[&str],
+    calls: u64,
+) -> Result<(), Fail> {
+    for fault in [FileFault::Cannot, FileFault::InUse] {
+        disk.begin(u64::MAX);
+        let left = call_unwritable(rt, disk, fault, words);
+        assert_same!(rt; (left.status, disk.calls()), (0, calls), "{words:?}");
+        assert!(rt; left.errors.is_empty(), "{words:?}");
+        let opened = call_over(rt, &OneDisk::new(disk), words, b"");
+        assert_same!(rt; left.output.as_slice(), opened.output.as_slice(), "{words:?}");
+    }
+    Ok(())
+}
+
+/// Such an export is refused as by an opening, and then where a block isn't there; a fault of a read ends it.
+#[test]
+fn exports_by_reads_alone_that_are_refused(rt: HostRuntime) -> Result<(), Fail> {
+    let disk = with_sevens(&rt)?;
+    for (first, last) in [("31", "32"), ("2", "1"), ("32", "65535")] {
+        let words = ["forth83", "export", "A", first, last];
+        let left = call_unwritable(&rt, &disk, FileFault::InUse, &words);
+        assert_same!(rt; (left.status, left.output.is_empty()), (3, true), "{first}");
+        assert_same!(rt; left.errors.as_slice(), b"forth83: image: no block
+".as_slice(), "{first}");
+    }
+    for k in [0, 1, 2, 3, 98, 99, 100, 104] {
+        disk.begin(k);
+        let words = ["forth83", "export", "A", "1", "3"];
+        let left = call_unwritable(&rt, &disk, FileFault::InUse, &words);
+        assert_same!(rt; left.status, 3, "{k}");
+        assert_same!(rt; left.errors.as_slice(), DEVICE_FAULT.as_bytes(), "{k}");
+    }
+    let mut bytes = disk.copy(&rt)?;
+    change(bytes.as_mut_slice(), 56, 0);
+    disk.begin(u64::MAX);
+    disk.set(bytes.as_slice());
+    let words = ["forth83", "export", "A", "31", "32"];
+    let left = call_unwritable(&rt, &disk, FileFault::InUse, &words);
+    assert_same!(rt; (left.status, left.output.is_empty()), (3, true));
+    assert_same!(rt; left.errors.as_slice(), b"forth83: image: damaged
+".as_slice());
     Ok(())
 }

@@ -13,6 +13,7 @@ use std::rt::Files;
 use std::test::Fail;
 use std::{fs, io};
 use stores::Store;
+use terminal::Led;
 
 /// What a call of the program left.
 #[derive(Debug, Drop)]
@@ -42,8 +43,12 @@ pub(crate) fn command<R: Read, W: Write, E: Write>(
     output: &mut W,
     errors: &mut E,
 ) -> u8 {
-    terminal::command::<Forth<FileDisk>, Forth<MemoryDisk>, _, R, W, E>(
-        rt, words, input, output, errors,
+    terminal::command::<Forth<FileDisk>, Forth<MemoryDisk>, _, Led<&mut R>, W, E>(
+        rt,
+        words,
+        &mut Led::new(rt.alloc(), input),
+        output,
+        errors,
     )
 }
 
@@ -102,7 +107,7 @@ pub(crate) fn call_over_both<
     words: &[&str],
     input: &[u8],
 ) -> Left {
-    let mut input = input;
+    let mut input = Led::new(rt.alloc(), input);
     let mut output: Vec<u8> = Vec::new(rt.alloc());
     let mut errors: Vec<u8> = Vec::new(rt.alloc());
     let status = terminal::command_over::<
@@ -119,6 +124,7 @@ pub(crate) fn call_over_both<
     >(
         rt,
         files,
+        looking,
         looking,
         words,
         &mut input,

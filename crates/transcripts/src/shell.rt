@@ -8,7 +8,7 @@ use std::cell::Cell;
 use std::fs::{File, Files};
 use std::io::{Error, ErrorKind, Read, Write};
 use std::{fs, io, mem};
-use terminal::command;
+use terminal::{Led, command};
 
 /// A command of a line; commands are divided by `; `.
 enum Command<'a> {
@@ -189,10 +189,10 @@ impl Shell {
     ) -> io::Result<Vec<u8>> {
         let words: Vec<&str> = words.split_whitespace().collect(rt.alloc())?;
         let mut errors: Vec<u8> = Vec::new(rt.alloc());
-        self.status = command::<Forth<FileDisk>, Forth<MemoryDisk>, _, R, W, Vec<u8>>(
+        self.status = command::<Forth<FileDisk>, Forth<MemoryDisk>, _, Led<&mut R>, W, Vec<u8>>(
             rt,
             words.as_slice(),
-            input,
+            &mut Led::new(rt.alloc(), input),
             output,
             &mut errors,
         );
