@@ -110,7 +110,8 @@ class Choice:
                     self.folders.setdefault(f"{name}/{os.path.basename(it).removesuffix('.edit')}", []).append(folder)
         self.names = [it for it in self.folders if self.tries(it)]
         uses = {it for line in crates.values() for it in line.partition(":")[2].split()}
-        self.tests = [it for it in crates if it not in uses and self.holds_tests(it)]
+        # (a static library is proved always, with what tests it has)
+        self.tests = [it for it in crates if it not in uses and "staticlib" not in crates[it].partition(":")[0] and self.holds_tests(it)]
         self.left_out = [it for at, it in enumerate(self.tests) if not is_whole and at % FIFTHS != self.fifth]
 
     def number(self):

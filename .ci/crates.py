@@ -32,6 +32,10 @@ class Crate:
             found.update(dict.fromkeys([*it.below(), it]))
         return list(found)
 
+    def is_static(self):
+        """Whether it is built for programs of other languages."""
+        return "staticlib" in self.line.partition(":")[0]
+
     def is_program(self):
         return os.path.isfile(f"{self.home}/src/main.rt")
 
