@@ -79,6 +79,8 @@ int measure(const struct silgwyrad_device *device) {
         "save of four blocks to an open store", "session"};
     static const char *const newer[8] = {"format by layout 3", "recover by layout 3", "read by layout 3", "save of four blocks by layout 3",
         "open by layout 3", "read of an open store by layout 3", "save of four blocks to an open store by layout 3", "session by layout 3"};
-    const int failed = told("(no call)", nothing) + told_all(newer, NEWER_SECTORS) + told_all(older, OLDER_SECTORS);
+    int failed = told("(no call)", nothing);
+    failed += told_all(newer, NEWER_SECTORS);
+    failed += told_all(older, OLDER_SECTORS);
     return failed + told_steps();
 }

@@ -422,8 +422,7 @@ fn exports_by_reads_alone_that_are_refused(rt: HostRuntime) -> Result<(), Fail> 
         let words = ["forth83", "export", "A", first, last];
         let left = call_unwritable(&rt, &disk, FileFault::InUse, &words);
         assert_same!(rt; (left.status, left.output.is_empty()), (3, true), "{first}");
-        assert_same!(rt; left.errors.as_slice(), b"forth83: image: no block
-".as_slice(), "{first}");
+        assert_same!(rt; left.errors.as_slice(), b"forth83: image: no block\n".as_slice(), "{first}");
     }
     for k in [0, 1, 2, 3, 98, 99, 100, 104] {
         disk.begin(k);
@@ -439,7 +438,6 @@ fn exports_by_reads_alone_that_are_refused(rt: HostRuntime) -> Result<(), Fail> 
     let words = ["forth83", "export", "A", "31", "32"];
     let left = call_unwritable(&rt, &disk, FileFault::InUse, &words);
     assert_same!(rt; (left.status, left.output.is_empty()), (3, true));
-    assert_same!(rt; left.errors.as_slice(), b"forth83: image: damaged
-".as_slice());
+    assert_same!(rt; left.errors.as_slice(), b"forth83: image: damaged\n".as_slice());
     Ok(())
 }
