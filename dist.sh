@@ -18,7 +18,7 @@ esac
 folder=$(cd "$folder" && pwd)
 cd "$(dirname "$0")"
 program=crates/forth83/out/forth83
-[ -x "$program" ] || { echo "dist.sh: $program is not built: see README.md, \"Build it\"" >&2; exit 1; }
+[ -x "$program" ] || { echo "dist.sh: $program is not built: see README.md, \"Get it\"" >&2; exit 1; }
 version=$("$program" --version)
 version=${version#forth83 }
 grep -q "^\.TH FORTH83 1 .* \"forth83 $version\"" share/man/man1/forth83.1 ||
