@@ -94,7 +94,7 @@ pub(crate) fn call_over<H: HostFile + Drop, O: HostFiles<H>>(
     call_over_both(rt, files, files, words, input)
 }
 
-/// The same where the files that are opened for reading alone are those of another system.
+/// Calls it where the files that are opened for reading alone are those of another system.
 pub(crate) fn call_over_both<
     H: HostFile + Drop,
     O: HostFiles<H>,
