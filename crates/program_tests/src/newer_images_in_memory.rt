@@ -261,7 +261,8 @@ fn making_is_stopped(
 #[derive(Drop)]
 struct Unwritable<'a> {
     files: OneDisk<'a>,
-    fault: FileFault,
+    // Another program has it open. Else it is the right to write it that lacks.
+    is_in_use: bool,
 }
 
 impl<'a> HostFiles<Opened<'a>> for Unwritable<'a> {
@@ -270,7 +271,11 @@ impl<'a> HostFiles<Opened<'a>> for Unwritable<'a> {
     ghost makes = { λ files path file. Unit {0} };
 
     fn open(&self, _path: &str) -> Result<Opened<'a>, FileFault> {
-        Err(self.fault)
+        Err(if self.is_in_use {
+            FileFault::InUse
+        } else {
+            FileFault::Cannot
+        })
     }
 
     fn make(&self, path: &str) -> Result<Opened<'a>, FileFault> {
@@ -284,24 +289,19 @@ impl<'a> HostFiles<Opened<'a>> for Unwritable<'a> {
 
 /// Lists a block of the image on a disk that may only be read.
 fn list_unwritable(rt: &(impl Files<File = File> + AllocGlobal), disk: &Disk, block: &str) -> Left {
-    call_unwritable(
-        rt,
-        disk,
-        FileFault::Cannot,
-        &["forth83", "list", "A", block],
-    )
+    call_unwritable(rt, disk, false, &["forth83", "list", "A", block])
 }
 
-/// Calls the program over the image on a disk that isn't opened for writing, for this reason.
+/// Calls the program over the image on a disk that isn't opened for writing, since it is in use or may only be read.
 fn call_unwritable(
     rt: &(impl Files<File = File> + AllocGlobal),
     disk: &Disk,
-    fault: FileFault,
+    is_in_use: bool,
     words: &[&str],
 ) -> Left {
     let files = Unwritable {
         files: OneDisk::new(disk),
-        fault,
+        is_in_use,
     };
     call_over_both(rt, &files, &OneDisk::new(disk), words, b"")
 }
@@ -403,9 +403,9 @@ fn check_exported(
     words: &[&str],
     calls: u64,
 ) -> Result<(), Fail> {
-    for fault in [FileFault::Cannot, FileFault::InUse] {
+    for is_in_use in [false, true] {
         disk.begin(u64::MAX);
-        let left = call_unwritable(rt, disk, fault, words);
+        let left = call_unwritable(rt, disk, is_in_use, words);
         assert_same!(rt; (left.status, disk.calls()), (0, calls), "{words:?}");
         assert!(rt; left.errors.is_empty(), "{words:?}");
         let opened = call_over(rt, &OneDisk::new(disk), words, b"");
@@ -420,14 +420,14 @@ fn exports_by_reads_alone_that_are_refused(rt: HostRuntime) -> Result<(), Fail> 
     let disk = with_sevens(&rt)?;
     for (first, last) in [("31", "32"), ("2", "1"), ("32", "65535")] {
         let words = ["forth83", "export", "A", first, last];
-        let left = call_unwritable(&rt, &disk, FileFault::InUse, &words);
+        let left = call_unwritable(&rt, &disk, true, &words);
         assert_same!(rt; (left.status, left.output.is_empty()), (3, true), "{first}");
         assert_same!(rt; left.errors.as_slice(), b"forth83: image: no block\n".as_slice(), "{first}");
     }
     for k in [0, 1, 2, 3, 98, 99, 100, 104] {
         disk.begin(k);
         let words = ["forth83", "export", "A", "1", "3"];
-        let left = call_unwritable(&rt, &disk, FileFault::InUse, &words);
+        let left = call_unwritable(&rt, &disk, true, &words);
         assert_same!(rt; left.status, 3, "{k}");
         assert_same!(rt; left.errors.as_slice(), DEVICE_FAULT.as_bytes(), "{k}");
     }
@@ -436,7 +436,7 @@ fn exports_by_reads_alone_that_are_refused(rt: HostRuntime) -> Result<(), Fail> 
     disk.begin(u64::MAX);
     disk.set(bytes.as_slice());
     let words = ["forth83", "export", "A", "31", "32"];
-    let left = call_unwritable(&rt, &disk, FileFault::InUse, &words);
+    let left = call_unwritable(&rt, &disk, true, &words);
     assert_same!(rt; (left.status, left.output.is_empty()), (3, true));
     assert_same!(rt; left.errors.as_slice(), b"forth83: image: damaged\n".as_slice());
     Ok(())
