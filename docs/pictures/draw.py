@@ -86,12 +86,15 @@ def crates():
         return depth[name]
 
     storage, program = below["stores"] | {"stores", "image_care", "block_words", "block_buffers"}, {"sessions", "command_line", "terminal", "embed", "forth83"}
+    # (what stands on nothing stands right below the lowest that uses it)
+    for name in [it for it in product if depth_of(it) == 0]:
+        depth[name] = min((depth_of(it) for it in product if name in direct[it]), default=1) - 1
     levels = [[it for it in product if depth_of(it) == level] for level in range(1 + max(map(depth_of, product)))]
     picture, wide, high, gap = Picture("crates", "The crates, each above those that it stands on", 1080), 128, 34, 62
     picture.text(20, 26, picture.title, "head")
     place = {}
     for level, names in enumerate(reversed(levels)):
-        names.sort(key=lambda it: (it not in storage, it in program))
+        names.sort(key=lambda it: (it not in storage, it in program, it != "command_line"))
         step = (picture.wide - 40) / len(names)
         for at, name in enumerate(names):
             place[name] = 20 + step * at + (step - wide) / 2, 44 + level * gap
