@@ -249,6 +249,7 @@ fn texts_and_statuses(rt: HostRuntime) -> Result<(), Fail> {
         (Failure::NotAScreen, "input: not a screen 4"),
         (Failure::CannotWrite, "output: cannot write 4"),
         (Failure::NoMemory, "no memory 5"),
+        (Failure::Stopped, "input: a fault ended a line 1"),
     ];
     for (failure, text) in rows {
         let shown = format!(in rt.alloc(); "{failure} {}", failure.status())?;

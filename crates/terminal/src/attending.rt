@@ -31,6 +31,16 @@ enum Cause {
     Long(u64),
 }
 
+/// What there is of the name of an image that was to be made.
+#[derive(Clone, Copy)]
+enum Target {
+    /// A file that was there before.
+    WasThere,
+    /// The file that was begun for it.
+    Begun,
+    Missing,
+}
+
 /// Tells once, before a session that these words ask for, over what it runs and how it is left. Answers whether they
 /// ask for one whose lines are those of the input.
 pub(super) fn greet<S: AsStr, E: Write>(
@@ -48,7 +58,7 @@ pub(super) fn greet<S: AsStr, E: Write>(
 fn greet_over<E: Write>(rt: &impl Files<File = File>, asked: &Order<'_>, errors: &mut E) -> bool {
     let over = match asked {
         Order::Memory => "32 blocks in memory, which are not kept",
-        Order::Run(path, _, script) if script.files.is_empty() && is_file(rt, *path) => *path,
+        Order::Run(path, _, script) if script.files.is_empty() && may_be_run(rt, *path) => *path,
         _ => return false,
     };
     let _ = writeln!(
@@ -58,16 +68,39 @@ fn greet_over<E: Write>(rt: &impl Files<File = File>, asked: &Order<'_>, errors:
     true
 }
 
+/// Whether there is a file of the name of an image that these words ask to make.
+pub(super) fn is_target_there<S: AsStr>(
+    rt: &(impl Files<File = File> + AllocGlobal),
+    words: &[S],
+) -> bool {
+    match order(rt.alloc(), words) {
+        Ok(asked) => makes_over(rt, &asked),
+        Err(_) => false,
+    }
+}
+
+/// Whether there is a file of the name of the image that an order makes.
+fn makes_over(rt: &impl Files<File = File>, asked: &Order<'_>) -> bool {
+    match asked {
+        Order::New(path, _, _)
+        | Order::Upgrade(_, path, _)
+        | Order::Copy(_, path, _)
+        | Order::Salvage(_, path, _) => fs::metadata(rt, *path).is_ok(),
+        _ => false,
+    }
+}
+
 /// Tells after a failure of this status which file it was about, of those that these words name, and what is wrong with
-/// that.
+/// that. `was_there` says whether, before, there had been a file of the name of an image that was to be made.
 pub(super) fn advise<S: AsStr, E: Write>(
     rt: &(impl Files<File = File> + AllocGlobal),
     words: &[S],
+    was_there: bool,
     status: u8,
     errors: &mut E,
 ) {
     match order(rt.alloc(), words) {
-        Ok(asked) => advise_on(rt, &asked, status, errors),
+        Ok(asked) => advise_on(rt, &asked, was_there, status, errors),
         Err(_) => {}
     }
 }
@@ -76,21 +109,27 @@ pub(super) fn advise<S: AsStr, E: Write>(
 fn advise_on<E: Write>(
     rt: &impl Files<File = File>,
     asked: &Order<'_>,
+    was_there: bool,
     status: u8,
     errors: &mut E,
 ) {
     match status {
-        3 => tell_of_images(rt, asked, errors),
+        3 => tell_of_images(rt, asked, was_there, errors),
         4 => tell_of_texts(rt, asked, errors),
         _ => {}
     }
 }
 
 /// Tells of the images of an order.
-fn tell_of_images<E: Write>(rt: &impl Files<File = File>, asked: &Order<'_>, errors: &mut E) {
+fn tell_of_images<E: Write>(
+    rt: &impl Files<File = File>,
+    asked: &Order<'_>,
+    was_there: bool,
+    errors: &mut E,
+) {
     match asked {
         Order::Memory => {}
-        Order::New(path, _, _) => tell_of_new(rt, *path, errors),
+        Order::New(path, _, _) => tell_of_new(*path, target_found(rt, *path, was_there), errors),
         Order::Run(path, _, _) | Order::Check(path) | Order::Digests(path) => {
             tell_of_old(rt, *path, is_written(asked), errors)
         }
@@ -103,7 +142,8 @@ fn tell_of_images<E: Write>(rt: &impl Files<File = File>, asked: &Order<'_>, err
         }
         Order::Diff(old, new) => tell_of_two(rt, *old, *new, errors),
         Order::Upgrade(old, new, _) | Order::Copy(old, new, _) | Order::Salvage(old, new, _) => {
-            tell_of_both(rt, *old, *new, is_written(asked), errors)
+            let found = target_found(rt, *new, was_there);
+            tell_of_both(rt, *old, *new, is_written(asked), found, errors)
         }
     }
 }
@@ -138,14 +178,23 @@ fn tell_of_both<E: Write>(
     old: &str,
     new: &str,
     is_written: bool,
+    found: Target,
     errors: &mut E,
 ) {
     if cause_of_image(rt, old, is_written).is_some() {
-        tell_of_old(rt, old, is_written, errors)
-    } else if fs::metadata(rt, new).is_ok() {
-        tell_of_new(rt, new, errors)
-    } else {
-        let _ = writeln!(errors, "  {old}, {new}");
+        return tell_of_old(rt, old, is_written, errors);
+    }
+    match found {
+        Target::WasThere => tell_of_new(new, found, errors),
+        Target::Begun => {
+            let _ = writeln!(
+                errors,
+                "  {old}, {new}: {new} was begun, and isn't finished"
+            );
+        }
+        Target::Missing => {
+            let _ = writeln!(errors, "  {old}, {new}");
+        }
     }
 }
 
@@ -198,12 +247,26 @@ fn tell_of_old<E: Write>(
 }
 
 /// Tells of the file of an image that was to be made.
-fn tell_of_new<E: Write>(rt: &impl Files<File = File>, path: &str, errors: &mut E) {
-    let _ = if fs::metadata(rt, path).is_ok() {
-        writeln!(errors, "  {path}: there is a file of this name")
-    } else {
-        writeln!(errors, "  {path}: it can't be made there")
+fn tell_of_new<E: Write>(path: &str, found: Target, errors: &mut E) {
+    let _ = match found {
+        Target::WasThere => writeln!(errors, "  {path}: there is a file of this name"),
+        Target::Begun => writeln!(
+            errors,
+            "  {path}: it was begun, and isn't finished; there may be no room"
+        ),
+        Target::Missing => writeln!(errors, "  {path}: it can't be made there"),
     };
+}
+
+/// What there is of the name of an image that was to be made.
+fn target_found(rt: &impl Files<File = File>, path: &str, was_there: bool) -> Target {
+    if was_there {
+        return Target::WasThere;
+    }
+    match fs::metadata(rt, path) {
+        Ok(_) => Target::Begun,
+        Err(_) => Target::Missing,
+    }
 }
 
 /// Tells of the texts of an order: of the first that can be seen not to be readable, or of the only one.
@@ -294,6 +357,11 @@ fn cause_of_image(rt: &impl Files<File = File>, path: &str, is_written: bool) ->
         Ok(of) if of.is_file() && of.len() < SMALLEST_IMAGE => Some(Cause::Short(of.len())),
         _ => None,
     }
+}
+
+/// Whether nothing that can be seen keeps a file from being an image that is run.
+fn may_be_run(rt: &impl Files<File = File>, path: &str) -> bool {
+    is_file(rt, path) && cause_of_image(rt, path, true).is_none()
 }
 
 fn is_file(rt: &impl Files<File = File>, path: &str) -> bool {

@@ -2,7 +2,7 @@
 //! Rule: PROGRAM, Exit status and messages.
 ghost use Rattle.std.specs.Prelude.{◌↔◌, ◌≤ℤ◌, pos, IsTrue};
 
-use super::attending::{advise, greet};
+use super::attending::{advise, greet, is_target_there};
 use super::hints::hint;
 use super::input::{Input, Led};
 use super::program::{command, traced_in_memory};
@@ -72,6 +72,7 @@ fn call_program<
     let mut output = BufWriter::new(rt.alloc(), output)?;
     let words = words.as_slice();
     let is_typed = is_attended && is_terminal && greet(rt, words, errors);
+    let was_there = is_attended && is_target_there(rt, words);
     let messages = Messages {
         rt,
         words,
@@ -80,7 +81,7 @@ fn call_program<
     };
     let status = called::<F, M, _, _, _>(rt, words, is_attended, &mut input, &mut output, messages);
     if is_attended {
-        advise(rt, words, status, errors);
+        advise(rt, words, was_there, status, errors);
     }
     Ok(status)
 }
