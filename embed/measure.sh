@@ -15,10 +15,8 @@ if [ ! -f "$folder/module.ll" ]; then
     ./module.sh "$folder" > "$folder/library.log" 2>&1 || { tail -n 20 "$folder/library.log"; exit 1; }
 fi
 
-# The most that docs/EMBEDDING.md says of the stack of a call on blocks and of a session, and of a session's heap, in bytes. For a Cortex-M3 the compiler
-# keeps a second store in a save.
+# The most that docs/EMBEDDING.md says of the stack of a call on blocks and of a session, and of a session's heap, in bytes.
 most_of_blocks=6144
-most_of_blocks_on_mps2=8448
 most_of_session=12288
 most_of_heap=491520
 
@@ -38,10 +36,10 @@ print(" ".join(f"{name} {size}" for name, size in sizes.items()))
 END
 }
 
-# Shows the rows of a measurement, and answers whether each call is within the limits, of which the first is that of calls on blocks. Where
-# instructions of so many nanoseconds are the clock, steps are told by these.
+# Shows the rows of a measurement, and answers whether each call is within the limits. Where instructions of so many nanoseconds are the clock, steps are
+# told by these.
 shown() {
-    awk -v what="$1" -v blocks="$2" -v nanoseconds="${3:-0}" -v session=$most_of_session -v heap=$most_of_heap '
+    awk -v what="$1" -v nanoseconds="${2:-0}" -v blocks=$most_of_blocks -v session=$most_of_session -v heap=$most_of_heap '
         $1 == "steps:" && nanoseconds { printf "%s: a step of a loop takes %.1f instructions\n", what, $4 * 1000000 / nanoseconds / $2; next }
         $1 == "steps:" { printf "%s: %.0f million steps of a loop a second\n", what, $2 / $4 / 1000; next }
         { print what ", " $0 }
@@ -60,7 +58,7 @@ gcc -O2 -ffunction-sections -Wl,--gc-sections -Wl,-Map="$folder/forth.map" forth
 gcc -O2 -DARENA=1000000 -Wl,-z,now measure_here.c measure.c disk.c host.c heap.c "$folder/libsilgwyrad.a" -o "$folder/measure"
 echo "x86-64, blocks alone: $(kept "$folder/blocks.map")"
 echo "x86-64, blocks and session: $(kept "$folder/forth.map")"
-"$folder/measure" | shown x86-64 $most_of_blocks || failed=1
+"$folder/measure" | shown x86-64 || failed=1
 
 for board in virt mps2; do
     lacks=$(boards/board.sh lacks $board | tr '\n' ' ')
@@ -75,8 +73,6 @@ for board in virt mps2; do
     echo "$board, blocks alone: $(kept "$folder/$board/trial.map")"
     echo "$board, blocks and session: $(kept "$folder/$board/forth.map")"
     truncate -s 1048576 "$folder/$board/disk.img"
-    most=$most_of_blocks
-    [ $board = virt ] || most=$most_of_blocks_on_mps2
-    timeout 300 boards/board.sh boot $board "$folder/$board/measure_board.elf" "$folder/$board" -icount shift=5 < /dev/null | tr -d '\r' | shown $board $most 32 || failed=1
+    timeout 300 boards/board.sh boot $board "$folder/$board/measure_board.elf" "$folder/$board" -icount shift=5 < /dev/null | tr -d '\r' | shown $board 32 || failed=1
 done
 exit $failed

@@ -9,10 +9,12 @@ place and loaded from there, and nothing looks at the upper half. That is right 
 - each place is computed by bytes and none by the size of a type that has a pointer in it;
 - no pointer is made of a number, and where a pointer is stored it isn't loaded as a number;
 - what is loaded or stored with a pointer in it is a pointer alone, or a pair that is loaded, which becomes two loads;
+- no more bytes are copied or filled at a time than there can be, so 32 bits of their number are enough;
 - each processor puts its lowest byte first.
 The module is read line by line, and one with another form than these is refused, but for the second half of the second point, of which nothing in the module
 tells: there the trials on boards speak.
 """
+import itertools
 import re
 import sys
 
@@ -39,6 +41,11 @@ NUMBER = re.compile(r"^(declare i64 @(?:read|write)\(i32)\b")
 # A pair that is loaded, a pointer alone on the stack, and a table of constants with pointers.
 PAIR = re.compile(r"\s*(%\S+) = load \{ (i8|ptr), ptr \}, ptr (%\S+), align 8")
 ROOM = re.compile(r"= alloca ptr(?=,)")
+# A copy or filling of memory, with its length; and a number for each.
+COPY = re.compile(r"(.*@llvm\.mem(?:cpy|move|set)\.p0(?:\.p0)?\.i64\(.*, )i64 ?(%?\w*)(, i1 .*)")
+COPIES = itertools.count()
+# The address of a pointer, as a number that is compared or counted with: the pointer itself goes nowhere, so its room can still be shared.
+ADDRESS = re.compile(r"\s*(%\S+) = ptrtoaddr ptr (%\S+) to i64$")
 TABLE = re.compile(r"(@\S+ = .*constant )<\{ (.*) \}> <\{ (.*) \}>(.*)")
 FIELD = re.compile(r"(ptr|\[\d+ x i8\]|i\d+) (?:getelementptr \([^)]*\)|zeroinitializer|null|c\"[^\"]*\"|\[[^\]]*\]|@[\w.$]+|-?\d+)")
 
@@ -111,6 +118,17 @@ def widened(table):
     return f"{head}<{{ {kinds} }}> <{{ {values} }}>{tail}\n"
 
 
+def with_short_length(copy):
+    """A copy or filling of memory by a length of 32 bits. Those that the compiler makes of loops have these too, so it sees where two branches do the same."""
+    head, length, tail = copy[1].replace(".i64(", ".i32("), copy[2], copy[3]
+    if head.startswith("declare"):
+        return f"{head}i32{tail}\n"
+    if length[0] != "%":
+        return f"{head}i32 {length}{tail}\n"
+    name = f"{length}.of.{next(COPIES)}"
+    return f"  {name} = trunc i64 {length} to i32\n{head}i32 {name}{tail}\n"
+
+
 def for_32_bits(line):
     """A line for pointers of 32 bits, or None where it isn't known how."""
     if line.startswith("declare { i64, i64 } @rattle_"):
@@ -124,8 +142,11 @@ def for_32_bits(line):
     line = ROOM.sub("= alloca [8 x i8]", line)
     if REFUSED.search(line):
         return None
-    # (the address of a pointer alone, as a number that is compared or counted with)
-    return line.replace("ptrtoaddr ", "ptrtoint ")
+    copy = "@llvm.mem" in line and COPY.match(line)
+    if copy:
+        return with_short_length(copy)
+    address = ADDRESS.match(line)
+    return f"  {address[1]}.half = ptrtoaddr ptr {address[2]} to i32\n  {address[1]} = zext i32 {address[1]}.half to i64\n" if address else line
 
 
 def retargeted(lines, target):

@@ -25,7 +25,7 @@ case $board in
     mps2 | lm3s)
         processor=cortex-m3 tools=arm-none-eabi emulator=qemu-system-arm drivers="cortex.c $board.c"
         compiled_for='-mcpu=cortex-m3 -mthumb'
-        optimized=-Os # (a session takes 7 KB of stack fewer than by -O2)
+        optimized='-Os -mllvm -inline-threshold=75' # (a session takes 4 KB of stack fewer than by -O2, a save 200 bytes fewer than by -Os alone)
         ;;
     *) usage ;;
 esac
