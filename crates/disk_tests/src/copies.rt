@@ -57,7 +57,10 @@ fn make<A: SectorDevice, B: SectorDevice>(
     new: &mut B,
 ) -> Result<(), UpgradeFault> {
     if is_salvage {
-        salvage(old, new)
+        match salvage(old, new) {
+            Ok(_) => Ok(()),
+            Err(fault) => Err(fault),
+        }
     } else {
         copy(old, new)
     }

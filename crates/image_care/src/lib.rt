@@ -3,16 +3,18 @@
 
 mod all_blocks;
 mod blocks;
-mod carrying;
 mod copying;
 mod examining;
+mod giving;
 pub mod laws;
+mod laying;
 mod listing;
 mod looking;
 mod one_block;
 pub mod pages;
 mod reading_files;
 mod salvaging;
+mod taking;
 mod view;
 mod whole_copies;
 
@@ -23,4 +25,5 @@ pub use looking::look;
 pub use one_block::{read_block, read_found};
 pub use reading_files::{ReadOnlyFile, ReadingFiles};
 pub use salvaging::salvage;
+pub use taking::Taken;
 pub use view::{Listing, View};

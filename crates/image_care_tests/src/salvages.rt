@@ -1,8 +1,7 @@
 // What can be had of damaged images is salvaged.
 use crate::assertions::{Assert, assert_same};
 use crate::images::{change, put, saved, sector, since, stopped};
-use image_care::pages::{Taken, salvage};
-use image_care::read_block;
+use image_care::{Taken, read_block, salvage};
 use journal::layout::is_listed;
 use recovery::{OpenFault, UpgradeFault};
 use sector_disk::{Counts, Fused, MemoryDisk, SectorDevice};
@@ -98,8 +97,8 @@ fn a_block_of_another_number_is_damaged(rt: HostRuntime) -> Result<(), Fail> {
 #[test]
 fn other_sizes_are_not_salvaged(rt: HostRuntime) -> Result<(), Fail> {
     for (old, new, fault) in [
-        (131, 544, UpgradeFault::Old(OpenFault::BadSize)),
-        (543, 543, UpgradeFault::Old(OpenFault::BadSize)),
+        (131, 544, UpgradeFault::New(OpenFault::BadSize)),
+        (542, 542, UpgradeFault::Old(OpenFault::BadSize)),
         (544, 560, UpgradeFault::New(OpenFault::BadSize)),
         (560, 544, UpgradeFault::New(OpenFault::BadSize)),
     ] {

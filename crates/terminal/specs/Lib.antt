@@ -10,7 +10,6 @@ pub mod Older
 pub mod Newer
 pub mod Copying
 pub mod Shown
-pub mod NewerCare
 pub mod Care
 pub mod Files
 pub mod Putting

@@ -8,7 +8,7 @@ ghost use Rattle.sector_disk.specs.Disk.{MayLeave};
 ghost use Rattle.journal.specs.Calls.{BeginsAtMost, StopsLeave};
 ghost use Rattle.shadow.specs.Label.{is_known_size};
 ghost use Rattle.stores.specs.Opened.{image_refusal};
-ghost use Rattle.terminal.specs.Checked.{ChecksImage, layout_by_size, report, save_text};
+ghost use Rattle.terminal.specs.Checked.{ChecksImage, layout_by_size, report, save_text, version_of};
 ghost use Rattle.terminal.specs.Damage.{damage_report};
 ghost use Rattle.terminal.specs.Done.{Comes};
 ghost use Rattle.terminal.specs.Failures.{of_image};
@@ -17,10 +17,10 @@ ghost use Rattle.command_line.specs.declared.orders.Layout.TheVariants.{Two, Thr
 
 use super::damage::tell_damage;
 use super::failure::Failure;
-use super::layouts::{layout_by_size, version_of};
 use command_line::orders::Layout;
 use image_care::examine;
-use recovery::OpenFault;
+use journal::layout::MOST_BLOCKS;
+use recovery::{OpenFault, blocks_of_size};
 use sector_disk::{HostFile, HostFiles, SectorDevice, SectorFile, open_disk};
 use sessions::streams::{flush, write_bytes};
 use std::alloc::{AllocError, Global};
@@ -160,5 +160,25 @@ fn save_text(alloc: Global, under_way: Option<u16>) -> Result<String, AllocError
     match under_way {
         Some(blocks) => format!(in alloc; "{blocks} blocks, digest true"),
         None => format!(in alloc; "none"),
+    }
+}
+
+/// The layout of images with so many sectors. What has the size of no image counts as layout 3, by which it is refused.
+fn layout_by_size(sectors: u32) -> Layout
+    ensures { result ≡ layout_by_size sectors }
+{
+    match blocks_of_size(sectors, MOST_BLOCKS) {
+        Some(_) => Layout::Two,
+        None => Layout::Three,
+    }
+}
+
+/// The number of a layout, as labels have it: 2 or 3.
+fn version_of(layout: Layout) -> u8
+    ensures { result ≡ version_of layout }
+{
+    match layout {
+        Layout::Two => 2,
+        Layout::Three => 3,
     }
 }

@@ -21,7 +21,7 @@ ghost use Rattle.sessions.specs.Sessions.{BreaksOff};
 
 use super::checking::check_image;
 use super::comparing::compare_images;
-use super::copying::{copy_image, salvage_image};
+use super::copying::copy_image;
 use super::digests::digest_image;
 use super::ending::conclude;
 use super::exporting_images::export_image;
@@ -31,6 +31,7 @@ use super::files::{
 };
 use super::input::Input;
 use super::newer_upgrading::upgrade_to_newer;
+use super::salvaging::salvage_image;
 use super::scripts::run_image;
 use super::showing::list_image;
 use clap::Error;

@@ -1,11 +1,24 @@
 use Rattle.std.proofs.Common.{◌∙◌, sym}
-use Rattle.terminal.proofs.Copies.{copied, either_failed, no_new_device, no_old_device, told_device, told_first}
+use Rattle.terminal.proofs.Copies.{becomes, either_failed, left_after, no_new_device, no_old_device, not_refused, told_device, told_first}
 use Rattle.terminal.proofs.copying.copy_over.Goals as goal
 
 pub returns-in-Ok-clause-copies : goal.returns-in-Ok-clause-copies
 returns-in-Ok-clause-copies g c =
-    copied g.A.SectorDevice g.B.SectorDevice c.args.old.now c.copy.new.old c.args.new.now c.copy.new.new c.in-Ok.ensures.sized c.in-Ok.ensures.exact
-    c.copy.ensures.old_stops c.copy.ensures.new_passes c.copy.ensures.new_stops c.in-Ok.ensures.after c.copy.ensures.new_begins c.copy.ensures.old_reads
+    let A = g.A.SectorDevice in
+    let B = g.B.SectorDevice in
+    let old = c.args.old.now in
+    let new = c.args.new.now in
+    let did = c.in-Ok.ensures in
+    record {
+      old = did.old_stops;
+      sound = λ keeps. not_refused (A.sector_count old) (B.sector_count new) (A.disk old).content (did.exact keeps);
+      goes = becomes A B new c.copy.new.new did.new_passes;
+      stops = did.new_stops;
+      new = λ keeps keeps'. left_after A B new c.copy.new.new _ did.new_passes.sectors (did.after keeps keeps');
+      begins = did.new_begins;
+      looks = did.new_reads;
+      reads = did.old_reads;
+    }
 
 pub returns-in-Err-clause-exact : goal.returns-in-Err-clause-exact
 returns-in-Err-clause-exact g c = λ keeps. told_first c.from.result c.in-Err.fault _ c.from.ensures (c.in-Err.ensures.exact keeps)
