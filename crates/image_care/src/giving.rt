@@ -1,5 +1,5 @@
 // The blocks of an image for a new one, each from where a look has found it.
-ghost use Rattle.std.specs.Prelude.{◌≡◌, ◌<◌, ℕ, ⊤};
+ghost use Rattle.std.specs.Prelude.{◌≡◌, ◌<◌, ⊤};
 ghost use Rattle.recovery.specs.Found.{reads_to_give};
 ghost use Rattle.image_care.specs.Taken.{given_by};
 ghost use Rattle.image_care.specs.View as of_view;
