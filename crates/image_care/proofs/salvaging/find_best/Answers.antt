@@ -9,11 +9,11 @@ use Rattle.image_care.specs.Examined.{reads_to_list}
 use Rattle.image_care.proofs.Looks.{newer_sectors_of, older_sectors_of}
 use Rattle.image_care.proofs.salvaging.find_best.Goals as goal
 
-pub find_journal-requires-clause-size : goal.find_journal-requires-clause-size
-find_journal-requires-clause-size g c = c.requires.size ∙ ap (λ l. sectors_for l c.args.size.blocks.number) c.in-Journal.is
+pub find_journal-requires : goal.find_journal-requires
+find_journal-requires g c = record { size = c.requires.size ∙ ap (λ l. sectors_for l c.args.size.blocks.number) c.in-Journal.is }
 
-pub find_named-requires-clause-size : goal.find_named-requires-clause-size
-find_named-requires-clause-size g c = c.requires.size ∙ ap (λ l. sectors_for l c.args.size.blocks.number) c.in-Pages.is
+pub find_named-requires : goal.find_named-requires
+find_named-requires g c = record { size = c.requires.size ∙ ap (λ l. sectors_for l c.args.size.blocks.number) c.in-Pages.is }
 
 pub returns-in-Journal-clause-size : goal.returns-in-Journal-clause-size
 returns-in-Journal-clause-size g c =
