@@ -166,6 +166,11 @@ told_same sectors image taken others lost = by (is_size sectors) others lost
 pub told_plain : (sectors : ℕ) (standing : ℕ → Standing) → is_size sectors ≡ true → salvage_told sectors standing ≡ no_recovery
 told_plain sectors standing is = ap (λ (t : Bool). if t then no_recovery else damage_told sectors standing ++ pages_no_recovery) is
 
+-- By layout 3 the damaged blocks come before that.
+pub told_pages : (sectors : ℕ) (standing : ℕ → Standing) → is_size sectors ≡ false
+    → salvage_told sectors standing ≡ damage_told sectors standing ++ pages_no_recovery
+told_pages sectors standing isnt = ap (λ (t : Bool). if t then no_recovery else damage_told sectors standing ++ pages_no_recovery) isnt
+
 module _ {A B : Type 0} (G : Ghosts A) (H : Ghosts B) where
   -- What a stop leaves by the size that a device had, it leaves by the one that it has.
   pub left_after : (device after : B) (blocks : List (List ℕ)) → H.sector_count after ≡ H.sector_count device

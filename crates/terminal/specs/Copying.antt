@@ -1,7 +1,6 @@
 -- What a copy and a salvage leave, on any two devices: the image that is only read, and the one that is made, of the same layout.
-use Rattle.std.specs.Prelude.{◌≡◌, ℕ, ◌+◌, ◌*◌, ◌==◌, ◌&&◌, ◌++◌, nat_le, true, if◌then◌else◌, IsTrue, List, Option, Some, None, codes, option_and_then, option_map}
+use Rattle.std.specs.Prelude.{◌≡◌, ℕ, ◌+◌, ◌*◌, ◌==◌, ◌&&◌, ◌++◌, ◌∷◌, [], nat_le, true, if◌then◌else◌, IsTrue, List, Option, Some, None, codes, option_and_then, option_map}
 use Rattle.std.specs.Io.KnownBytes.{Appends}
-use Rattle.sector_disk.specs.Disk.{Image}
 use Rattle.sector_disk.specs.declared.device.SectorDevice.{Ghosts}
 use Rattle.journal.specs.Calls.{BeginsAtMost, ReadsAtMost, StopsLeave}
 use Rattle.journal.specs.Layout as journal
@@ -58,7 +57,7 @@ standing_by taken b = if listed taken.others b then Other else (if listed taken.
 
 -- the line that each salvage tells
 abbrev pub no_recovery : List ℕ
-no_recovery = line (codes "salvaged, not recovered") (codes "of a save that was under way some blocks may be old and some new")
+no_recovery = codes "salvaged, not recovered: of a save that was under way some blocks may be old and some new" ++ 10 ∷ []
 
 -- by layout 3, after those of the damaged blocks
 abbrev pub pages_no_recovery : List ℕ

@@ -11,7 +11,7 @@ ghost use Rattle.recovery.specs.Steps.{OnlyRead, WentWell};
 ghost use Rattle.image_care.specs.Made.{MakingLeaves};
 ghost use Rattle.image_care.specs.Salvaged.{salvage_refusal, salvaged_blocks};
 ghost use Rattle.terminal.specs.Care.{Salvaged};
-ghost use Rattle.terminal.specs.Copying.{MakesSalvage, Salvages, pages_no_recovery, salvage_told, salvaged_count, sectors_for_salvage, standing_by};
+ghost use Rattle.terminal.specs.Copying.{MakesSalvage, Salvages, no_recovery, pages_no_recovery, salvage_told, salvaged_count, sectors_for_salvage, standing_by};
 ghost use Rattle.terminal.specs.Damage.{damage_told};
 ghost use Rattle.terminal.specs.Done.{LeavesBlocks};
 ghost use Rattle.terminal.specs.Failures.{of_upgrade};
@@ -174,9 +174,17 @@ fn tell_salvage<W: Write>(
     ensures unprinted { IfErr result (λ e. e ≢ Failure.CannotWrite → output.new ≡ output.old) }
 {
     match size_by(Layout::Journal, sectors) {
-        Some(_) => print(NO_RECOVERY.as_bytes(), output),
+        Some(_) => tell_plain(output),
         None => tell_damaged(alloc, sectors, taken, output),
     }
+}
+
+/// Tells that a salvage is no recovery.
+fn tell_plain<W: Write>(output: &mut W) -> Result<(), Failure>
+    ensures ok { OnOk result (Appends (W.contents output.old) (W.contents output.new) no_recovery) }
+    ensures only { IfErr result (λ e. e ≡ Failure.CannotWrite) }
+{
+    print(NO_RECOVERY.as_bytes(), output)
 }
 
 /// Tells of an image of layout 3 which blocks were damaged, and that its salvage is no recovery.

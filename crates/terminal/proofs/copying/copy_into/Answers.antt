@@ -5,7 +5,7 @@ use Rattle.terminal.proofs.copying.copy_into.Goals as goal
 pub returns-in-Ok-clause-made : goal.returns-in-Ok-clause-made
 returns-in-Ok-clause-made g c = (
   c.in-Some.sectors,
-  sym (c.in-Some.ensures ∙ ap (λ s. sectors_for_copy s c.args.asked) c.sectors-source.ensures),
+  sym (c.in-Some.ensures ∙ ap (λ s. sectors_for_copy s c.args.asked) c.sectors.ensures),
   c.in_ok-target.target,
   c.in_ok-target.ensures.made,
   c.in-Ok.ensures.copies,
