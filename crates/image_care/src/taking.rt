@@ -5,13 +5,13 @@ ghost use Rattle.journal.specs.Calls.{StopsLeave, BeginsAtMost, ReadsAtMost, Pas
 ghost use Rattle.journal.specs.Layout.{most_blocks, listed};
 ghost use Rattle.image_care.specs.Standing.{is_other, is_nowhere};
 ghost use Rattle.image_care.specs.Taken.{Notes, reads_by, reads_under, stands_by, stands_under, taken_by, taken_under};
-ghost use Rattle.image_care.specs.View.{found_by, sectors_of};
+ghost use Rattle.image_care.specs.View.{sectors_of};
 ghost use Rattle.image_care.specs.declared.pages.standing.Standing.{Standing};
 
+use crate::one_block::read_found;
 use crate::pages::{Standing, take_block};
 use crate::view::{Listing, View};
 use journal::pages::layout::list;
-use journal::read_pair;
 use recovery::Source;
 use sector_disk::{DeviceFault, SectorDevice};
 
@@ -129,30 +129,10 @@ fn take_there<D: SectorDevice>(
         → ReadsAtMost D.SectorDevice device.old device.new (reads_under view.now.listing (D.disk device.old).content b) }
 {
     match &view.listing {
-        Listing::Journal(_) => take_found(device, view, b, bytes),
+        Listing::Journal(_) => {
+            *bytes = read_found(device, view, b)?;
+            Ok(Standing::Current)
+        }
         Listing::Pages(named) => take_block(device, &named.listing, b, bytes),
     }
-}
-
-// Takes a block from where it was found, which counts as where it stands.
-fn take_found<D: SectorDevice>(
-    device: &mut D,
-    view: &View,
-    b: u16,
-    bytes: &mut [u8; 1024],
-) -> Result<Standing, DeviceFault>
-    requires size { D.sector_count device.old ≡ sectors_of view.now }
-    requires below { b < view.now.blocks.number }
-    ensures standing { IfOk result (λ found. found ≡ Standing.Current) }
-    ensures bytes { IsTrue (D.keeps_model device.old)
-        → OnOk result (bytes.new ≡ found_by view.now (D.disk device.old).content b) }
-    ensures disk { IsTrue (D.keeps_model device.old) → D.disk device.new ≡ D.disk device.old }
-    ensures stops { IsTrue (D.keeps_model device.old)
-        → StopsLeave D.SectorDevice device.old device.new (MayLeave (D.disk device.old)) }
-    ensures passes { Passes D.SectorDevice device.old device.new result }
-    ensures begins { BeginsAtMost D.SectorDevice device.old device.new 0 0 }
-    ensures reads { ReadsAtMost D.SectorDevice device.old device.new 2 }
-{
-    read_pair(device, view.place_of(b), bytes)?;
-    Ok(Standing::Current)
 }
