@@ -17,11 +17,10 @@ find_named-requires g c = record { size = c.requires.size ∙ ap (λ l. sectors_
 
 pub returns-in-Journal-clause-size : goal.returns-in-Journal-clause-size
 returns-in-Journal-clause-size g c =
-    let did = c.find_journal in
-    if_ok_both did.result
+    if_ok_both c.find_journal.result
     (λ view count layout. c.requires.size ∙ ap (λ l. sectors_for l c.args.size.blocks.number) c.in-Journal.is
     ∙ ap journal_layout.sectors_for (sym count) ∙ sym (older_sectors_of view layout))
-    did.ensures.count did.ensures.layout
+    c.find_journal.ensures.count c.find_journal.ensures.layout
 
 pub returns-in-Journal-clause-layout : goal.returns-in-Journal-clause-layout
 returns-in-Journal-clause-layout g c = if_ok c.find_journal.result (λ view layout. layout ∙ sym (ap is_journal c.in-Journal.is)) c.find_journal.ensures.layout
@@ -34,11 +33,10 @@ returns-in-Journal-clause-reads g c = λ keeps.
 
 pub returns-in-Pages-clause-size : goal.returns-in-Pages-clause-size
 returns-in-Pages-clause-size g c =
-    let did = c.find_named in
-    if_ok_both did.result
+    if_ok_both c.find_named.result
     (λ view count layout. c.requires.size ∙ ap (λ l. sectors_for l c.args.size.blocks.number) c.in-Pages.is
     ∙ ap pages_layout.sectors_for (sym count) ∙ sym (newer_sectors_of view layout))
-    did.ensures.count did.ensures.layout
+    c.find_named.ensures.count c.find_named.ensures.layout
 
 pub returns-in-Pages-clause-layout : goal.returns-in-Pages-clause-layout
 returns-in-Pages-clause-layout g c = if_ok c.find_named.result (λ view layout. layout ∙ sym (ap is_journal c.in-Pages.is)) c.find_named.ensures.layout
