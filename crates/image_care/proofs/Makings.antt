@@ -1,5 +1,5 @@
 -- What an image becomes that is made by the layout that its size tells, and what a stop of its making leaves.
-use Rattle.std.proofs.Common.{◌≡◌, ◌≢◌, ℕ, ◌+◌, ◌*◌, ◌<◌, ◌≤◌, Bool, true, false, List, ◌++◌, length, Result, IsTrue, refl, sym, ◌∙◌, ap, subst, arith, take-append-drop}
+use Rattle.std.proofs.Common.{◌≡◌, ◌≢◌, ℕ, ◌+◌, ◌*◌, ◌≤◌, Bool, true, false, List, ◌++◌, length, Result, IsTrue, refl, sym, ◌∙◌, ap, subst, arith, take-append-drop}
 use Rattle.std.proofs.lemmas.Result.{on_ok_weaker}
 use Rattle.std.specs.Prelude.{if◌then◌else◌, MatchBool, OnOk}
 use Rattle.sector_disk.specs.Disk.{Disk, Image, MayLeave}
@@ -39,7 +39,7 @@ use Rattle.stores.proofs.KnownSizes.{newer_count}
 use Rattle.stores.specs.declared.sizes.Layout.{Layout}
 use Rattle.stores.specs.declared.sizes.Layout.TheVariants.{Journal, Pages}
 use Rattle.stores.specs.declared.sizes.Size.{Size}
-use Rattle.image_care.specs.Made.{Holds, HoldsBlocks, IsMade, IsWhole, KeepsRest, MakingLeaves, label_for, writes_to_make}
+use Rattle.image_care.specs.Made.{HoldsBlocks, IsMade, IsWhole, KeepsRest, MakingLeaves, writes_to_make}
 
 -- The first blocks that are given.
 module _ (n : ℕ) (given : ℕ → List ℕ) where

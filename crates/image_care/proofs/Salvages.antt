@@ -1,12 +1,10 @@
 -- What a salvage takes of an image is what can be had of it.
-use Rattle.std.proofs.Common.{◌≡◌, ℕ, zero, suc, ◌+◌, ◌*◌, ◌<◌, ◌≤◌, Bool, true, false, cond, List, replicate, Option, Some, None, nat_eq, refl, sym, ◌∙◌, ap, subst, arith}
+use Rattle.std.proofs.Common.{◌≡◌, ℕ, ◌+◌, ◌*◌, ◌<◌, ◌≤◌, Bool, true, false, cond, List, replicate, Some, None, nat_eq, refl, sym, ◌∙◌, ap, subst, arith}
 use Rattle.std.specs.Prelude.{◌&&◌, not, nat_le, if◌then◌else◌}
 use Rattle.std.specs.Cmp.Lexicographic.{pointwise}
 use Rattle.std.proofs.lemmas.Bool.Decides.{Decides-eqb}
 use Rattle.std.proofs.lemmas.Slice.Eq.{slice_eq-Decides}
 use Rattle.sector_disk.specs.Disk.{Image}
-use Rattle.sector_disk.specs.declared.device.SectorDevice.{Ghosts}
-use Rattle.journal.specs.Calls.{ReadsAtMost}
 use Rattle.journal.specs.Images as journal_images
 use Rattle.journal.specs.Images.{blocks_below, home_of, is_damaged, is_true_record, slot_of}
 use Rattle.journal.specs.Layout.{gate_open, listed, most_blocks}
@@ -30,7 +28,6 @@ use Rattle.image_care.specs.Standing as standing
 use Rattle.image_care.specs.Standing.{holds_whole, is_nowhere, is_other, reads_to_take, salvaged_under, standing_of, standing_under}
 use Rattle.image_care.specs.Taken.{IsBest, Notes, reads_by, reads_under, stands_by, stands_under, taken_by, taken_under, true_record_in}
 use Rattle.image_care.specs.View.{is_journal}
-use Rattle.image_care.specs.declared.pages.standing.Standing.{Standing}
 use Rattle.image_care.specs.declared.pages.standing.Standing.TheVariants.{Current}
 use Rattle.image_care.specs.declared.view.Listing.{Listing}
 use Rattle.image_care.specs.declared.view.Listing.TheVariants.{Journal, Pages}

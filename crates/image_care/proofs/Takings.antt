@@ -1,5 +1,5 @@
 -- What is taken of an image for a salvage, how many reads that takes, and what is noted of it.
-use Rattle.std.proofs.Common.{◌≡◌, ◌≢◌, inl, inr, ℕ, zero, suc, ◌+◌, ◌*◌, ◌<◌, ◌≤◌, Bool, true, false, cond, List, replicate, refl, sym, ◌∙◌, ap, subst, arith}
+use Rattle.std.proofs.Common.{◌≡◌, ◌≢◌, inl, inr, ℕ, zero, suc, ◌+◌, ◌*◌, ◌<◌, ◌≤◌, Bool, true, false, cond, List, replicate, refl, sym, ◌∙◌, ap, arith}
 use Rattle.std.specs.Prelude.{◌&&◌, ◌||◌, not, nat_le}
 use Rattle.std.proofs.lemmas.Bool.{cases_eq}
 use Rattle.std.proofs.lemmas.Bool.Decides.{nat_tests}
@@ -13,8 +13,6 @@ use Rattle.image_care.specs.Standing.{is_damaged_under, is_other, is_nowhere, re
 use Rattle.image_care.specs.Taken.{Notes, reads_by, reads_under, stands_by, stands_under, taken_by, taken_under}
 use Rattle.image_care.specs.declared.pages.standing.Standing.{Standing}
 use Rattle.image_care.specs.declared.pages.standing.Standing.TheVariants.{Current}
-use Rattle.image_care.specs.declared.view.Listing.{Listing}
-use Rattle.image_care.specs.declared.view.Listing.TheVariants.{Journal, Pages}
 use Rattle.image_care.specs.declared.view.View.{View}
 
 module _ (view : View) (image : Image) where

@@ -1,7 +1,6 @@
 -- What a salvage takes of an image, and which devices it refuses.
 use Rattle.std.specs.Prelude.{◌≡◌, ℕ, ◌+◌, ◌*◌, ◌==◌, ◌&&◌, not, false, if◌then◌else◌, List, Option, Some, None, MatchBool}
 use Rattle.sector_disk.specs.Disk.{Image}
-use Rattle.journal.specs.Images as journal_images
 use Rattle.journal.specs.Images.{slot_of, home_of, blocks_below, is_damaged, is_true_record}
 use Rattle.journal.specs.Layout.{gate_open, listed}
 use Rattle.journal.specs.PageImages as pages_images

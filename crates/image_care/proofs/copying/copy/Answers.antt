@@ -1,4 +1,4 @@
-use Rattle.std.proofs.Common.{◌≡◌, ◌∙◌, ◌≤◌, ◌+◌, ◌*◌, inl, inr, ⊎_elim, None, sym, ap, subst, arith, rules, IsTrue}
+use Rattle.std.proofs.Common.{◌≡◌, ◌∙◌, ◌≤◌, inl, inr, ⊎_elim, None, sym, ap, subst, arith, rules, IsTrue}
 use Rattle.std.proofs.lemmas.Result.{on_ok_weaker}
 use Rattle.journal.specs.BySize.{Means}
 use Rattle.journal.specs.Suits.{suits}

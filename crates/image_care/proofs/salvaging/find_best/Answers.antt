@@ -1,4 +1,4 @@
-use Rattle.std.proofs.Common.{◌≡◌, ◌∙◌, Bool, ap, subst, sym}
+use Rattle.std.proofs.Common.{◌∙◌, Bool, ap, subst, sym}
 use Rattle.std.specs.Prelude.{if◌then◌else◌}
 use Rattle.journal.specs.Calls.{ReadsAtMost}
 use Rattle.journal.specs.Layout as journal_layout

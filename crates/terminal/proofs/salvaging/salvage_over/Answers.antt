@@ -2,8 +2,7 @@ use Rattle.std.proofs.Common.{◌≡◌, ◌∙◌, ℕ, List, ap, subst, sym}
 use Rattle.std.proofs.lemmas.Result.{IfErr-weaker, on_ok_weaker}
 use Rattle.std.specs.Io.KnownBytes.{Appends}
 use Rattle.recovery.specs.Label.{is_size}
-use Rattle.image_care.specs.Standing.{standing_of}
-use Rattle.terminal.specs.Copying.{no_recovery, salvage_told, standing_by}
+use Rattle.terminal.specs.Copying.{salvage_told, standing_by}
 use Rattle.terminal.proofs.Copies.{becomes, either_failed, left_after, never_memory, no_new_device, no_old_device, told_device, told_first_or_untold, told_plain, told_same}
 use Rattle.terminal.proofs.salvaging.salvage_over.Goals as goal
 
