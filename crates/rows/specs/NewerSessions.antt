@@ -7,7 +7,7 @@ use Rattle.sector_disk.specs.Disk.{Image, Disk}
 use Rattle.recovery.specs.Label.{is_size}
 use Rattle.shadow.specs.Label.{refusal}
 use Rattle.journal.specs.PageImages.{meaning}
-use Rattle.journal.specs.PageLayout.{label_of, sectors_for}
+use Rattle.journal.specs.PageLayout.{bits_apart, gate_open, label_of, sectors_for}
 use Rattle.journal.specs.Costs.{save_syncs}
 use Rattle.block_words.specs.Words.{Wear}
 use Rattle.block_words.specs.Calls.{writes_of, reads_of}
@@ -47,6 +47,7 @@ its_units : the_disk.unit 0 ∷ the_disk.unit 7 ∷ the_disk.unit 8 ∷ the_disk
 its_units = refl
 
 its_blocks : meaning 32 the_disk.content ≡ image texts
+unfolding gate_open bits_apart
 its_blocks = refl
 
 -- what a session over it replies
@@ -57,13 +58,13 @@ lines =
     codes "56 2 BLOCK C! UPDATE 65 3 BLOCK C! UPDATE SAVE-BUFFERS" ⇒ codes " ok" ∷ []
 
 its_replies : Plays (over (meaning 32 the_disk.content)) [] lines
-unfolding digits_of divided
+unfolding digits_of divided gate_open bits_apart
 its_replies = refl
 
 -- what it saved
 saved : saved_after (over (meaning 32 the_disk.content)) [] lines
     ≡ image (screen [] ∷ screen (codes ": DOUBLE DUP + ; 21 DOUBLE .") ∷ screen (codes "8") ∷ screen (codes "A") ∷ [])
-unfolding digits_of divided
+unfolding digits_of divided gate_open bits_apart
 saved = refl
 
 -- eight words and the end of block 1 were taken, each with a read of it at most, the blocks 2 and 3 read, and both spilled and committed
@@ -71,7 +72,7 @@ abbrev pub its_wear : Wear
 its_wear = record { reads = 11; spills = 2; commits = 1; committed = 2 }
 
 worn : wear_after (over (meaning 32 the_disk.content)) [] lines ≡ its_wear
-unfolding digits_of divided
+unfolding digits_of divided gate_open bits_apart
 worn = refl
 
 -- how many writes, syncs and reads a store has begun for that at most, by layout 2 or by layout 3

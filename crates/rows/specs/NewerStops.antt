@@ -1,13 +1,13 @@
 -- A save by layout 3 on a disk in units of eight, stopped at every call, by the disk model and by what an image means. Where only two
 -- bytes of a sector tell something, it has two bytes here.
-use Rattle.std.specs.Prelude.{◌≡◌, ◌==◌, ◌||◌, ◌+◌, ◌-◌, ◌*◌, ◌%◌, ℕ, zero, suc, Bool, true, false, nat_eq, nat_lt, if◌then◌else◌, List, [], ◌∷◌, ◌++◌, map, replicate, refl}
+use Rattle.std.specs.Prelude.{◌≡◌, ◌==◌, ◌||◌, ◌+◌, ◌-◌, ◌*◌, ◌%◌, ℕ, zero, suc, Bool, true, false, nat_eq, nat_lt, if◌then◌else◌, List, [], ◌∷◌, ◌++◌, map, replicate, codes, refl}
 use Rattle.std.specs.List.{flat_map}
 use lib.Pointwise.{pointwise}
 use Rattle.sector_disk.specs.Coarse.{in_eights}
 use Rattle.sector_disk.specs.Disk.{Image, Disk}
 use Rattle.sector_disk.specs.declared.memory.Fate.{Fate}
 use Rattle.sector_disk.specs.declared.memory.Fate.TheVariants.{Lost, Kept, Torn}
-use Rattle.journal.specs.PageLayout.{label_of, place_at}
+use Rattle.journal.specs.PageLayout.{bits_apart, gate_open, label_of, place_at}
 use Rattle.journal.specs.PageImages.{block_of}
 use Rattle.rows.specs.Stops.{DiskCall, Write, Sync, after_calls, at_each_stop, synced_disk, open_gate, closed_gate}
 
@@ -36,6 +36,12 @@ first_blocks image = flat_map (block_of image) (0 ∷ 1 ∷ 2 ∷ 3 ∷ 4 ∷ []
 
 abbrev pub means_these : List ℕ → Image → Bool
 means_these bytes image = pointwise nat_eq (first_blocks image) bytes
+
+-- ---- gates: as written, with one bit changed, half written, with one byte, of ones alone, and closed
+
+gates : map gate_open (codes "COMMIT83" ∷ codes "BOMMIT83" ∷ codes "COMM" ∷ codes "C" ∷ replicate 512 255 ∷ replicate 512 0 ∷ []) ≡ true ∷ true ∷ true ∷ false ∷ true ∷ false ∷ []
+unfolding gate_open bits_apart
+gates = refl
 
 -- ---- a save of the blocks 1 and 2
 
@@ -74,14 +80,17 @@ abbrev pub all_or_nothing : List DiskCall → Bool
 all_or_nothing calls = at_each_stop every_unit (λ image. means_these old_blocks image || means_these new_blocks image) disk_at_rest calls
 
 old_or_new : all_or_nothing a_save ≡ true
+unfolding gate_open bits_apart
 old_or_new = refl
 
 -- once it is done, a stop leaves the new blocks alone
 new_alone : at_each_stop every_unit (means_these new_blocks) (after_calls disk_at_rest a_save) [] ≡ true
+unfolding gate_open bits_apart
 new_alone = refl
 
 -- a stop before the gate is written leaves the old ones
 old_alone : at_each_stop every_unit (means_these old_blocks) disk_at_rest (spills ++ tags ++ the_record ∷ Sync ∷ []) ≡ true
+unfolding gate_open bits_apart
 old_alone = refl
 
 -- ---- the next save goes back: the other record, and the gate is closed
@@ -93,15 +102,19 @@ abbrev pub next_save : List DiskCall
 next_save = Write 48 (67 ∷ 67 ∷ []) ∷ Write 49 (67 ∷ 67 ∷ []) ∷ Write 50 (3 ∷ 3 ∷ []) ∷ Write 24 (4 ∷ 0 ∷ []) ∷ Sync ∷ Write 8 closed_gate ∷ Sync ∷ []
 
 new_or_later : at_each_stop every_unit (λ image. means_these new_blocks image || means_these later_blocks image) (after_calls disk_at_rest a_save) next_save ≡ true
+unfolding gate_open bits_apart
 new_or_later = refl
 
 -- ---- other orders lose blocks
 
 one_sync_for_record_and_gate : all_or_nothing (spills ++ tags ++ the_record ∷ Write 8 open_gate ∷ []) ≡ false
+unfolding gate_open bits_apart
 one_sync_for_record_and_gate = refl
 
 gate_before_the_record : all_or_nothing (spills ++ tags ++ Write 8 open_gate ∷ Sync ∷ the_record ∷ []) ≡ false
+unfolding gate_open bits_apart
 gate_before_the_record = refl
 
 spilled_to_the_current_place : all_or_nothing (Write 48 (65 ∷ 65 ∷ []) ∷ []) ≡ false
+unfolding gate_open bits_apart
 spilled_to_the_current_place = refl

@@ -109,11 +109,18 @@ fn block_at(disk: &mut MemoryDisk, listing: &[u8; 512], b: u16) -> Result<[u8; 1
     Ok(bytes)
 }
 
+// Whether a gate is nearer to an open one than to a closed one.
+fn is_open(gate: &[u8; 512]) -> bool {
+    let [a, b, c, d, e, f, g, h, ..] = *gate;
+    let word = u64::from_le_bytes([a, b, c, d, e, f, g, h]);
+    let open = u64::from_le_bytes(*b"COMMIT83");
+    (word ^ open).count_ones() < word.count_ones()
+}
+
 /// The blocks of an image that aren't blank, as `5A` where block 5 begins so, and `5?` where its tag isn't that of its bytes; and
 /// `sum` where the record's sum isn't that of the tags.
 pub(crate) fn told(alloc: Global, disk: &mut MemoryDisk) -> Result<String, Fail> {
-    let is_open = sector(disk, 8)?.starts_with(b"COMMIT83");
-    let listing = sector(disk, if is_open { 16 } else { 24 })?;
+    let listing = sector(disk, if is_open(&sector(disk, 8)?) { 16 } else { 24 })?;
     let mut text = String::new(alloc);
     let mut total = [0; 32];
     for b in 0..BLOCKS {

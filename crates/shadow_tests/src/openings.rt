@@ -79,6 +79,44 @@ fn a_stale_block_is_damage(rt: HostRuntime) -> Result<(), Fail> {
     Ok(())
 }
 
+// The image whose block 5 was saved once, with other bits in its gate.
+fn with_gate(alloc: Global, change: u64) -> Result<MemoryDisk, Fail> {
+    let mut store = opened(blank(alloc)?, u64::MAX)?;
+    spill(&mut store, 5, b'A')?;
+    store.commit().map_err(|_| "commit failed")?;
+    let mut disk = store.into_device().into_device().into_device();
+    let mut gate = sector(&mut disk, 8)?;
+    for (byte, other) in gate.iter_mut().zip(change.to_le_bytes()) {
+        *byte ^= other;
+    }
+    put(&mut disk, 8, &gate)?;
+    Ok(disk)
+}
+
+// The first letter of block 5, as a store reads it that is opened over the disk.
+fn letter(disk: MemoryDisk) -> Result<u8, &'static str> {
+    let Ok(mut store) = open(Coarse::new(disk)) else {
+        return Err("not opened");
+    };
+    if store.blocks() <= 5 {
+        return Err("no block 5");
+    }
+    let mut bytes = [0; 1024];
+    store.read_block(5, &mut bytes).map_err(|_| "not read")?;
+    Ok(bytes[0])
+}
+
+// An open gate of which one bit changed, any of them, or 14 of its ones. With 16 of these gone it is read as closed.
+#[test]
+fn a_gate_that_changed_a_little_takes_no_save_away(rt: HostRuntime) -> Result<(), Fail> {
+    for bit in 0..64 {
+        assert_same!(rt; letter(with_gate(rt.alloc(), 1 << bit)?)?, b'A', "bit {bit}");
+    }
+    assert_same!(rt; letter(with_gate(rt.alloc(), 0x0C4D_4F43)?)?, b'A');
+    assert_same!(rt; letter(with_gate(rt.alloc(), 0x4D4D_4F43)?)?, b' ');
+    Ok(())
+}
+
 #[test]
 fn an_opening_syncs_once_and_writes_nothing(rt: HostRuntime) -> Result<(), Fail> {
     let disk = changed(rt.alloc(), 120, 0, b'A')?;
