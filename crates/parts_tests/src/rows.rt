@@ -51,12 +51,12 @@ impl<'a> Row<'a> {
         number_in(self.given, place)
     }
 
-    /// The same as a cell.
+    /// The first, second or third number that is given, as a cell, or 0 where it isn't there or is no cell.
     pub(crate) fn cell(&self, place: usize) -> u16 {
         u16::try_from(self.number(place)).unwrap_or(0)
     }
 
-    /// The same as a byte.
+    /// The first, second or third number that is given, as a byte, or 0 where it isn't there or is no byte.
     pub(crate) fn byte(&self, place: usize) -> u8 {
         u8::try_from(self.number(place)).unwrap_or(0)
     }

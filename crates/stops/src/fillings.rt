@@ -59,7 +59,7 @@ pub fn left_in(disk: MemoryDisk) -> Result<Left, Fail> {
     Ok(left)
 }
 
-/// The same, and the counts of the calls of the device afterwards.
+/// Opens an image and looks at all of its blocks, and gives the counts of the device's calls afterwards too.
 pub fn looked_at(disk: MemoryDisk) -> Result<(Left, Counts), Fail> {
     match open(disk) {
         Ok(mut store) => {

@@ -46,7 +46,7 @@ fn follow_sessions(rt: &(impl Print + AllocGlobal), path: &str, text: &str) -> i
     Ok(sessions.differences())
 }
 
-/// The same, where a text that can't be followed is a difference.
+/// Follows a text, as `follow`, where one that can't be followed is told, and counts as a difference.
 fn follow_or_tell(
     rt: &(impl Files<File = File> + Print + AllocGlobal),
     path: &str,
