@@ -110,7 +110,7 @@ pub(crate) fn call_over_both<
     let mut input = Led::new(rt.alloc(), input);
     let mut output: Vec<u8> = Vec::new(rt.alloc());
     let mut errors: Vec<u8> = Vec::new(rt.alloc());
-    let status = terminal::command_over::<
+    let (_, status) = terminal::command_over::<
         _,
         _,
         _,

@@ -26,7 +26,7 @@ use Rattle.command_line.specs.declared.orders.Form.{Form}
 use Rattle.terminal.proofs.Saving.{length_blocks}
 
 module _ {D : Type 0} (G : Ghosts D) where
-  continued : (old new : Store D G) → Continues old new → Becomes G (device_of old) (device_of new)
+  pub continued : (old new : Store D G) → Continues old new → Becomes G (device_of old) (device_of new)
   continued old new on = record { model = on.model; time = on.time; failures = on.failures }
 
   there_on : (device : D) (store : Store D G) (b : ℕ) → OpensAs G device store → b < blocks_of store → b < blocks_on G device
@@ -103,7 +103,7 @@ module _ {D : Type 0} (G : Ghosts D) where
     reads = omega (arith, opens.pending, reads);
   }
 
-  proceeded : (old new : D) → Proceeds G old new → Becomes G old new
+  pub proceeded : (old new : D) → Proceeds G old new → Becomes G old new
   proceeded old new on = record { model = stays G old new on.sectors on.model on.units; time = on.time; failures = on.failures }
 
   -- The image on the first device was upgraded onto the second one.

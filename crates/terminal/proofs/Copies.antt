@@ -33,7 +33,7 @@ use Rattle.terminal.specs.Damage.{damage_line, damage_lines, damage_told}
 use Rattle.terminal.specs.Done.{LeavesBlocks}
 use Rattle.terminal.specs.Failures.{of_upgrade}
 use Rattle.terminal.specs.declared.failure.Failure.{Failure}
-use Rattle.terminal.specs.declared.failure.Failure.TheVariants.{CannotWrite, Device, NoMemory}
+use Rattle.terminal.specs.declared.failure.Failure.TheVariants.{CannotWrite, Device, NoMemory, Stopped}
 use Rattle.journal.proofs.Suited.{stays}
 
 pub both_true : (a b : Bool) → (a && b) ≡ true → (a ≡ true) × (b ≡ true)
@@ -114,6 +114,40 @@ never_memory (New image.OtherVersion) is = cc
 never_memory (New image.WrongCount) is = cc
 never_memory (New image.Damaged) is = cc
 never_memory (New image.Device) is = cc
+
+-- And none is a session that was stopped.
+pub never_stopped : (fault : UpgradeFault) → of_upgrade fault ≢ Stopped
+never_stopped (Old image.BadSize) is = cc
+never_stopped (Old image.NoLabel) is = cc
+never_stopped (Old image.OtherVersion) is = cc
+never_stopped (Old image.WrongCount) is = cc
+never_stopped (Old image.Damaged) is = cc
+never_stopped (Old image.Device) is = cc
+never_stopped (New image.BadSize) is = cc
+never_stopped (New image.NoLabel) is = cc
+never_stopped (New image.OtherVersion) is = cc
+never_stopped (New image.WrongCount) is = cc
+never_stopped (New image.Damaged) is = cc
+never_stopped (New image.Device) is = cc
+
+-- None is for an output that failed either.
+never_written : (fault : UpgradeFault) → of_upgrade fault ≢ CannotWrite
+never_written (Old image.BadSize) is = cc
+never_written (Old image.NoLabel) is = cc
+never_written (Old image.OtherVersion) is = cc
+never_written (Old image.WrongCount) is = cc
+never_written (Old image.Damaged) is = cc
+never_written (Old image.Device) is = cc
+never_written (New image.BadSize) is = cc
+never_written (New image.NoLabel) is = cc
+never_written (New image.OtherVersion) is = cc
+never_written (New image.WrongCount) is = cc
+never_written (New image.Damaged) is = cc
+never_written (New image.Device) is = cc
+
+pub never_untold : (fault : UpgradeFault) → (of_upgrade fault ≡ NoMemory) ⊎ (of_upgrade fault ≡ CannotWrite) → ⊥
+never_untold fault (inl memory) = never_memory fault memory
+never_untold fault (inr output) = never_written fault output
 
 -- How many sectors the new image has.
 like_sectors : (layout : Layout) (sectors n : ℕ) → is_journal layout ≡ is_size sectors → sectors_for layout n ≡ sectors_like sectors n

@@ -31,7 +31,3 @@ pub record OpensAs {D : Type 0} (G : device.Ghosts D) (opened : D) (store : Stor
   pub stands : IsTrue (suits G opened) → StandsFor store (maps_on G opened)
   pub pending : pending_count store ≡ 0
   pub closed : closed_of store ≡ false
-
--- The store was opened on such a device.
-abbrev pub OpensOn : {D : Type 0} (G : device.Ghosts D) → (first : D → Type 0) → Store D G → Type 0
-OpensOn {D} G first store = (device : D) × first device × OpensAs G device store

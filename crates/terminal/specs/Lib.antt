@@ -11,6 +11,8 @@ pub mod Newer
 pub mod Copying
 pub mod Shown
 pub mod Care
+pub mod Failed
+pub mod Again
 pub mod Files
 pub mod Putting
 pub mod Transfer

@@ -12,6 +12,8 @@ use Rattle.journal.specs.PageLayout.{sectors_for}
 use Rattle.shadow.specs.Upgraded.{known_blocks, older_refusal, reads_to_list}
 use Rattle.sessions.specs.Devices.{Becomes}
 use Rattle.terminal.specs.Done.{DoneOn, MakesBlank, Upgraded, blocks_on}
+use Rattle.terminal.specs.declared.left.Left.{Left}
+use Rattle.terminal.specs.declared.left.Left.TheVariants as files
 use Rattle.command_line.specs.declared.orders.Layout.{Layout}
 use Rattle.command_line.specs.declared.orders.Layout.TheVariants.{Two, Three}
 
@@ -33,9 +35,9 @@ module _ {D : Type 0} (G : Ghosts D) where
     pub reads : ReadsAtMost G device after 1
 
   -- An image of n blank blocks was made on such a device, by this layout.
-  abbrev pub NewDone : (made : ℕ → D → Type 0) → ℕ → Layout → Type 0
-  NewDone made n Two = DoneOn G (made (older.sectors_for n)) (MakesBlank G n)
-  NewDone made n Three = DoneOn G (made (sectors_for n)) (MakesNewer n)
+  abbrev pub NewDone : {E : Type 0} (made : ℕ → D → Type 0) → ℕ → Layout → (left : Left D E) → Type 0
+  NewDone made n Two left = DoneOn G files.Made (made (older.sectors_for n)) (MakesBlank G n) left
+  NewDone made n Three left = DoneOn G files.Made (made (sectors_for n)) (MakesNewer n) left
 
 module _ {A B : Type 0} (G : Ghosts A) (H : Ghosts B) where
   -- `upgrade`: the one device has become an image of layout 3 of the blocks that the image of layout 1 or 2 on the other means.
@@ -64,6 +66,9 @@ module _ {D : Type 0} (G : Ghosts D) where
       × (device : D) × made (sectors_for (blocks_on G source)) device × UpgradesNewer G G source source' device after
 
   -- The blocks of a device that was opened went into an image on one that was made, by this layout.
-  abbrev pub UpgradeDone : (opened : D → Type 0) (made : ℕ → D → Type 0) → Layout → Type 0
-  UpgradeDone opened made Two = (source' : D) × (after : D) × Upgraded G opened made source' after
-  UpgradeDone opened made Three = (source' : D) × (after : D) × UpgradedNewer opened made source' after
+  -- What is left are both devices.
+  abbrev pub UpgradeDone : {E : Type 0} (opened : D → Type 0) (made : ℕ → D → Type 0) → Layout → (left : Left D E) → Type 0
+  UpgradeDone opened made Two left =
+      (source' : D) × (after : D) × (left ≡ files.Upgraded source' after) × Upgraded G opened made source' after
+  UpgradeDone opened made Three left =
+      (source' : D) × (after : D) × (left ≡ files.Upgraded source' after) × UpgradedNewer opened made source' after

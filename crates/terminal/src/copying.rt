@@ -1,6 +1,6 @@
 //! An image is copied into a new file. The old one is opened for reading alone.
 //! Rule: MANUAL, forth83 copy OLD NEW [--blocks N].
-ghost use Rattle.std.specs.Prelude.{◌≡◌, ◌≢◌, ◌⊎◌, Some, None, IsTrue, IfErr, IfOk, MatchResult, OnOk, option_map};
+ghost use Rattle.std.specs.Prelude.{◌≡◌, ◌≢◌, ◌⊎◌, Some, None, IsTrue, IfErr, IfOk, IfSome, MatchOption, MatchResult, OnErr, OnOk, option_map};
 ghost use Rattle.sector_disk.specs.Counting.{count_up};
 ghost use Rattle.journal.specs.Calls.{StopsLeave};
 ghost use Rattle.journal.specs.Suits.{suits};
@@ -8,12 +8,15 @@ ghost use Rattle.recovery.specs.Steps.{OnlyRead, WentWell};
 ghost use Rattle.stores.specs.Layouts.{sectors_for};
 ghost use Rattle.image_care.specs.Copied.{copied_blocks, copy_refusal};
 ghost use Rattle.image_care.specs.Made.{MakingLeaves};
-ghost use Rattle.terminal.specs.Care.{Copied};
-ghost use Rattle.terminal.specs.Copying.{Copies, MakesCopy, copied_count, sectors_for_copy};
+ghost use Rattle.terminal.specs.Care.{CopyDone};
+ghost use Rattle.terminal.specs.Copying.{Copies, MadeOf, MakesCopy, copied_count, sectors_for_copy};
+ghost use Rattle.terminal.specs.Done.{EachLeft, IsGiven};
+ghost use Rattle.terminal.specs.Failed.{CopyFailed, CopyFails};
 ghost use Rattle.terminal.specs.Failures.{of_upgrade};
 ghost use Rattle.terminal.specs.Files.{IsMade, IsOpened};
 
 use super::failure::Failure;
+use super::left::Left;
 use image_care::copy;
 use journal::layout::MOST_BLOCKS;
 use sector_disk::{HostFile, HostFiles, SectorDevice, SectorFile, create_disk, open_disk};
@@ -29,42 +32,66 @@ pub fn copy_image<K: HostFile + Drop, P: HostFiles<K>, H: HostFile + Drop, O: Ho
     old: &str,
     new: &str,
     asked: Option<u16>,
-) -> Result<(SectorFile<K>, SectorFile<H>), Failure>
+) -> (Left<SectorFile<H>, SectorFile<K>>, Result<(), Failure>)
     // Ok only where the new file was made and became an image of the blocks that the old one means.
-    ensures made { IfOk result (λ both. Copied ⟦<SectorFile<K> as SectorDevice>⟧ ⟦<SectorFile<H> as SectorDevice>⟧
-        (IsOpened K.HostFile (P.opens looking.now old.now)) (IsMade H.HostFile (O.makes files.now new.now)) asked both.0 both.1) }
+    ensures made { OnOk result.1 (CopyDone ⟦<SectorFile<K> as SectorDevice>⟧ ⟦<SectorFile<H> as SectorDevice>⟧
+        (IsOpened K.HostFile (P.opens looking.now old.now)) (IsMade H.HostFile (O.makes files.now new.now)) asked result.0) }
     // No call of either failed.
-    ensures old_well { IfOk result (λ both. ⟦<SectorFile<K> as SectorDevice>⟧.failures both.0 ≡ 0) }
-    ensures new_well { IfOk result (λ both. ⟦<SectorFile<H> as SectorDevice>⟧.failures both.1 ≡ 0) }
+    ensures well { OnOk result.1 (EachLeft (λ device. ⟦<SectorFile<H> as SectorDevice>⟧.failures device ≡ 0)
+        (λ device. ⟦<SectorFile<K> as SectorDevice>⟧.failures device ≡ 0) result.0) }
+    ensures failed { IfErr result.1 (λ failure. CopyFailed ⟦<SectorFile<K> as SectorDevice>⟧ ⟦<SectorFile<H> as SectorDevice>⟧
+        (IsOpened K.HostFile (P.opens looking.now old.now)) (IsMade H.HostFile (O.makes files.now new.now)) asked failure result.0) }
+    // No session has begun that could stop.
+    ensures unstopped { IfErr result.1 (λ e. e ≢ Failure.Stopped) }
 {
-    let mut source = open_disk(looking, old)?;
-    match copy_into(&mut source, files, new, asked) {
-        Ok(target) => Ok((source, target)),
-        Err(failure) => Err(failure),
+    match open_disk(looking, old) {
+        Ok(mut source) => {
+            let (target, outcome) = copy_into(&mut source, files, new, asked);
+            (copied(source, target), outcome)
+        }
+        Err(fault) => (Left::Nothing, Err(Failure::from(fault))),
     }
 }
 
-/// Makes a copy of the image on a device, in a new file.
+/// The devices of an image that was read and of the one that was made of it, if one was.
+pub(super) fn copied<A, B>(source: A, target: Option<B>) -> Left<B, A>
+    ensures { MatchOption target (result ≡ Left.Looked source) (λ made. result ≡ Left.Copied source made) }
+{
+    match target {
+        Some(target) => Left::Copied(source, target),
+        None => Left::Looked(source),
+    }
+}
+
+/// Makes a copy of the image on a device, in a new file, and gives that one, if it was made.
 fn copy_into<A: SectorDevice, H: HostFile + Drop, O: HostFiles<H>>(
     source: &mut A,
     files: &O,
     new: &str,
     asked: Option<u16>,
-) -> Result<SectorFile<H>, Failure>
-    ensures made { IfOk result (λ target. MakesCopy A.SectorDevice ⟦<SectorFile<H> as SectorDevice>⟧
-        (IsMade H.HostFile (O.makes files.now new.now)) asked source.old source.new target) }
+) -> (Option<SectorFile<H>>, Result<(), Failure>)
+    ensures made { OnOk result.1 (IsGiven result.0 (λ target. MakesCopy A.SectorDevice ⟦<SectorFile<H> as SectorDevice>⟧
+        (IsMade H.HostFile (O.makes files.now new.now)) asked source.old source.new target)) }
     // Whatever the answer is, nothing of the old image was written or synced.
     ensures kept { OnlyRead A.SectorDevice source.old source.new }
-    ensures old_well { OnOk result (A.failures source.new ≡ A.failures source.old) }
-    ensures new_well { IfOk result (λ target. ⟦<SectorFile<H> as SectorDevice>⟧.failures target ≡ 0) }
+    ensures old_well { OnOk result.1 (A.failures source.new ≡ A.failures source.old) }
+    ensures new_well { OnOk result.1 (IfSome result.0 (λ target. ⟦<SectorFile<H> as SectorDevice>⟧.failures target ≡ 0)) }
+    // Where it failed, an image may be made in part, or no call of the old one was made.
+    ensures failed { OnErr result.1 (IfSome result.0 (λ target. MadeOf A.SectorDevice ⟦<SectorFile<H> as SectorDevice>⟧
+        (IsMade H.HostFile (O.makes files.now new.now)) (sectors_for_copy (A.sector_count source.old) asked)
+        (CopyFails A.SectorDevice ⟦<SectorFile<H> as SectorDevice>⟧) source.old source.new target)) }
+    ensures unmade { result.0 ≡ None → source.new ≡ source.old }
+    ensures unstopped { IfErr result.1 (λ e. e ≢ Failure.Stopped) }
 {
     let Some(sectors) = sectors_for_copy(source.sectors(), asked) else {
-        return Err(Failure::BadSize);
+        return (None, Err(Failure::BadSize));
     };
-    let mut target = make_file(files, new, sectors)?;
-    match copy_over(source, &mut target) {
-        Ok(()) => Ok(target),
-        Err(failure) => Err(failure),
+    match make_file(files, new, sectors) {
+        Ok(mut target) => {
+            let outcome = copy_over(source, &mut target);
+            (Some(target), outcome)
+        }
+        Err(failure) => (None, Err(failure)),
     }
 }
 
@@ -76,6 +103,7 @@ pub(super) fn make_file<H: HostFile + Drop, O: HostFiles<H>>(
 ) -> Result<SectorFile<H>, Failure>
     ensures made { IfOk result (λ disk. IsMade H.HostFile (O.makes files.now path.now) sectors disk) }
     ensures well { IfOk result (λ disk. ⟦<SectorFile<H> as SectorDevice>⟧.failures disk ≡ 0) }
+    ensures unstopped { IfErr result (λ e. e ≢ Failure.Stopped) }
 {
     Ok(create_disk(files, path, sectors)?)
 }
@@ -136,6 +164,9 @@ pub fn copy_over<A: SectorDevice, B: SectorDevice>(old: &mut A, new: &mut B) -> 
     ensures stops { IsTrue (A.keeps_model old.old) → IsTrue (suits B.SectorDevice new.old)
         → StopsLeave B.SectorDevice new.old new.new (MakingLeaves (B.sector_count new.old)
         (copied_blocks (A.sector_count old.old) (B.sector_count new.old) (A.disk old.old).content) (B.disk new.old)) }
+    // Where it failed, an image of these blocks is made in part.
+    ensures failed { OnErr result (CopyFails A.SectorDevice B.SectorDevice old.old old.new new.old new.new) }
+    ensures unstopped { IfErr result (λ e. e ≢ Failure.Stopped) }
 {
     match copy(old, new) {
         Ok(()) => Ok(()),

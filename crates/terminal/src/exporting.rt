@@ -1,6 +1,6 @@
 //! Many blocks at once, printed.
 //! Rule: MANUAL, forth83 export IMAGE FIRST LAST [--raw].
-ghost use Rattle.std.specs.Prelude.{◌≡◌, ◌⊎◌, ◌<◌, ◌≤◌, ◌-◌, ◌+◌, ◌*◌, ◌++◌, ◌∷◌, ◌↔◌, [], length, map, take, true, OnOk, IfErr, IsErrOf};
+ghost use Rattle.std.specs.Prelude.{◌≡◌, ◌≢◌, ◌⊎◌, ◌<◌, ◌≤◌, ◌-◌, ◌+◌, ◌*◌, ◌++◌, ◌∷◌, ◌↔◌, [], length, map, take, true, OnOk, IfErr, IsErrOf};
 ghost use Rattle.std.specs.Io.KnownBytes.{Appends};
 ghost use Rattle.arrayvec.specs.ArrayVec.{array_vec_len};
 ghost use Rattle.cell_machine.specs.Effects.{trimmed};
@@ -36,6 +36,7 @@ pub fn export_blocks<D: SectorDevice, W: Write>(
     ensures device { IsErrOf result Failure.Device → (closed_of store.old ≡ true) ⊎ DeviceFailed store.old store.new }
     ensures unwritten { IsErrOf result Failure.NoBlock → output.new ≡ output.old }
     ensures store { ReadsStore store.old store.new (2 * (last + 1 - first)) }
+    ensures unstopped { IfErr result (λ e. e ≢ Failure.Stopped) }
 {
     if last < first {
         return Err(Failure::NoBlock);

@@ -43,6 +43,7 @@ pub fn import_files<D: SectorDevice, E: Write>(
     ensures device { IfErr result (λ e. e ≡ Failure.Device
         → (closed_of store.old ≡ true) ⊎ DeviceFailed store.old store.new) }
     ensures continues { Continues store.old store.new }
+    ensures unstopped { IfErr result (λ e. e ≢ Failure.Stopped) }
 {
     match read_blocks(rt, store.blocks(), first, paths, form, false, errors) {
         Ok(bytes) => import_bytes(store, first, bytes.as_slice()),
@@ -68,6 +69,7 @@ pub fn read_blocks<E: Write>(
     ensures below { OnOk result (first < blocks) }
     ensures there { IfOk result (λ bytes. first + blocks_for (length bytes.items) ≤ blocks) }
     ensures only { IfErr result (λ e. e ≢ Failure.Device) }
+    ensures unstopped { IfErr result (λ e. e ≢ Failure.Stopped) }
 {
     if first >= blocks {
         return Err(Failure::NoBlock);
@@ -92,6 +94,7 @@ fn add_files<E: Write>(
     ensures added { OnOk result ((files : List (List ℕ)) × (length files ≡ length paths.now)
         × AreSound form room files × (bytes.new.items ≡ bytes.old.items ++ said_all form files)) }
     ensures only { IfErr result (λ e. e ≢ Failure.Device) }
+    ensures unstopped { IfErr result (λ e. e ≢ Failure.Stopped) }
 {
     let mut left = room;
     let mut rest = paths;
@@ -115,6 +118,7 @@ fn add_file<E: Write>(
     ensures added { IfOk result (λ left. (file : List ℕ) × (refusal (told form room file) ≡ None)
         × (left ≡ room - blocks_for (length (said form file))) × (bytes.new.items ≡ bytes.old.items ++ in_blocks (said form file))) }
     ensures only { IfErr result (λ e. e ≢ Failure.Device) }
+    ensures unstopped { IfErr result (λ e. e ≢ Failure.Stopped) }
 {
     let said = read_file(rt, room, path, form, all, errors)?;
     match add_in_blocks(bytes, said.as_slice()) {
@@ -145,6 +149,7 @@ fn read_file<E: Write>(
         × (bytes.items ≡ said form file)) }
     ensures there { IfOk result (λ bytes. blocks_for (length bytes.items) ≤ room) }
     ensures only { IfErr result (λ e. e ≢ Failure.Device) }
+    ensures unstopped { IfErr result (λ e. e ≢ Failure.Stopped) }
 {
     let file = File::open(rt, path).map_err(|_| Failure::CannotRead)?;
     let mut reader = BufReader::new(rt.alloc(), file).map_err(|_| Failure::NoMemory)?;

@@ -4,6 +4,7 @@
 pub use command_line::{order, orders};
 pub use failure::Failure;
 pub use input::{Input, Led};
+pub use left::Left;
 pub use program::{command, command_over};
 pub use starting::start;
 
@@ -24,7 +25,10 @@ mod hints;
 mod images;
 mod importing;
 mod input;
+pub mod laws;
+mod left;
 mod newer_upgrading;
+mod opening;
 mod program;
 mod salvaging;
 mod screen;

@@ -1,6 +1,6 @@
 //! An image of layout 1 or 2 is upgraded to layout 3, in a new file.
 //! Rule: IMAGE, Layout 3, An upgrade.
-ghost use Rattle.std.specs.Prelude.{◌≡◌, ◌≢◌, ◌⊎◌, ℕ, Some, None, IsTrue, IfErr, IfOk, MatchResult, OnOk, option_map};
+ghost use Rattle.std.specs.Prelude.{◌≡◌, ◌≢◌, ◌⊎◌, ⊤, ℕ, Some, None, IsTrue, IfErr, IfOk, MatchResult, OnErr, OnOk, option_map};
 ghost use Rattle.sector_disk.specs.Counting.{count_up};
 ghost use Rattle.sector_disk.specs.Disk.{MayLeave};
 ghost use Rattle.journal.specs.Calls.{BeginsAtMost, StopsLeave};
@@ -11,10 +11,14 @@ ghost use Rattle.journal.specs.PageLayout.{sectors_for};
 ghost use Rattle.shadow.specs.Upgraded.{upgrade_refusal};
 ghost use Rattle.terminal.specs.Failures.{of_upgrade};
 ghost use Rattle.terminal.specs.Files.{IsMade, IsOpened};
-ghost use Rattle.terminal.specs.Newer.{LeavesNewer, UpgradedNewer, UpgradesNewer};
+ghost use Rattle.terminal.specs.Done.{EachLeft, blocks_on};
+ghost use Rattle.terminal.specs.Failed.{NewerUpgradeFails, UpgradeFailed};
+ghost use Rattle.terminal.specs.Newer.{LeavesNewer, UpgradeDone, UpgradesNewer};
 
 use super::failure::Failure;
 use super::files::make_newer_file;
+use super::left::Left;
+use command_line::orders::Layout;
 use sector_disk::{HostFile, HostFiles, SectorDevice, SectorFile, open_disk};
 use shadow::upgrade;
 use stores::blocks_of_size;
@@ -23,26 +27,49 @@ use stores::blocks_of_size;
 /// made where the old one has the size of no image (`BadSize`) or can't be opened (`CannotOpen`, `InUse`), and whatever
 /// has the new name already stays as it is (`Exists`). Then its failures are those of `upgrade_over`.
 /// Rule: MANUAL, forth83 upgrade OLD NEW [--layout L]; IMAGE, Layout 3, An upgrade.
-pub fn upgrade_to_newer<H: HostFile + Drop, O: HostFiles<H>>(
+pub fn upgrade_to_newer<H: HostFile + Drop, O: HostFiles<H>, E>(
     files: &O,
     old: &str,
     new: &str,
-) -> Result<(SectorFile<H>, SectorFile<H>), Failure>
+) -> (Left<SectorFile<H>, E>, Result<(), Failure>)
     // Ok only where the new file was made and became an image of the blocks that the old one means.
-    ensures made { IfOk result (λ both. UpgradedNewer ⟦<SectorFile<H> as SectorDevice>⟧
-        (IsOpened H.HostFile (O.opens files.now old.now)) (IsMade H.HostFile (O.makes files.now new.now)) both.0 both.1) }
-    // No call of either failed.
-    ensures old_well { IfOk result (λ both. ⟦<SectorFile<H> as SectorDevice>⟧.failures both.0 ≡ 0) }
-    ensures new_well { IfOk result (λ both. ⟦<SectorFile<H> as SectorDevice>⟧.failures both.1 ≡ 0) }
+    ensures made { OnOk result.1 (UpgradeDone ⟦<SectorFile<H> as SectorDevice>⟧
+        (IsOpened H.HostFile (O.opens files.now old.now)) (IsMade H.HostFile (O.makes files.now new.now)) Layout.Three result.0) }
+    // No call of what is given back failed.
+    ensures well { OnOk result.1 (EachLeft (λ device. ⟦<SectorFile<H> as SectorDevice>⟧.failures device ≡ 0) (λ _. ⊤) result.0) }
+    ensures failed { IfErr result.1 (λ failure. UpgradeFailed ⟦<SectorFile<H> as SectorDevice>⟧
+        (IsOpened H.HostFile (O.opens files.now old.now)) (IsMade H.HostFile (O.makes files.now new.now)) Layout.Three failure result.0) }
+    ensures unstopped { IfErr result.1 (λ e. e ≢ Failure.Stopped) }
 {
-    let mut source = open_disk(files, old)?;
+    match open_disk(files, old) {
+        Ok(source) => upgrade_newer_into(source, files, new),
+        Err(fault) => (Left::Nothing, Err(Failure::from(fault))),
+    }
+}
+
+/// Makes an image of layout 3, in a new file, of the blocks of the image of layout 1 or 2 on a device.
+fn upgrade_newer_into<H: HostFile + Drop, O: HostFiles<H>, E>(
+    mut source: SectorFile<H>,
+    files: &O,
+    new: &str,
+) -> (Left<SectorFile<H>, E>, Result<(), Failure>)
+    ensures made { OnOk result.1 (UpgradeDone ⟦<SectorFile<H> as SectorDevice>⟧
+        (λ device. device ≡ source) (IsMade H.HostFile (O.makes files.now new.now)) Layout.Three result.0) }
+    ensures well { ⟦<SectorFile<H> as SectorDevice>⟧.failures source ≡ 0
+        → OnOk result.1 (EachLeft (λ device. ⟦<SectorFile<H> as SectorDevice>⟧.failures device ≡ 0) (λ _. ⊤) result.0) }
+    ensures failed { IfErr result.1 (λ failure. UpgradeFailed ⟦<SectorFile<H> as SectorDevice>⟧
+        (λ device. device ≡ source) (IsMade H.HostFile (O.makes files.now new.now)) Layout.Three failure result.0) }
+    ensures unstopped { IfErr result.1 (λ e. e ≢ Failure.Stopped) }
+{
     let Some(blocks) = blocks_of_size(source.sectors()) else {
-        return Err(Failure::BadSize);
+        return (Left::Opened(source), Err(Failure::BadSize));
     };
-    let mut target = make_newer_file(files, new, blocks)?;
-    match upgrade_over(&mut source, &mut target) {
-        Ok(()) => Ok((source, target)),
-        Err(failure) => Err(failure),
+    match make_newer_file(files, new, blocks) {
+        Ok(mut target) => {
+            let outcome = upgrade_over(&mut source, &mut target);
+            (Left::Upgraded(source, target), outcome)
+        }
+        Err(failure) => (Left::Opened(source), Err(failure)),
     }
 }
 
@@ -72,6 +99,8 @@ pub fn upgrade_over<A: SectorDevice, B: SectorDevice>(
     // Where the old image is refused, no call of the other device was made.
     ensures unasked { IfErr result (λ e. e ≢ Failure.Device → new.new ≡ new.old) }
     // Whatever the answer is, a stop leaves of the other device no image, or the whole one, or what could be left before.
+    ensures failed { B.sector_count new.old ≡ sectors_for (blocks_on A.SectorDevice old.old)
+        → OnErr result (NewerUpgradeFails A.SectorDevice B.SectorDevice old.old old.new new.old new.new) }
     ensures newer_stops { IsTrue (A.keeps_model old.old) → IsTrue (B.keeps_model new.old) → (n : ℕ)
         → B.sector_count new.old ≡ sectors_for n → StopsLeave B.SectorDevice new.old new.new
         (MakingLeaves n (meaning n (A.disk old.old).content) (B.disk new.old)) }
@@ -79,6 +108,7 @@ pub fn upgrade_over<A: SectorDevice, B: SectorDevice>(
     ensures newer_whole { IsTrue (A.keeps_model old.old) → IsTrue (B.keeps_model new.old) → OnOk result ((n : ℕ)
         → B.sector_count new.old ≡ sectors_for n
         → LeavesNewer B.SectorDevice new.new (meaning n (A.disk old.old).content)) }
+    ensures unstopped { IfErr result (λ e. e ≢ Failure.Stopped) }
 {
     match upgrade(old, new) {
         Ok(()) => Ok(()),

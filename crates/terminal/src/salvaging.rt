@@ -1,6 +1,6 @@
 //! What can be had of a damaged image is put into a new file, and told of. The old one is opened for reading alone.
 //! Rule: MANUAL, forth83 salvage OLD NEW [--blocks N]; IMAGE, Layout 3, What can be had of a damaged image.
-ghost use Rattle.std.specs.Prelude.{◌≡◌, ◌≢◌, ◌⊎◌, ◌<◌, ◌++◌, true, Some, None, string_bytes, IsTrue, IfErr, IfOk, MatchResult, OnOk, option_map};
+ghost use Rattle.std.specs.Prelude.{◌≡◌, ◌≢◌, ◌⊎◌, ◌<◌, ◌++◌, true, Some, None, string_bytes, IsTrue, IfErr, IfOk, IfSome, MatchResult, OnOk, option_map};
 ghost use Rattle.std.specs.Io.KnownBytes.{Appends};
 ghost use Rattle.sector_disk.specs.Counting.{count_up};
 ghost use Rattle.journal.specs.Calls.{StopsLeave};
@@ -10,17 +10,19 @@ ghost use Rattle.recovery.specs.Label.{is_size};
 ghost use Rattle.recovery.specs.Steps.{OnlyRead, WentWell};
 ghost use Rattle.image_care.specs.Made.{MakingLeaves};
 ghost use Rattle.image_care.specs.Salvaged.{salvage_refusal, salvaged_blocks};
-ghost use Rattle.terminal.specs.Care.{Salvaged};
-ghost use Rattle.terminal.specs.Copying.{MakesSalvage, Salvages, no_recovery, pages_no_recovery, salvage_told, salvaged_count, sectors_for_salvage, standing_by};
+ghost use Rattle.terminal.specs.Care.{SalvageDone};
+ghost use Rattle.terminal.specs.Copying.{MadeOf, MakesSalvage, Salvages, no_recovery, pages_no_recovery, salvage_told, salvaged_count, sectors_for_salvage, standing_by};
 ghost use Rattle.terminal.specs.Damage.{damage_told};
-ghost use Rattle.terminal.specs.Done.{LeavesBlocks};
+ghost use Rattle.terminal.specs.Done.{EachLeft, IsGiven, LeavesBlocks};
+ghost use Rattle.terminal.specs.Failed.{SalvageFailed, SalvageFails};
 ghost use Rattle.terminal.specs.Failures.{of_upgrade};
 ghost use Rattle.terminal.specs.Files.{IsMade, IsOpened};
 
 use super::checking::print;
-use super::copying::{make_file, sectors_by};
+use super::copying::{copied, make_file, sectors_by};
 use super::damage::add_damage_line;
 use super::failure::Failure;
+use super::left::Left;
 use image_care::pages::Standing;
 use image_care::{Taken, salvage};
 use journal::layout::is_listed;
@@ -52,23 +54,29 @@ pub fn salvage_image<
     new: &str,
     asked: Option<u16>,
     output: &mut W,
-) -> Result<(SectorFile<K>, SectorFile<H>), Failure>
+) -> (Left<SectorFile<H>, SectorFile<K>>, Result<(), Failure>)
     // Ok only where the new file was made and became an image of what was had of the old one, and where that was told.
-    ensures made { IfOk result (λ both. Salvaged ⟦<SectorFile<K> as SectorDevice>⟧ ⟦<SectorFile<H> as SectorDevice>⟧
+    ensures made { OnOk result.1 (SalvageDone ⟦<SectorFile<K> as SectorDevice>⟧ ⟦<SectorFile<H> as SectorDevice>⟧
         (IsOpened K.HostFile (P.opens looking.now old.now)) (IsMade H.HostFile (O.makes files.now new.now)) asked
-        (W.contents output.old) (W.contents output.new) both.0 both.1) }
+        (W.contents output.old) (W.contents output.new) result.0) }
     // No call of either failed.
-    ensures old_well { IfOk result (λ both. ⟦<SectorFile<K> as SectorDevice>⟧.failures both.0 ≡ 0) }
-    ensures new_well { IfOk result (λ both. ⟦<SectorFile<H> as SectorDevice>⟧.failures both.1 ≡ 0) }
+    ensures well { OnOk result.1 (EachLeft (λ device. ⟦<SectorFile<H> as SectorDevice>⟧.failures device ≡ 0)
+        (λ device. ⟦<SectorFile<K> as SectorDevice>⟧.failures device ≡ 0) result.0) }
+    ensures failed { IfErr result.1 (λ failure. SalvageFailed ⟦<SectorFile<K> as SectorDevice>⟧ ⟦<SectorFile<H> as SectorDevice>⟧
+        (IsOpened K.HostFile (P.opens looking.now old.now)) (IsMade H.HostFile (O.makes files.now new.now)) asked failure result.0) }
+    // No session has begun that could stop.
+    ensures unstopped { IfErr result.1 (λ e. e ≢ Failure.Stopped) }
 {
-    let mut source = open_disk(looking, old)?;
-    match salvage_into(alloc, &mut source, files, new, asked, output) {
-        Ok(target) => Ok((source, target)),
-        Err(failure) => Err(failure),
+    match open_disk(looking, old) {
+        Ok(mut source) => {
+            let (target, outcome) = salvage_into(alloc, &mut source, files, new, asked, output);
+            (copied(source, target), outcome)
+        }
+        Err(fault) => (Left::Nothing, Err(Failure::from(fault))),
     }
 }
 
-/// Salvages the image on a device, into a new file.
+/// Salvages the image on a device, into a new file, and gives that one, if it was made.
 fn salvage_into<A: SectorDevice, H: HostFile + Drop, O: HostFiles<H>, W: Write>(
     alloc: Global,
     source: &mut A,
@@ -76,22 +84,30 @@ fn salvage_into<A: SectorDevice, H: HostFile + Drop, O: HostFiles<H>, W: Write>(
     new: &str,
     asked: Option<u16>,
     output: &mut W,
-) -> Result<SectorFile<H>, Failure>
-    ensures made { IfOk result (λ target. MakesSalvage A.SectorDevice ⟦<SectorFile<H> as SectorDevice>⟧
+) -> (Option<SectorFile<H>>, Result<(), Failure>)
+    ensures made { OnOk result.1 (IsGiven result.0 (λ target. MakesSalvage A.SectorDevice ⟦<SectorFile<H> as SectorDevice>⟧
         (IsMade H.HostFile (O.makes files.now new.now)) asked (W.contents output.old) (W.contents output.new)
-        source.old source.new target) }
+        source.old source.new target)) }
     // Whatever the answer is, nothing of the old image was written or synced.
     ensures kept { OnlyRead A.SectorDevice source.old source.new }
-    ensures old_well { OnOk result (A.failures source.new ≡ A.failures source.old) }
-    ensures new_well { IfOk result (λ target. ⟦<SectorFile<H> as SectorDevice>⟧.failures target ≡ 0) }
+    ensures old_well { OnOk result.1 (A.failures source.new ≡ A.failures source.old) }
+    ensures new_well { OnOk result.1 (IfSome result.0 (λ target. ⟦<SectorFile<H> as SectorDevice>⟧.failures target ≡ 0)) }
+    // Where it failed, an image may be made in part, or no call of the old one was made.
+    ensures failed { IfErr result.1 (λ failure. IfSome result.0 (λ target. MadeOf A.SectorDevice ⟦<SectorFile<H> as SectorDevice>⟧
+        (IsMade H.HostFile (O.makes files.now new.now)) (sectors_for_salvage (A.sector_count source.old) asked)
+        (SalvageFails A.SectorDevice ⟦<SectorFile<H> as SectorDevice>⟧ failure) source.old source.new target)) }
+    ensures unmade { result.0 ≡ None → source.new ≡ source.old }
+    ensures unstopped { IfErr result.1 (λ e. e ≢ Failure.Stopped) }
 {
     let Some(sectors) = sectors_for_salvage(source.sectors(), asked) else {
-        return Err(Failure::BadSize);
+        return (None, Err(Failure::BadSize));
     };
-    let mut target = make_file(files, new, sectors)?;
-    match salvage_over(alloc, source, &mut target, output) {
-        Ok(()) => Ok(target),
-        Err(failure) => Err(failure),
+    match make_file(files, new, sectors) {
+        Ok(mut target) => {
+            let outcome = salvage_over(alloc, source, &mut target, output);
+            (Some(target), outcome)
+        }
+        Err(failure) => (None, Err(failure)),
     }
 }
 
@@ -151,8 +167,11 @@ pub fn salvage_over<A: SectorDevice, B: SectorDevice, W: Write>(
     ensures whole { IsTrue (A.keeps_model old.old) → IsTrue (suits B.SectorDevice new.old)
         → IfErr result (λ e. (e ≡ Failure.NoMemory) ⊎ (e ≡ Failure.CannotWrite)
         → LeavesBlocks B.SectorDevice new.new (salvaged_blocks (B.sector_count new.old) (A.disk old.old).content)) }
+    // Where it failed, an image of these blocks is made in part, or whole.
+    ensures failed { IfErr result (λ failure. SalvageFails A.SectorDevice B.SectorDevice failure old.old old.new new.old new.new) }
     // Where nothing was salvaged, nothing is told.
     ensures untold { IfErr result (λ e. e ≢ Failure.CannotWrite → output.new ≡ output.old) }
+    ensures unstopped { IfErr result (λ e. e ≢ Failure.Stopped) }
 {
     match salvage(old, new) {
         Ok(taken) => tell_salvage(alloc, old.sectors(), &taken, output),

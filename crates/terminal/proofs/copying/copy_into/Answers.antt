@@ -1,12 +1,32 @@
-use Rattle.std.proofs.Common.{◌∙◌, ap, sym}
+use Rattle.std.proofs.Common.{◌∙◌, ap, refl, sym}
+use Rattle.std.proofs.lemmas.Result.{on_err_weaker, on_ok_weaker}
 use Rattle.terminal.specs.Copying.{sectors_for_copy}
 use Rattle.terminal.proofs.copying.copy_into.Goals as goal
 
 pub returns-in-Ok-clause-made : goal.returns-in-Ok-clause-made
-returns-in-Ok-clause-made g c = (
-  c.in-Some.sectors,
-  sym (c.in-Some.ensures ∙ ap (λ s. sectors_for_copy s c.args.asked) c.sectors.ensures),
-  c.in_ok-target.target,
-  c.in_ok-target.ensures.made,
-  c.in-Ok.ensures.copies,
-)
+returns-in-Ok-clause-made g c =
+    let done = c.copy_over-outcome in
+    on_ok_weaker done.result
+    (λ did. (
+      done.new.new,
+      refl,
+      c.in-Some.sectors,
+      sym (c.in-Some.ensures ∙ ap (λ s. sectors_for_copy s c.args.asked) c.sectors.ensures),
+      c.in-Ok.target,
+      c.in-Ok.ensures.made,
+      did,
+    ))
+    done.ensures.copies
+
+pub returns-in-Ok-clause-failed : goal.returns-in-Ok-clause-failed
+returns-in-Ok-clause-failed g c =
+    let done = c.copy_over-outcome in
+    on_err_weaker done.result
+    (λ did. (
+      c.in-Some.sectors,
+      sym (c.in-Some.ensures ∙ ap (λ s. sectors_for_copy s c.args.asked) c.sectors.ensures),
+      c.in-Ok.target,
+      c.in-Ok.ensures.made,
+      did,
+    ))
+    done.ensures.failed

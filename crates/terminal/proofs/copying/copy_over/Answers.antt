@@ -1,5 +1,5 @@
 use Rattle.std.proofs.Common.{◌∙◌, sym}
-use Rattle.terminal.proofs.Copies.{becomes, either_failed, left_after, no_new_device, no_old_device, not_refused, told_device, told_first}
+use Rattle.terminal.proofs.Copies.{becomes, either_failed, left_after, never_stopped, no_new_device, no_old_device, not_refused, told_device, told_first}
 use Rattle.terminal.proofs.copying.copy_over.Goals as goal
 
 pub returns-in-Ok-clause-copies : goal.returns-in-Ok-clause-copies
@@ -37,3 +37,17 @@ pub returns-in-Err-clause-unasked : goal.returns-in-Err-clause-unasked
 returns-in-Err-clause-unasked g c = λ other.
     c.in-Err.ensures.new_same (no_old_device c.from.result c.in-Err.fault c.from.ensures other)
     (no_new_device c.from.result c.in-Err.fault c.from.ensures other)
+
+pub returns-in-Err-clause-failed : goal.returns-in-Err-clause-failed
+returns-in-Err-clause-failed g c =
+    let did = c.in-Err.ensures in
+    record {
+      old = did.old_stops;
+      goes = becomes g.A.SectorDevice g.B.SectorDevice c.args.new.now c.copy.new.new did.new_passes;
+      stops = did.new_stops;
+      begins = did.new_begins;
+      looks = did.new_reads;
+    }
+
+pub returns-in-Err-clause-unstopped : goal.returns-in-Err-clause-unstopped
+returns-in-Err-clause-unstopped g c = λ same. never_stopped c.in-Err.fault (sym c.from.ensures ∙ same)

@@ -5,6 +5,8 @@ use Rattle.recovery.specs.Formatted.{blank_blocks}
 use Rattle.journal.specs.Technique.{is_journal}
 use Rattle.journal.proofs.Techniques.{journal_sectors}
 use Rattle.journal.proofs.Suited.{stays}
+use Rattle.terminal.specs.Failures.{of_image}
+use Rattle.terminal.proofs.Making.{first_case, older_sectors}
 use Rattle.terminal.proofs.images.make_over.Goals as goal
 
 pub returns-in-Ok-clause-made : goal.returns-in-Ok-clause-made
@@ -17,4 +19,15 @@ returns-in-Ok-clause-made g c =
       blank = c.in-Ok.ensures.after;
       begins = c.in-Ok.ensures.begins;
       reads = c.in-Ok.ensures.reads;
+    }
+
+pub returns-in-Err-clause-failed : goal.returns-in-Err-clause-failed
+returns-in-Err-clause-failed g c = λ sized.
+    let did = c.in-Err.ensures in
+    record {
+      goes = record { model = stays g.D.SectorDevice c.args.device _ did.sectors did.model did.units; time = did.time; failures = did.failures };
+      told = c.from.ensures ∙ ap of_image (first_case _ sized did.refusal);
+      stops = λ keeps. did.stops keeps c.args.blocks (older_sectors c.args.blocks (g.D.SectorDevice.sector_count c.args.device) sized);
+      begins = did.begins;
+      reads = did.reads;
     }

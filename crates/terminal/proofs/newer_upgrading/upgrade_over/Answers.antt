@@ -1,8 +1,9 @@
-use Rattle.std.proofs.Common.{◌≡◌}
+use Rattle.std.proofs.Common.{◌≡◌, ◌∙◌, sym}
 use Rattle.journal.specs.PageLayout.{sectors_for}
 use Rattle.shadow.specs.Upgraded.{known_blocks}
 use Rattle.terminal.proofs.NewerSizes.{newer_size, older_sound}
 use Rattle.journal.proofs.Suited.{stays}
+use Rattle.terminal.proofs.Copies.{never_stopped}
 use Rattle.terminal.proofs.newer_upgrading.upgrade_over.Goals as goal
 
 pub returns-in-Ok-clause-upgrades : goal.returns-in-Ok-clause-upgrades
@@ -33,3 +34,17 @@ returns-in-Ok-clause-newer_whole g c = λ keeps keeps'. c.in-Ok.ensures.after ke
 
 pub returns-in-Err-clause-newer_stops : goal.returns-in-Err-clause-newer_stops
 returns-in-Err-clause-newer_stops g c = λ keeps keeps'. c.in-Err.ensures.new_stops keeps keeps'
+
+pub returns-in-Err-clause-failed : goal.returns-in-Err-clause-failed
+returns-in-Err-clause-failed g c = λ to.
+    let did = c.in-Err.ensures in
+    record {
+      old = record { model = stays g.A.SectorDevice c.args.old.now _ did.old_passes.sectors did.old_passes.model did.old_passes.units; time = did.old_passes.time; failures = did.old_passes.failures };
+      left = did.old_stops;
+      unwritten = did.old_begins;
+      goes = record { model = stays g.B.SectorDevice c.args.new.now _ did.new_passes.sectors did.new_passes.model did.new_passes.units; time = did.new_passes.time; failures = did.new_passes.failures };
+      stops = λ keeps keeps'. did.new_stops keeps keeps' (known_blocks (g.A.SectorDevice.sector_count c.args.old.now)) to;
+    }
+
+pub returns-in-Err-clause-unstopped : goal.returns-in-Err-clause-unstopped
+returns-in-Err-clause-unstopped g c = λ same. never_stopped c.in-Err.fault (sym c.from.ensures ∙ same)

@@ -1,12 +1,32 @@
-use Rattle.std.proofs.Common.{◌∙◌, ap, sym}
+use Rattle.std.proofs.Common.{◌∙◌, ap, refl, sym}
+use Rattle.std.proofs.lemmas.Result.{IfErr-weaker, on_ok_weaker}
 use Rattle.terminal.specs.Copying.{sectors_for_salvage}
 use Rattle.terminal.proofs.salvaging.salvage_into.Goals as goal
 
 pub returns-in-Ok-clause-made : goal.returns-in-Ok-clause-made
-returns-in-Ok-clause-made g c = (
-  c.in-Some.sectors,
-  sym (c.in-Some.ensures ∙ ap (λ s. sectors_for_salvage s c.args.asked) c.sectors.ensures),
-  c.in_ok-target.target,
-  c.in_ok-target.ensures.made,
-  c.in-Ok.ensures.salvages,
-)
+returns-in-Ok-clause-made g c =
+    let done = c.salvage_over-outcome in
+    on_ok_weaker done.result
+    (λ did. (
+      done.new.new,
+      refl,
+      c.in-Some.sectors,
+      sym (c.in-Some.ensures ∙ ap (λ s. sectors_for_salvage s c.args.asked) c.sectors.ensures),
+      c.in-Ok.target,
+      c.in-Ok.ensures.made,
+      did,
+    ))
+    done.ensures.salvages
+
+pub returns-in-Ok-clause-failed : goal.returns-in-Ok-clause-failed
+returns-in-Ok-clause-failed g c =
+    let done = c.salvage_over-outcome in
+    IfErr-weaker done.result _ _
+    (λ e did. (
+      c.in-Some.sectors,
+      sym (c.in-Some.ensures ∙ ap (λ s. sectors_for_salvage s c.args.asked) c.sectors.ensures),
+      c.in-Ok.target,
+      c.in-Ok.ensures.made,
+      did,
+    ))
+    done.ensures.failed

@@ -1,9 +1,9 @@
-use Rattle.std.proofs.Common.{◌≡◌, ◌∙◌, ℕ, List, ap, subst, sym}
+use Rattle.std.proofs.Common.{◌≡◌, ◌∙◌, ℕ, List, ⊎_elim, ap, inl, inr, subst, sym}
 use Rattle.std.proofs.lemmas.Result.{IfErr-weaker, on_ok_weaker}
 use Rattle.std.specs.Io.KnownBytes.{Appends}
 use Rattle.recovery.specs.Label.{is_size}
 use Rattle.terminal.specs.Copying.{salvage_told, standing_by}
-use Rattle.terminal.proofs.Copies.{becomes, either_failed, left_after, never_memory, no_new_device, no_old_device, told_device, told_first_or_untold, told_plain, told_same}
+use Rattle.terminal.proofs.Copies.{becomes, either_failed, left_after, never_memory, never_stopped, never_untold, no_new_device, no_old_device, told_device, told_first_or_untold, told_plain, told_same}
 use Rattle.terminal.proofs.salvaging.salvage_over.Goals as goal
 
 pub returns-in-Ok-clause-salvages : goal.returns-in-Ok-clause-salvages
@@ -65,3 +65,39 @@ pub returns-in-Err-clause-unasked : goal.returns-in-Err-clause-unasked
 returns-in-Err-clause-unasked g c = λ other ready unwritten.
     c.in-Err.ensures.new_unasked (no_old_device c.from.result c.in-Err.fault c.from.ensures other)
     (no_new_device c.from.result c.in-Err.fault c.from.ensures other)
+
+-- What a salvage that was told or not has made, and whether all of it is there.
+pub returns-in-Ok-clause-failed : goal.returns-in-Ok-clause-failed
+returns-in-Ok-clause-failed g c =
+    let did = c.in-Ok.ensures in
+    let A = g.A.SectorDevice in
+    let B = g.B.SectorDevice in
+    IfErr-weaker c.tell_salvage.result _ _
+    (λ e only. record {
+      made = record {
+        old = did.old_stops;
+        goes = becomes A B c.args.new.now c.salvage.new.new did.new_passes;
+        stops = did.new_stops;
+        begins = did.new_begins;
+        looks = did.new_reads;
+      };
+      whole = λ keeps keeps' untold. left_after A B c.args.new.now c.salvage.new.new _ did.new_passes.sectors (did.after keeps keeps');
+    })
+    c.tell_salvage.ensures.only
+
+pub returns-in-Err-clause-failed : goal.returns-in-Err-clause-failed
+returns-in-Err-clause-failed g c =
+    let did = c.in-Err.ensures in
+    record {
+      made = record {
+        old = did.old_stops;
+        goes = becomes g.A.SectorDevice g.B.SectorDevice c.args.new.now c.salvage.new.new did.new_passes;
+        stops = did.new_stops;
+        begins = did.new_begins;
+        looks = did.new_reads;
+      };
+      whole = λ keeps keeps' untold. absurd (never_untold c.in-Err.fault (⊎_elim (λ is. inl (sym c.from.ensures ∙ is)) (λ is. inr (sym c.from.ensures ∙ is)) untold));
+    }
+
+pub returns-in-Err-clause-unstopped : goal.returns-in-Err-clause-unstopped
+returns-in-Err-clause-unstopped g c = λ same. never_stopped c.in-Err.fault (sym c.from.ensures ∙ same)

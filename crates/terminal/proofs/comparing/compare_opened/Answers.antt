@@ -1,0 +1,30 @@
+use Rattle.std.proofs.Common.{inl, inr, refl}
+use Rattle.std.proofs.lemmas.Result.{on_ok_weaker}
+use Rattle.terminal.proofs.Ended.{just_read, unopened}
+use Rattle.terminal.proofs.comparing.compare_opened.Goals as goal
+
+pub returns-in-Ok-clause-compared : goal.returns-in-Ok-clause-compared
+returns-in-Ok-clause-compared g c =
+    let done = c.compare_over-outcome in
+    on_ok_weaker done.result
+    (λ compares. (done.new.old, done.new.new, refl, c.args.before, refl, c.in-Ok.after, record { file = c.in-Ok.ensures.file; sectors = c.in-Ok.ensures.sectors }, compares))
+    done.ensures.compares
+
+pub returns-in-Ok-clause-failed : goal.returns-in-Ok-clause-failed
+returns-in-Ok-clause-failed g c =
+    let done = c.compare_over-outcome in
+    just_read done.result (inr (
+      c.args.before,
+      refl,
+      c.in-Ok.after,
+      record { file = c.in-Ok.ensures.file; sectors = c.in-Ok.ensures.sectors },
+      done.new.old,
+      done.new.new,
+      refl,
+      done.ensures.old_kept,
+      done.ensures.new_kept,
+    ))
+
+pub returns-in-Err-clause-failed : goal.returns-in-Err-clause-failed
+returns-in-Err-clause-failed g c =
+    inl (inr (c.args.before, refl, c.args.before, refl, (unopened c.in-Err.fault c.from.result c.in-Err.ensures.refusal c.from.ensures, refl)))
