@@ -1,5 +1,5 @@
 // The files of this system, opened for reading alone.
-ghost use Rattle.std.specs.Prelude.{◌≡◌, ◌≢◌, IfErr};
+ghost use Rattle.std.specs.Prelude.{◌≡◌, ◌≢◌, false, IsTrue, IfErr};
 
 use crate::whole_copies::{copied, read_whole_image};
 use sector_disk::{FileFault, HostFault, HostFile, HostFiles};
@@ -102,7 +102,9 @@ pub struct ReadingFiles<'a, R> {
 
 impl<'a, R: Files<File = File>> ReadingFiles<'a, R> {
     /// The files that this runtime reaches. One that another program has open for writing is in use.
-    pub fn new(rt: &'a R) -> ReadingFiles<'a, R> {
+    pub fn new(rt: &'a R) -> ReadingFiles<'a, R>
+        ensures { result.takes_copies ≡ false }
+    {
         ReadingFiles {
             rt,
             takes_copies: false,
@@ -112,7 +114,9 @@ impl<'a, R: Files<File = File>> ReadingFiles<'a, R> {
     /// Those too, but of an image of layout 3 that another program has open for writing a copy in memory is given: the
     /// blocks of the last save that had returned before, or of a later one. That program waits for nothing.
     /// Rule: IMAGE, Layout 3, A look while it runs.
-    pub fn with_copies(rt: &'a R) -> ReadingFiles<'a, R> {
+    pub fn with_copies(rt: &'a R) -> ReadingFiles<'a, R>
+        ensures { IsTrue result.takes_copies }
+    {
         ReadingFiles {
             rt,
             takes_copies: true,
