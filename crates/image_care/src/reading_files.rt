@@ -68,10 +68,10 @@ impl HostFile for ReadOnlyFile {
 
     ghost widens = { λ f s t c le since. since };
 
-    fn len(&self) -> Result<u64, HostFault> {
+    fn len(&self) -> u64 {
         match self {
-            ReadOnlyFile::Live { len, .. } => Ok(*len),
-            ReadOnlyFile::Still(bytes) => Ok(bytes.len() as u64),
+            ReadOnlyFile::Live { len, .. } => *len,
+            ReadOnlyFile::Still(bytes) => bytes.len() as u64,
         }
     }
 

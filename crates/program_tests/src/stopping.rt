@@ -219,10 +219,10 @@ impl HostFile for Opened<'_> {
 
     ghost widens = { λ f s t c le since. since };
 
-    fn len(&self) -> Result<u64, HostFault> {
+    fn len(&self) -> u64 {
         match self.disk.bytes.try_borrow() {
-            Ok(bytes) => Ok(bytes.content.len() as u64),
-            Err(_) => Err(HostFault::Failed),
+            Ok(bytes) => bytes.content.len() as u64,
+            Err(_) => 0,
         }
     }
 

@@ -20,3 +20,9 @@ pub record KeepsGoing {H : Type 0} (G : Ghosts H) (old new : H) : Type 0 where
   pub units : G.keeps_sectors new ≡ G.keeps_sectors old
   pub settle : G.syncs_settle new ≡ G.syncs_settle old
   pub time : Elapses G.time G.left_since old new
+
+-- The same however its calls ended: after a sync that failed another one may settle nothing.
+pub record WentOn {H : Type 0} (G : Ghosts H) (old new : H) : Type 0 where
+  pub model : G.keeps_model new ≡ G.keeps_model old
+  pub units : G.keeps_sectors new ≡ G.keeps_sectors old
+  pub time : Elapses G.time G.left_since old new

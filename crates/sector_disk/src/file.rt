@@ -52,6 +52,20 @@ impl<H: HostFile> SectorFile<H> {
             counts: Counts::default(),
         }
     }
+
+    /// A file that was made and not finished, as a device without sectors. It isn't written or synced.
+    pub(crate) fn unfinished(file: H) -> SectorFile<H>
+        ensures file { file_of result ≡ file }
+        ensures sectors { sectors_of result ≡ 0 }
+    {
+        SectorFile {
+            file,
+            sectors: 0,
+            sync_failed: true,
+            failures: 0,
+            counts: Counts::default(),
+        }
+    }
 }
 
 impl<H: HostFile> SectorDevice for SectorFile<H> {

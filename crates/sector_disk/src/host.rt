@@ -48,9 +48,9 @@ pub trait HostFile {
     /// What a stop at some moment from that time on might have left, by sectors of 512 bytes.
     ghost left_since: { Self → ℕ → Image → Type 0 };
 
-    /// How many bytes it had when it was opened. An error where the system doesn't tell.
-    fn len(&self) -> Result<u64, HostFault>
-        ensures { IsTrue (keeps_model self.now) → IfOk result (λ n. n ≡ extent self.now) };
+    /// How many bytes it had when it was opened: who opens it asks the system.
+    fn len(&self) -> u64
+        ensures { IsTrue (keeps_model self.now) → result ≡ extent self.now };
 
     /// Reads the first bytes from place `position` on, counted in bytes from 0, and answers how many: at most as many
     /// as there is room for. After an error the file is as it was, and what is in the buffer isn't said. `Interrupted`
@@ -170,8 +170,8 @@ impl HostFile for StdFile {
 
     ghost widens = { λ f s t c le since. since };
 
-    fn len(&self) -> Result<u64, HostFault> {
-        Ok(self.len)
+    fn len(&self) -> u64 {
+        self.len
     }
 
     fn read_at(&mut self, position: u64, buffer: &mut [u8]) -> Result<usize, HostFault> {

@@ -1,7 +1,7 @@
 // The files of a system, opened and made as devices.
-ghost use Rattle.std.specs.Prelude.{◌≡◌, ◌≢◌, ◌⊎◌, ℕ, ◌<◌, ◌*◌, ◌^◌, List, false, IsTrue, IfOk, IfErr, OnOk};
+ghost use Rattle.std.specs.Prelude.{◌≡◌, ◌≢◌, ◌⊎◌, ℕ, ◌<◌, ◌*◌, ◌^◌, List, false, IsTrue, IfOk, IfErr, IfSome, MatchOption, OnOk};
 ghost use Rattle.sector_disk.specs.Moments.{Elapses};
-ghost use Rattle.sector_disk.specs.Opening.{AreZeros, KeepsGoing, sectors_in};
+ghost use Rattle.sector_disk.specs.Opening.{AreZeros, KeepsGoing, WentOn, sectors_in};
 ghost use Rattle.sector_disk.specs.SectorFile.{file_of, has_failed_sync, sectors_of};
 
 use crate::file::SECTOR;
@@ -50,9 +50,9 @@ pub trait HostFiles<H: HostFile> {
 }
 
 /// Opens a file that is there. One whose length isn't a multiple of 512 bytes, or is 2^32 sectors or more, has no
-/// sectors. `Cannot` and `InUse` as the system says; `Cannot` where the length can't be told.
+/// sectors. `Cannot` and `InUse` as the system says, and then it gave no file.
 /// Rule: IMAGE, The file.
-pub fn open_disk<H: HostFile + Drop, O: HostFiles<H>>(
+pub fn open_disk<H: HostFile, O: HostFiles<H>>(
     files: &O,
     path: &str,
 ) -> Result<SectorFile<H>, FileFault>
@@ -66,21 +66,20 @@ pub fn open_disk<H: HostFile + Drop, O: HostFiles<H>>(
     ensures sync { IfOk result (λ d. has_failed_sync d ≡ false) }
 {
     let file = files.open(path)?;
-    match file.len() {
-        Ok(len) => Ok(SectorFile::new(file, sectors_in(len))),
-        Err(_) => Err(FileFault::Cannot),
-    }
+    let sectors = sectors_in(file.len());
+    Ok(SectorFile::new(file, sectors))
 }
 
 /// Makes a file of this many sectors of zeros. `Exists` where something has that name, `InUse` where the file isn't to
 /// be had alone, and `Cannot` where it can't be made, filled or synced. Its bytes and its name are on the disk when it
-/// answers Ok, so there is room for each later write. After `Cannot` a file may stay.
+/// answers Ok, so there is room for each later write. After `Cannot` a file may stay: where the system made one, it is
+/// handed back, as a device without sectors.
 /// Rule: IMAGE, The file; DECISIONS, The device and the image.
-pub fn create_disk<H: HostFile + Drop, O: HostFiles<H>>(
+pub fn create_disk<H: HostFile, O: HostFiles<H>>(
     files: &O,
     path: &str,
     sectors: u32,
-) -> Result<SectorFile<H>, FileFault>
+) -> Result<SectorFile<H>, (FileFault, Option<SectorFile<H>>)>
     ensures made { IfOk result (λ d. (file : H) × O.makes files.now path.now file
         × KeepsGoing H.HostFile file (file_of d)) }
     ensures zeros { IfOk result (λ d. IsTrue (H.keeps_model (file_of d)) → AreZeros sectors (H.bytes (file_of d))) }
@@ -89,15 +88,44 @@ pub fn create_disk<H: HostFile + Drop, O: HostFiles<H>>(
         ≡ record { reads = 0; writes = 0; syncs = 0 }) }
     ensures failures { IfOk result (λ d. ⟦<SectorFile<H> as SectorDevice>⟧.failures d ≡ 0) }
     ensures sync { IfOk result (λ d. has_failed_sync d ≡ false) }
+    // A file that was made and not finished is what the system made, later. It has no sectors, so it isn't written.
+    ensures unfinished { IfErr result (λ e. IfSome e.1 (λ d. (file : H) × O.makes files.now path.now file
+        × WentOn H.HostFile file (file_of d))) }
+    ensures empty { IfErr result (λ e. IfSome e.1 (λ d. sectors_of d ≡ 0)) }
+    ensures refused { IfErr result (λ e. IfSome e.1 (λ _. e.0 ≡ FileFault.Cannot)) }
 {
-    let mut file = files.make(path)?;
-    match fill_and_sync(&mut file, sectors) {
-        Ok(()) => {}
-        Err(_) => return Err(FileFault::Cannot),
+    match files.make(path) {
+        Ok(file) => finish(files, path, sectors, file),
+        Err(fault) => Err((fault, None)),
     }
-    match files.keep_name(path) {
-        Ok(()) => Ok(SectorFile::new(file, sectors)),
-        Err(_) => Err(FileFault::Cannot),
+}
+
+// Fills a file that was made with zeros, and makes them and its name stay.
+fn finish<H: HostFile, O: HostFiles<H>>(
+    files: &O,
+    path: &str,
+    sectors: u32,
+    mut file: H,
+) -> Result<SectorFile<H>, (FileFault, Option<SectorFile<H>>)>
+    requires { IsTrue (H.syncs_settle file) }
+    ensures goes { IfOk result (λ d. KeepsGoing H.HostFile file (file_of d)) }
+    ensures zeros { IfOk result (λ d. IsTrue (H.keeps_model (file_of d)) → AreZeros sectors (H.bytes (file_of d))) }
+    ensures sectors { IfOk result (λ d. sectors_of d ≡ sectors) }
+    ensures counts { IfOk result (λ d. ⟦<SectorFile<H> as SectorDevice>⟧.counts d
+        ≡ record { reads = 0; writes = 0; syncs = 0 }) }
+    ensures failures { IfOk result (λ d. ⟦<SectorFile<H> as SectorDevice>⟧.failures d ≡ 0) }
+    ensures sync { IfOk result (λ d. has_failed_sync d ≡ false) }
+    // It is handed back where it wasn't finished.
+    ensures unfinished { IfErr result (λ e. MatchOption e.1 ⊥ (λ d. WentOn H.HostFile file (file_of d))) }
+    ensures empty { IfErr result (λ e. IfSome e.1 (λ d. sectors_of d ≡ 0)) }
+    ensures cannot { IfErr result (λ e. e.0 ≡ FileFault.Cannot) }
+{
+    match fill_and_sync(&mut file, sectors) {
+        Ok(()) => match files.keep_name(path) {
+            Ok(()) => Ok(SectorFile::new(file, sectors)),
+            Err(_) => Err((FileFault::Cannot, Some(SectorFile::unfinished(file)))),
+        },
+        Err(_) => Err((FileFault::Cannot, Some(SectorFile::unfinished(file)))),
     }
 }
 
@@ -116,6 +144,7 @@ fn fill_and_sync<H: HostFile>(file: &mut H, sectors: u32) -> Result<(), DeviceFa
     ensures zeros { IsTrue (H.keeps_model file.old) → IsTrue (H.syncs_settle file.old)
         → OnOk result (AreZeros sectors (H.bytes file.new)) }
     ensures goes { OnOk result (KeepsGoing H.HostFile file.old file.new) }
+    ensures went { WentOn H.HostFile file.old file.new }
 {
     fill(file, SECTOR * sectors as u64)?;
     match file.sync() {

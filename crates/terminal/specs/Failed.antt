@@ -184,11 +184,16 @@ module _ {D : Type 0} (G : Ghosts D) where
     pub begins : BeginsAtMost G device after (4 * n + 5) 4
     pub reads : ReadsAtMost G device after 1
 
-  -- The file wasn't made, and nothing is left, or the image on it wasn't made by this layout.
-  abbrev pub NewFailed : {E : Type 0} (made : ℕ → D → Type 0) → ℕ → Layout → Failure → Left D E → Type 0
-  NewFailed made n Two failure left = ((left ≡ files.Nothing) × IsUnmade failure)
+  -- The file wasn't made, and nothing is left; or it was made and not finished, and no call of it was made after that.
+  abbrev pub NotFinished : {E : Type 0} (begun : D → Type 0) → Failure → Left D E → Type 0
+  NotFinished begun failure left = ((left ≡ files.Nothing) × IsUnmade failure)
+      ⊎ ((failure ≡ CannotOpen) × (device : D) × begun device × (left ≡ files.Made device))
+
+  -- The file wasn't made, or not finished, or the image on it wasn't made by this layout.
+  abbrev pub NewFailed : {E : Type 0} (made : ℕ → D → Type 0) (begun : D → Type 0) → ℕ → Layout → Failure → Left D E → Type 0
+  NewFailed made begun n Two failure left = NotFinished begun failure left
       ⊎ DoneOn G files.Made (made (older_layout.sectors_for n)) (MakingFails n failure) left
-  NewFailed made n Three failure left = ((left ≡ files.Nothing) × IsUnmade failure)
+  NewFailed made begun n Three failure left = NotFinished begun failure left
       ⊎ DoneOn G files.Made (made (newer_layout.sectors_for n)) (NewerMakingFails n failure) left
 
   -- `upgrade` to layout 2: a stop at any moment of it leaves of the old image one that means the same, and of the new one no
@@ -200,12 +205,18 @@ module _ {D : Type 0} (G : Ghosts D) where
     pub stops : IsTrue (G.keeps_sectors source) → IsTrue (G.keeps_sectors device) → StopsLeave G device after
         (older_making.MakingLeaves (older.blocks_on G source) (older.meant_by G source) (G.disk device))
 
-  -- The old file wasn't opened; or the new one wasn't made, and no call of the old one was made; or the image was upgraded in part.
-  abbrev pub UpgradeFailed : {E : Type 0} (opened : D → Type 0) (made : ℕ → D → Type 0) → Layout → Failure → Left D E → Type 0
-  UpgradeFailed opened made Two failure left = FailsOn files.Opened opened IsUntouched failure left
+  -- The old file wasn't opened; or the new one wasn't made, or not finished, and no call of the old one was made.
+  abbrev pub NotUpgraded : {E : Type 0} (opened begun : D → Type 0) → Failure → Left D E → Type 0
+  NotUpgraded opened begun failure left = FailsOn files.Opened opened IsUntouched failure left
+      ⊎ ((failure ≡ CannotOpen) × (source : D) × opened source × (device : D) × begun device × (left ≡ files.Upgraded source device))
+
+  -- The same, or the image was upgraded in part.
+  abbrev pub UpgradeFailed : {E : Type 0} (opened : D → Type 0) (made : ℕ → D → Type 0) (begun : D → Type 0) → Layout → Failure
+      → Left D E → Type 0
+  UpgradeFailed opened made begun Two failure left = NotUpgraded opened begun failure left
       ⊎ ((source : D) × opened source × (device : D) × made (G.sector_count source) device × (source' : D) × (after : D)
       × (left ≡ files.Upgraded source' after) × UpgradeFails source source' device after)
-  UpgradeFailed opened made Three failure left = FailsOn files.Opened opened IsUntouched failure left
+  UpgradeFailed opened made begun Three failure left = NotUpgraded opened begun failure left
       ⊎ ((source : D) × opened source × (device : D) × made (newer_layout.sectors_for (blocks_on G source)) device × (source' : D)
       × (after : D) × (left ≡ files.Upgraded source' after) × NewerUpgradeFails G G source source' device after)
 
@@ -273,17 +284,28 @@ module _ {A B : Type 0} (G : Ghosts A) (H : Ghosts B) where
     pub whole : IsTrue (G.keeps_model source) → IsTrue (suits H device) → (failure ≡ NoMemory) ⊎ (failure ≡ CannotWrite)
         → LeavesBlocks H after (salvaged_blocks (H.sector_count device) (G.disk source).content)
 
+  -- The new file was made and not finished, and no call of the old one was made; or P says what was made.
+  abbrev pub MakesSome : (begun : B → Type 0) (P : A → A → B → Type 0) → Failure → (source source' : A) (after : B) → Type 0
+  MakesSome begun P failure source source' after =
+      ((failure ≡ CannotOpen) × (source' ≡ source) × begun after) ⊎ P source source' after
+
+  -- A copy of as many blocks as were asked for was made in part.
+  abbrev pub MakesCopyInPart : (made : ℕ → B → Type 0) (begun : B → Type 0) (asked : Option ℕ) → Failure → (source source' : A) (after : B) → Type 0
+  MakesCopyInPart made begun asked failure source source' after =
+      MakesSome begun (MadeOf G H made (sectors_for_copy (G.sector_count source) asked) CopyFails) failure source source' after
+
+  -- A salvage was.
+  abbrev pub MakesSalvageInPart : (made : ℕ → B → Type 0) (begun : B → Type 0) (asked : Option ℕ) → Failure → (source source' : A) (after : B) → Type 0
+  MakesSalvageInPart made begun asked failure source source' after =
+      MakesSome begun (MadeOf G H made (sectors_for_salvage (G.sector_count source) asked) (SalvageFails failure)) failure source source' after
+
   -- The old file wasn't opened; or the new one wasn't made, and no call of the old one was made; or P says what was made.
   abbrev pub FailsToMake : (P : A → A → B → Type 0) (looked : A → Type 0) → Failure → Left B A → Type 0
   FailsToMake P looked failure left = FailsOn G files.Looked looked IsUntouched failure left
       ⊎ ((source : A) × looked source × (source' : A) × (after : B) × (left ≡ files.Copied source' after) × P source source' after)
 
-  abbrev pub CopyFailed : (looked : A → Type 0) (made : ℕ → B → Type 0) (asked : Option ℕ) → Failure → Left B A → Type 0
-  CopyFailed looked made asked failure left = FailsToMake
-      (λ source source' after. MadeOf G H made (sectors_for_copy (G.sector_count source) asked) CopyFails source source' after)
-      looked failure left
+  abbrev pub CopyFailed : (looked : A → Type 0) (made : ℕ → B → Type 0) (begun : B → Type 0) (asked : Option ℕ) → Failure → Left B A → Type 0
+  CopyFailed looked made begun asked failure left = FailsToMake (MakesCopyInPart made begun asked failure) looked failure left
 
-  abbrev pub SalvageFailed : (looked : A → Type 0) (made : ℕ → B → Type 0) (asked : Option ℕ) → Failure → Left B A → Type 0
-  SalvageFailed looked made asked failure left = FailsToMake
-      (λ source source' after. MadeOf G H made (sectors_for_salvage (G.sector_count source) asked) (SalvageFails failure) source source' after)
-      looked failure left
+  abbrev pub SalvageFailed : (looked : A → Type 0) (made : ℕ → B → Type 0) (begun : B → Type 0) (asked : Option ℕ) → Failure → Left B A → Type 0
+  SalvageFailed looked made begun asked failure left = FailsToMake (MakesSalvageInPart made begun asked failure) looked failure left

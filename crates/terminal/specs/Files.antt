@@ -4,7 +4,7 @@ use Rattle.sector_disk.specs.declared.device.SectorDevice as device
 use Rattle.journal.specs.declared.store.Store.{Store}
 use Rattle.journal.specs.Store.{StandsFor, blocks_of, closed_of, device_of, pending_count}
 use Rattle.journal.specs.Suits.{suits}
-use Rattle.sector_disk.specs.Opening.{AreZeros, KeepsGoing, sectors_in}
+use Rattle.sector_disk.specs.Opening.{AreZeros, KeepsGoing, WentOn, sectors_in}
 use Rattle.sector_disk.specs.SectorFile.{file_of, sectors_of}
 use Rattle.sector_disk.specs.declared.file.SectorFile.{SectorFile}
 use Rattle.sector_disk.specs.declared.host.HostFile.{Ghosts}
@@ -23,6 +23,13 @@ module _ {H : Type 0} (G : Ghosts H) where
     pub goes : KeepsGoing G file (file_of device)
     pub sectors_are : sectors_of device ≡ sectors
     pub zeros : IsTrue (G.keeps_model (file_of device)) → AreZeros sectors (G.bytes (file_of device))
+
+  -- The device is a file that was made and not finished. It has no sectors.
+  pub record IsUnfinished (makes : H → Type 0) (device : SectorFile H G) : Type 0 where
+    pub file : H
+    pub made : makes file
+    pub goes : WentOn G file (file_of device)
+    pub empty : sectors_of device ≡ 0
 
 -- The store was opened on the device: it has the blocks that the image there meant, nothing is pending, and it isn't closed.
 pub record OpensAs {D : Type 0} (G : device.Ghosts D) (opened : D) (store : Store D G) : Type 0 where

@@ -50,36 +50,37 @@ module _ {D E : Type 0} (G : Ghosts D) (L : Ghosts E) where
   IsDone opened made looked alone (Salvage old new asked) left left' written written' ends =
       SalvageDone L G (alone old.now) (made new.now) asked written written' ends
 
-  -- The order failed, and this is left of them.
-  abbrev pub IsFailed : (opened : List ℕ → D → Type 0) (made : List ℕ → ℕ → D → Type 0) (looked alone : List ℕ → E → Type 0) → Order
+  -- The order failed, and this is left of them. `begun` says which files were made and not finished.
+  abbrev pub IsFailed : (opened : List ℕ → D → Type 0) (made : List ℕ → ℕ → D → Type 0) (begun : List ℕ → D → Type 0)
+      (looked alone : List ℕ → E → Type 0) → Order
       → (left left' written written' : Option (List ℕ)) → Failure → Left D E → Type 0
-  IsFailed opened made looked alone Memory left left' written written' failure ends = ends ≡ Nothing
-  IsFailed opened made looked alone (New path n layout) left left' written written' failure ends =
-      NewFailed G (made path.now) n layout failure ends
-  IsFailed opened made looked alone (Run path n script) left left' written written' failure ends =
+  IsFailed opened made begun looked alone Memory left left' written written' failure ends = ends ≡ Nothing
+  IsFailed opened made begun looked alone (New path n layout) left left' written written' failure ends =
+      NewFailed G (made path.now) (begun path.now) n layout failure ends
+  IsFailed opened made begun looked alone (Run path n script) left left' written written' failure ends =
       ScriptFailed G (opened path.now) n script left left' written written' failure ends
-  IsFailed opened made looked alone (ListBlock path b) left left' written written' failure ends =
+  IsFailed opened made begun looked alone (ListBlock path b) left left' written written' failure ends =
       ListFailed G L (opened path.now) (looked path.now) b failure ends
-  IsFailed opened made looked alone (Put path b text) left left' written written' failure ends =
+  IsFailed opened made begun looked alone (Put path b text) left left' written written' failure ends =
       FailsOn G Opened (opened path.now) (FailsAfter G (PutFails G b)) failure ends
-  IsFailed opened made looked alone (Export path first last form) left left' written written' failure ends =
+  IsFailed opened made begun looked alone (Export path first last form) left left' written written' failure ends =
       ExportFailed G L (opened path.now) (looked path.now) first last failure ends
-  IsFailed opened made looked alone (Import path first sources form) left left' written written' failure ends =
+  IsFailed opened made begun looked alone (Import path first sources form) left left' written written' failure ends =
       FailsOn G Opened (opened path.now) (FailsAfter G (ImportFails G form first (length sources.items))) failure ends
-  IsFailed opened made looked alone (CheckImport path first sources form) left left' written written' failure ends =
+  IsFailed opened made begun looked alone (CheckImport path first sources form) left left' written written' failure ends =
       FailsOn G Opened (opened path.now) IsUntouched failure ends
-  IsFailed opened made looked alone (Check path) left left' written written' failure ends =
+  IsFailed opened made begun looked alone (Check path) left left' written written' failure ends =
       FailsOn L Looked (looked path.now) (ReadingFails L) failure ends
-  IsFailed opened made looked alone (Digests path) left left' written written' failure ends =
+  IsFailed opened made begun looked alone (Digests path) left left' written written' failure ends =
       FailsOn L Looked (looked path.now) (ReadingFails L) failure ends
-  IsFailed opened made looked alone (Diff old new) left left' written written' failure ends =
+  IsFailed opened made begun looked alone (Diff old new) left left' written written' failure ends =
       DiffFailed L (looked old.now) (looked new.now) failure ends
-  IsFailed opened made looked alone (Upgrade old new layout) left left' written written' failure ends =
-      UpgradeFailed G (opened old.now) (made new.now) layout failure ends
-  IsFailed opened made looked alone (Copy old new asked) left left' written written' failure ends =
-      CopyFailed L G (looked old.now) (made new.now) asked failure ends
-  IsFailed opened made looked alone (Salvage old new asked) left left' written written' failure ends =
-      SalvageFailed L G (alone old.now) (made new.now) asked failure ends
+  IsFailed opened made begun looked alone (Upgrade old new layout) left left' written written' failure ends =
+      UpgradeFailed G (opened old.now) (made new.now) (begun new.now) layout failure ends
+  IsFailed opened made begun looked alone (Copy old new asked) left left' written written' failure ends =
+      CopyFailed L G (looked old.now) (made new.now) (begun new.now) asked failure ends
+  IsFailed opened made begun looked alone (Salvage old new asked) left left' written written' failure ends =
+      SalvageFailed L G (alone old.now) (made new.now) (begun new.now) asked failure ends
 
   -- What the words order was done.
   abbrev pub OrderIsDone : (words : List Text) (opened : List ℕ → D → Type 0) (made : List ℕ → ℕ → D → Type 0)
@@ -89,10 +90,10 @@ module _ {D E : Type 0} (G : Ghosts D) (L : Ghosts E) where
 
   -- What the words order failed, with this exit status.
   abbrev pub OrderIsFailed : (words : List Text) (opened : List ℕ → D → Type 0) (made : List ℕ → ℕ → D → Type 0)
-      (looked alone : List ℕ → E → Type 0) → (left left' written written' : Option (List ℕ)) → (status : ℕ) → Left D E → Type 0
-  OrderIsFailed words opened made looked alone left left' written written' status ends =
+      (begun : List ℕ → D → Type 0) (looked alone : List ℕ → E → Type 0) → (left left' written written' : Option (List ℕ)) → (status : ℕ) → Left D E → Type 0
+  OrderIsFailed words opened made begun looked alone left left' written written' status ends =
       (order : Order) × IsOrderOf words order × (failure : Failure) × (status ≡ status_of failure)
-      × IsFailed opened made looked alone order left left' written written' failure ends
+      × IsFailed opened made begun looked alone order left left' written written' failure ends
 
 module _ {D E : Type 0} (G : Ghosts D) where
   -- A session that the order begins was stopped, on such a device, and this is left of it. No other order can be stopped.

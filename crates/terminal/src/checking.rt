@@ -31,7 +31,7 @@ use std::io::Write;
 
 /// Prints what an image holds. Its file is opened for nothing but that, and is given back. Its failures: `CannotOpen`
 /// or `InUse` where the file can't be opened for reading, then those of `check_over`.
-pub fn check_image<H: HostFile + Drop, O: HostFiles<H>, W: Write, D>(
+pub fn check_image<H: HostFile, O: HostFiles<H>, W: Write, D>(
     alloc: Global,
     files: &O,
     path: &str,

@@ -23,7 +23,7 @@ use std::io::Write;
 
 /// Prints what differs between the blocks of two images. Their files are opened for nothing but that, and are given
 /// back. Its failures: `CannotOpen` or `InUse` where a file can't be opened for reading, then those of `compare_over`.
-pub fn compare_images<H: HostFile + Drop, O: HostFiles<H>, W: Write, D>(
+pub fn compare_images<H: HostFile, O: HostFiles<H>, W: Write, D>(
     alloc: Global,
     files: &O,
     old: &str,
@@ -44,7 +44,7 @@ pub fn compare_images<H: HostFile + Drop, O: HostFiles<H>, W: Write, D>(
 }
 
 /// Prints what differs from the blocks of an image on a device to those of another image.
-fn compare_opened<H: HostFile + Drop, O: HostFiles<H>, W: Write, D>(
+fn compare_opened<H: HostFile, O: HostFiles<H>, W: Write, D>(
     alloc: Global,
     mut before: SectorFile<H>,
     files: &O,

@@ -9,11 +9,11 @@ ghost use Rattle.stores.specs.Layouts.{sectors_for};
 ghost use Rattle.image_care.specs.Copied.{copied_blocks, copy_refusal};
 ghost use Rattle.image_care.specs.Made.{MakingLeaves};
 ghost use Rattle.terminal.specs.Care.{CopyDone};
-ghost use Rattle.terminal.specs.Copying.{Copies, MadeOf, MakesCopy, copied_count, sectors_for_copy};
+ghost use Rattle.terminal.specs.Copying.{Copies, MakesCopy, copied_count, sectors_for_copy};
 ghost use Rattle.terminal.specs.Done.{EachLeft, IsGiven};
-ghost use Rattle.terminal.specs.Failed.{CopyFailed, CopyFails};
+ghost use Rattle.terminal.specs.Failed.{CopyFailed, CopyFails, MakesCopyInPart};
 ghost use Rattle.terminal.specs.Failures.{of_upgrade};
-ghost use Rattle.terminal.specs.Files.{IsMade, IsOpened};
+ghost use Rattle.terminal.specs.Files.{IsMade, IsOpened, IsUnfinished};
 
 use super::failure::Failure;
 use super::left::Left;
@@ -26,7 +26,7 @@ use stores::{Layout, sectors_of, size_of};
 /// of as many as the old one has. Nothing is made where the old one has the size of no image, or where it has more
 /// blocks than are asked for (`BadSize`), or where it can't be opened (`CannotOpen`, `InUse`); and whatever has the new
 /// name already stays as it is (`Exists`). Its other failures are those of `copy_over`.
-pub fn copy_image<K: HostFile + Drop, P: HostFiles<K>, H: HostFile + Drop, O: HostFiles<H>>(
+pub fn copy_image<K: HostFile, P: HostFiles<K>, H: HostFile, O: HostFiles<H>>(
     looking: &P,
     files: &O,
     old: &str,
@@ -40,7 +40,8 @@ pub fn copy_image<K: HostFile + Drop, P: HostFiles<K>, H: HostFile + Drop, O: Ho
     ensures well { OnOk result.1 (EachLeft (λ device. ⟦<SectorFile<H> as SectorDevice>⟧.failures device ≡ 0)
         (λ device. ⟦<SectorFile<K> as SectorDevice>⟧.failures device ≡ 0) result.0) }
     ensures failed { IfErr result.1 (λ failure. CopyFailed ⟦<SectorFile<K> as SectorDevice>⟧ ⟦<SectorFile<H> as SectorDevice>⟧
-        (IsOpened K.HostFile (P.opens looking.now old.now)) (IsMade H.HostFile (O.makes files.now new.now)) asked failure result.0) }
+        (IsOpened K.HostFile (P.opens looking.now old.now)) (IsMade H.HostFile (O.makes files.now new.now))
+        (IsUnfinished H.HostFile (O.makes files.now new.now)) asked failure result.0) }
     // No session has begun that could stop.
     ensures unstopped { IfErr result.1 (λ e. e ≢ Failure.Stopped) }
 {
@@ -64,7 +65,7 @@ pub(super) fn copied<A, B>(source: A, target: Option<B>) -> Left<B, A>
 }
 
 /// Makes a copy of the image on a device, in a new file, and gives that one, if it was made.
-fn copy_into<A: SectorDevice, H: HostFile + Drop, O: HostFiles<H>>(
+fn copy_into<A: SectorDevice, H: HostFile, O: HostFiles<H>>(
     source: &mut A,
     files: &O,
     new: &str,
@@ -76,10 +77,10 @@ fn copy_into<A: SectorDevice, H: HostFile + Drop, O: HostFiles<H>>(
     ensures kept { OnlyRead A.SectorDevice source.old source.new }
     ensures old_well { OnOk result.1 (A.failures source.new ≡ A.failures source.old) }
     ensures new_well { OnOk result.1 (IfSome result.0 (λ target. ⟦<SectorFile<H> as SectorDevice>⟧.failures target ≡ 0)) }
-    // Where it failed, an image may be made in part, or no call of the old one was made.
-    ensures failed { OnErr result.1 (IfSome result.0 (λ target. MadeOf A.SectorDevice ⟦<SectorFile<H> as SectorDevice>⟧
-        (IsMade H.HostFile (O.makes files.now new.now)) (sectors_for_copy (A.sector_count source.old) asked)
-        (CopyFails A.SectorDevice ⟦<SectorFile<H> as SectorDevice>⟧) source.old source.new target)) }
+    // Where it failed, an image may be made in part, or its file, or no call of the old one was made.
+    ensures failed { IfErr result.1 (λ failure. IfSome result.0 (λ target. MakesCopyInPart A.SectorDevice ⟦<SectorFile<H> as SectorDevice>⟧
+        (IsMade H.HostFile (O.makes files.now new.now)) (IsUnfinished H.HostFile (O.makes files.now new.now)) asked failure
+        source.old source.new target)) }
     ensures unmade { result.0 ≡ None → source.new ≡ source.old }
     ensures unstopped { IfErr result.1 (λ e. e ≢ Failure.Stopped) }
 {
@@ -91,21 +92,26 @@ fn copy_into<A: SectorDevice, H: HostFile + Drop, O: HostFiles<H>>(
             let outcome = copy_over(source, &mut target);
             (Some(target), outcome)
         }
-        Err(failure) => (None, Err(failure)),
+        Err((failure, unfinished)) => (unfinished, Err(failure)),
     }
 }
 
-/// Makes a file of so many sectors.
-pub(super) fn make_file<H: HostFile + Drop, O: HostFiles<H>>(
+/// Makes a file of so many sectors. Where it was made and not finished, it is handed back.
+pub(super) fn make_file<H: HostFile, O: HostFiles<H>>(
     files: &O,
     path: &str,
     sectors: u32,
-) -> Result<SectorFile<H>, Failure>
+) -> Result<SectorFile<H>, (Failure, Option<SectorFile<H>>)>
     ensures made { IfOk result (λ disk. IsMade H.HostFile (O.makes files.now path.now) sectors disk) }
     ensures well { IfOk result (λ disk. ⟦<SectorFile<H> as SectorDevice>⟧.failures disk ≡ 0) }
-    ensures unstopped { IfErr result (λ e. e ≢ Failure.Stopped) }
+    ensures unfinished { IfErr result (λ e. IfSome e.1 (IsUnfinished H.HostFile (O.makes files.now path.now))) }
+    ensures refused { IfErr result (λ e. IfSome e.1 (λ _. e.0 ≡ Failure.CannotOpen)) }
+    ensures unstopped { IfErr result (λ e. e.0 ≢ Failure.Stopped) }
 {
-    Ok(create_disk(files, path, sectors)?)
+    match create_disk(files, path, sectors) {
+        Ok(disk) => Ok(disk),
+        Err((fault, unfinished)) => Err((Failure::from(fault), unfinished)),
+    }
 }
 
 /// How many sectors the copy of an image on so many has, where so many blocks are asked for.

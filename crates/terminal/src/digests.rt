@@ -25,7 +25,7 @@ use std::io::Write;
 /// Prints a line for each block of an image: its number and the SHA-256 of its bytes. Its file is opened for nothing
 /// but that, and is given back. Its failures: `CannotOpen` or `InUse` where the file can't be opened for reading, then
 /// those of `digest_over`.
-pub fn digest_image<H: HostFile + Drop, O: HostFiles<H>, W: Write, D>(
+pub fn digest_image<H: HostFile, O: HostFiles<H>, W: Write, D>(
     alloc: Global,
     files: &O,
     path: &str,

@@ -29,13 +29,7 @@ use std::io::Write;
 /// Prints the blocks of an image from the one to the other: after its recovery where its file can be opened for
 /// writing, and by reads alone where it can't, or is in use. Its failures: `InUse` or `CannotOpen` where it can't be
 /// opened for reading either, then those of `export_over` or `show_blocks_over`.
-pub fn export_image<
-    H: HostFile + Drop,
-    O: HostFiles<H>,
-    K: HostFile + Drop,
-    P: HostFiles<K>,
-    W: Write,
->(
+pub fn export_image<H: HostFile, O: HostFiles<H>, K: HostFile, P: HostFiles<K>, W: Write>(
     files: &O,
     looking: &P,
     path: &str,
@@ -67,7 +61,7 @@ pub fn export_image<
 /// Prints blocks of an image, as `export_image`, once its file was opened for writing or wasn't: only where it wasn't
 /// it is opened for reading. Its failures: `InUse` or `CannotOpen` where it can't be opened for reading either, then
 /// those of `export_over` or `show_blocks_over`.
-pub fn export_opened<H: HostFile + Drop, K: HostFile + Drop, P: HostFiles<K>, W: Write>(
+pub fn export_opened<H: HostFile, K: HostFile, P: HostFiles<K>, W: Write>(
     opened: Result<SectorFile<H>, FileFault>,
     looking: &P,
     path: &str,
@@ -101,7 +95,7 @@ pub fn export_opened<H: HostFile + Drop, K: HostFile + Drop, P: HostFiles<K>, W:
 
 /// Prints the blocks of an image from the one to the other. Its file is opened for nothing but that, and is given back.
 /// Its failures: `CannotOpen` or `InUse` where the file can't be opened for reading, then those of `show_blocks_over`.
-pub fn show_blocks<H: HostFile + Drop, O: HostFiles<H>, W: Write, D>(
+pub fn show_blocks<H: HostFile, O: HostFiles<H>, W: Write, D>(
     files: &O,
     path: &str,
     first: u16,

@@ -1,13 +1,13 @@
 //! The commands over images that are files of a system: each gives back what it has opened or made.
 //! Rule: MANUAL, Commands.
-ghost use Rattle.std.specs.Prelude.{◌≡◌, ◌≢◌, ◌⊎◌, ℕ, ◌<◌, ◌≤◌, ◌+◌, ◌*◌, ◌↔◌, length, true, ⊤, Err, IsOk, OnErr, OnOk, IfOk, IfErr, IsErrOf};
+ghost use Rattle.std.specs.Prelude.{◌≡◌, ◌≢◌, ◌⊎◌, ℕ, ◌<◌, ◌≤◌, ◌+◌, ◌*◌, ◌↔◌, length, true, ⊤, Err, IsOk, OnErr, OnOk, IfOk, IfErr, IfSome, MatchOption, IsErrOf};
 ghost use Rattle.journal.specs.Layout.{sectors_for};
 ghost use Rattle.journal.specs.PageLayout as newer_layout;
 ghost use Rattle.journal.specs.Store.{Continues, DeviceBegins, DeviceFailed, DeviceReads, blocks_of, closed_of, device_of, pending_count};
 ghost use Rattle.terminal.specs.Done.{DoneOn, EachLeft, ImportsBlocks, LooksAt, MakesBlank, PutsBlock, Upgrades};
 ghost use Rattle.recovery.specs.Steps.{WentWell};
 ghost use Rattle.terminal.specs.Failed.{FailsAfter, FailsOn, ImportFails, IsUnmade, IsUntouched, NewFailed, PutFails, UpgradeFailed, UpgradeFails};
-ghost use Rattle.terminal.specs.Files.{IsMade, IsOpened};
+ghost use Rattle.terminal.specs.Files.{IsMade, IsOpened, IsUnfinished};
 ghost use Rattle.terminal.specs.Newer.{MakesNewer, UpgradeDone};
 ghost use Rattle.terminal.specs.Putting.{LeavesSome, PutsSome};
 
@@ -28,7 +28,7 @@ use stores::{Store, blocks_of_size};
 /// that name already, which stays as it is, `CannotOpen` or `InUse` where the file can't be made, then those of
 /// `make_over`.
 /// Rule: MANUAL, forth83 new IMAGE --blocks N [--layout L].
-pub fn make_image<H: HostFile + Drop, O: HostFiles<H>, E>(
+pub fn make_image<H: HostFile, O: HostFiles<H>, E>(
     files: &O,
     path: &str,
     blocks: u16,
@@ -42,13 +42,14 @@ pub fn make_image<H: HostFile + Drop, O: HostFiles<H>, E>(
     // No call of what is given back failed.
     ensures well { OnOk result.1 (EachLeft (λ device. ⟦<SectorFile<H> as SectorDevice>⟧.failures device ≡ 0) (λ _. ⊤) result.0) }
     ensures failed { IfErr result.1 (λ failure. NewFailed ⟦<SectorFile<H> as SectorDevice>⟧
-        (IsMade H.HostFile (O.makes files.now path.now)) blocks Layout.Two failure result.0) }
+        (IsMade H.HostFile (O.makes files.now path.now)) (IsUnfinished H.HostFile (O.makes files.now path.now))
+        blocks Layout.Two failure result.0) }
     // No session has begun that could stop.
     ensures unstopped { IfErr result.1 (λ e. e ≢ Failure.Stopped) }
 {
     match create_disk(files, path, 3 + 4 * blocks as u32) {
         Ok(disk) => made(make_over(disk, blocks)),
-        Err(fault) => (Left::Nothing, Err(Failure::from(fault))),
+        Err((fault, unfinished)) => (begun(unfinished), Err(Failure::from(fault))),
     }
 }
 
@@ -56,7 +57,7 @@ pub fn make_image<H: HostFile + Drop, O: HostFiles<H>, E>(
 /// that name already, which stays as it is, `CannotOpen` or `InUse` where the file can't be made, then those of
 /// `make_newer_over`.
 /// Rule: MANUAL, forth83 new IMAGE --blocks N [--layout L].
-pub fn make_newer_image<H: HostFile + Drop, O: HostFiles<H>, E>(
+pub fn make_newer_image<H: HostFile, O: HostFiles<H>, E>(
     files: &O,
     path: &str,
     blocks: u16,
@@ -68,12 +69,13 @@ pub fn make_newer_image<H: HostFile + Drop, O: HostFiles<H>, E>(
     // No call of what is given back failed.
     ensures well { OnOk result.1 (EachLeft (λ device. ⟦<SectorFile<H> as SectorDevice>⟧.failures device ≡ 0) (λ _. ⊤) result.0) }
     ensures failed { 32 ≤ blocks → blocks ≤ 3840 → IfErr result.1 (λ failure. NewFailed ⟦<SectorFile<H> as SectorDevice>⟧
-        (IsMade H.HostFile (O.makes files.now path.now)) blocks Layout.Three failure result.0) }
+        (IsMade H.HostFile (O.makes files.now path.now)) (IsUnfinished H.HostFile (O.makes files.now path.now))
+        blocks Layout.Three failure result.0) }
     ensures unstopped { IfErr result.1 (λ e. e ≢ Failure.Stopped) }
 {
     match make_newer_file(files, path, blocks) {
         Ok(disk) => made(make_newer_over(disk, blocks)),
-        Err(failure) => (Left::Nothing, Err(failure)),
+        Err((failure, unfinished)) => (begun(unfinished), Err(failure)),
     }
 }
 
@@ -92,17 +94,43 @@ fn made<D: SectorDevice, E>(
     }
 }
 
-/// Makes a file of the size of an image of layout 3 of so many blocks.
-pub(super) fn make_newer_file<H: HostFile + Drop, O: HostFiles<H>>(
+/// The device of an image whose file was made and not finished, if it was.
+fn begun<D, E>(unfinished: Option<D>) -> Left<D, E>
+    ensures { MatchOption unfinished (result ≡ Left.Nothing) (λ device. result ≡ Left.Made device) }
+{
+    match unfinished {
+        Some(device) => Left::Made(device),
+        None => Left::Nothing,
+    }
+}
+
+/// The devices of an image that was to be upgraded and of the file that was made and not finished, if it was.
+pub(super) fn begun_beside<D, E>(source: D, unfinished: Option<D>) -> Left<D, E>
+    ensures { MatchOption unfinished (result ≡ Left.Opened source) (λ device. result ≡ Left.Upgraded source device) }
+{
+    match unfinished {
+        Some(device) => Left::Upgraded(source, device),
+        None => Left::Opened(source),
+    }
+}
+
+/// Makes a file of the size of an image of layout 3 of so many blocks. Where it was made and not finished, it is handed
+/// back.
+pub(super) fn make_newer_file<H: HostFile, O: HostFiles<H>>(
     files: &O,
     path: &str,
     blocks: u16,
-) -> Result<SectorFile<H>, Failure>
+) -> Result<SectorFile<H>, (Failure, Option<SectorFile<H>>)>
     ensures made { IfOk result (λ disk. IsMade H.HostFile (O.makes files.now path.now) (newer_layout.sectors_for blocks) disk) }
     ensures well { IfOk result (λ disk. ⟦<SectorFile<H> as SectorDevice>⟧.failures disk ≡ 0) }
-    ensures unmade { IfErr result (λ failure. IsUnmade failure) }
+    ensures unmade { IfErr result (λ e. IsUnmade e.0) }
+    ensures unfinished { IfErr result (λ e. IfSome e.1 (IsUnfinished H.HostFile (O.makes files.now path.now))) }
+    ensures refused { IfErr result (λ e. IfSome e.1 (λ _. e.0 ≡ Failure.CannotOpen)) }
 {
-    Ok(create_disk(files, path, 32 + 16 * blocks as u32)?)
+    match create_disk(files, path, 32 + 16 * blocks as u32) {
+        Ok(disk) => Ok(disk),
+        Err((fault, unfinished)) => Err((Failure::from(fault), unfinished)),
+    }
 }
 
 /// The device of an image that was opened for writing too, and how its command ended.
@@ -117,7 +145,7 @@ pub(super) fn opened<D, E, T>(ended: (D, Result<T, Failure>)) -> (Left<D, E>, Re
 /// Makes the lines of a text file a block of an image, in one save. Its failures: `CannotOpen` or `InUse` where the
 /// file can't be opened for reading and writing, then those of `put_over`.
 /// Rule: MANUAL, forth83 put IMAGE BLOCK FILE.
-pub fn put_into_image<H: HostFile + Drop, O: HostFiles<H>, E>(
+pub fn put_into_image<H: HostFile, O: HostFiles<H>, E>(
     rt: &(impl Files<File = File> + AllocGlobal),
     files: &O,
     path: &str,
@@ -143,7 +171,7 @@ pub fn put_into_image<H: HostFile + Drop, O: HostFiles<H>, E>(
 /// Its failures: `CannotOpen` or `InUse` where the image's file can't be opened for reading and writing, then those of
 /// `import_over`.
 /// Rule: MANUAL, forth83 import IMAGE FIRST FILE .. [--raw] [--check].
-pub fn import_image<H: HostFile + Drop, O: HostFiles<H>, W: Write, E>(
+pub fn import_image<H: HostFile, O: HostFiles<H>, W: Write, E>(
     rt: &(impl Files<File = File> + AllocGlobal),
     files: &O,
     path: &str,
@@ -170,7 +198,7 @@ pub fn import_image<H: HostFile + Drop, O: HostFiles<H>, W: Write, E>(
 /// the image only the size is looked at, and no call of its device is made. Its failures: `CannotOpen` or `InUse`
 /// where the image can't be opened, `BadSize` where it has the size of none, then those of `read_blocks`.
 /// Rule: MANUAL, forth83 import IMAGE FIRST FILE .. [--raw] [--check].
-pub fn check_import<H: HostFile + Drop, O: HostFiles<H>, W: Write, E>(
+pub fn check_import<H: HostFile, O: HostFiles<H>, W: Write, E>(
     rt: &(impl Files<File = File> + AllocGlobal),
     files: &O,
     path: &str,
@@ -221,7 +249,7 @@ fn check_files<D: SectorDevice, W: Write>(
 /// where the old one has the size of no such image (`BadSize`) or can't be opened (`CannotOpen`, `InUse`), and whatever
 /// has the new name already stays as it is (`Exists`). Then its failures are those of `recovery::upgrade`.
 /// Rule: MANUAL, forth83 upgrade OLD NEW [--layout L]; IMAGE, Layout 1, and an upgrade.
-pub fn upgrade_image<H: HostFile + Drop, O: HostFiles<H>, E>(
+pub fn upgrade_image<H: HostFile, O: HostFiles<H>, E>(
     files: &O,
     old: &str,
     new: &str,
@@ -232,7 +260,8 @@ pub fn upgrade_image<H: HostFile + Drop, O: HostFiles<H>, E>(
     // No call of what is given back failed.
     ensures well { OnOk result.1 (EachLeft (λ device. ⟦<SectorFile<H> as SectorDevice>⟧.failures device ≡ 0) (λ _. ⊤) result.0) }
     ensures failed { IfErr result.1 (λ failure. UpgradeFailed ⟦<SectorFile<H> as SectorDevice>⟧
-        (IsOpened H.HostFile (O.opens files.now old.now)) (IsMade H.HostFile (O.makes files.now new.now)) Layout.Two failure result.0) }
+        (IsOpened H.HostFile (O.opens files.now old.now)) (IsMade H.HostFile (O.makes files.now new.now))
+        (IsUnfinished H.HostFile (O.makes files.now new.now)) Layout.Two failure result.0) }
     ensures unstopped { IfErr result.1 (λ e. e ≢ Failure.Stopped) }
 {
     match open_disk(files, old) {
@@ -242,7 +271,7 @@ pub fn upgrade_image<H: HostFile + Drop, O: HostFiles<H>, E>(
 }
 
 /// Makes an image of layout 2, in a new file, of the blocks of the image of layout 1 on a device.
-fn upgrade_into<H: HostFile + Drop, O: HostFiles<H>, E>(
+fn upgrade_into<H: HostFile, O: HostFiles<H>, E>(
     mut source: SectorFile<H>,
     files: &O,
     new: &str,
@@ -252,7 +281,8 @@ fn upgrade_into<H: HostFile + Drop, O: HostFiles<H>, E>(
     ensures well { ⟦<SectorFile<H> as SectorDevice>⟧.failures source ≡ 0
         → OnOk result.1 (EachLeft (λ device. ⟦<SectorFile<H> as SectorDevice>⟧.failures device ≡ 0) (λ _. ⊤) result.0) }
     ensures failed { IfErr result.1 (λ failure. UpgradeFailed ⟦<SectorFile<H> as SectorDevice>⟧
-        (λ device. device ≡ source) (IsMade H.HostFile (O.makes files.now new.now)) Layout.Two failure result.0) }
+        (λ device. device ≡ source) (IsMade H.HostFile (O.makes files.now new.now))
+        (IsUnfinished H.HostFile (O.makes files.now new.now)) Layout.Two failure result.0) }
     ensures unstopped { IfErr result.1 (λ e. e ≢ Failure.Stopped) }
 {
     let sectors = source.sectors();
@@ -264,7 +294,7 @@ fn upgrade_into<H: HostFile + Drop, O: HostFiles<H>, E>(
             let outcome = upgrade_older(&mut source, &mut target);
             (Left::Upgraded(source, target), outcome)
         }
-        Err(fault) => (Left::Opened(source), Err(Failure::from(fault))),
+        Err((fault, unfinished)) => (begun_beside(source, unfinished), Err(Failure::from(fault))),
     }
 }
 

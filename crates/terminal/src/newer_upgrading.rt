@@ -10,13 +10,13 @@ ghost use Rattle.shadow.specs.Formatted.{MakingLeaves};
 ghost use Rattle.journal.specs.PageLayout.{sectors_for};
 ghost use Rattle.shadow.specs.Upgraded.{upgrade_refusal};
 ghost use Rattle.terminal.specs.Failures.{of_upgrade};
-ghost use Rattle.terminal.specs.Files.{IsMade, IsOpened};
+ghost use Rattle.terminal.specs.Files.{IsMade, IsOpened, IsUnfinished};
 ghost use Rattle.terminal.specs.Done.{EachLeft, blocks_on};
 ghost use Rattle.terminal.specs.Failed.{NewerUpgradeFails, UpgradeFailed};
 ghost use Rattle.terminal.specs.Newer.{LeavesNewer, UpgradeDone, UpgradesNewer};
 
 use super::failure::Failure;
-use super::files::make_newer_file;
+use super::files::{begun_beside, make_newer_file};
 use super::left::Left;
 use command_line::orders::Layout;
 use sector_disk::{HostFile, HostFiles, SectorDevice, SectorFile, open_disk};
@@ -27,7 +27,7 @@ use stores::blocks_of_size;
 /// made where the old one has the size of no image (`BadSize`) or can't be opened (`CannotOpen`, `InUse`), and whatever
 /// has the new name already stays as it is (`Exists`). Then its failures are those of `upgrade_over`.
 /// Rule: MANUAL, forth83 upgrade OLD NEW [--layout L]; IMAGE, Layout 3, An upgrade.
-pub fn upgrade_to_newer<H: HostFile + Drop, O: HostFiles<H>, E>(
+pub fn upgrade_to_newer<H: HostFile, O: HostFiles<H>, E>(
     files: &O,
     old: &str,
     new: &str,
@@ -38,7 +38,8 @@ pub fn upgrade_to_newer<H: HostFile + Drop, O: HostFiles<H>, E>(
     // No call of what is given back failed.
     ensures well { OnOk result.1 (EachLeft (λ device. ⟦<SectorFile<H> as SectorDevice>⟧.failures device ≡ 0) (λ _. ⊤) result.0) }
     ensures failed { IfErr result.1 (λ failure. UpgradeFailed ⟦<SectorFile<H> as SectorDevice>⟧
-        (IsOpened H.HostFile (O.opens files.now old.now)) (IsMade H.HostFile (O.makes files.now new.now)) Layout.Three failure result.0) }
+        (IsOpened H.HostFile (O.opens files.now old.now)) (IsMade H.HostFile (O.makes files.now new.now))
+        (IsUnfinished H.HostFile (O.makes files.now new.now)) Layout.Three failure result.0) }
     ensures unstopped { IfErr result.1 (λ e. e ≢ Failure.Stopped) }
 {
     match open_disk(files, old) {
@@ -48,7 +49,7 @@ pub fn upgrade_to_newer<H: HostFile + Drop, O: HostFiles<H>, E>(
 }
 
 /// Makes an image of layout 3, in a new file, of the blocks of the image of layout 1 or 2 on a device.
-fn upgrade_newer_into<H: HostFile + Drop, O: HostFiles<H>, E>(
+fn upgrade_newer_into<H: HostFile, O: HostFiles<H>, E>(
     mut source: SectorFile<H>,
     files: &O,
     new: &str,
@@ -58,7 +59,8 @@ fn upgrade_newer_into<H: HostFile + Drop, O: HostFiles<H>, E>(
     ensures well { ⟦<SectorFile<H> as SectorDevice>⟧.failures source ≡ 0
         → OnOk result.1 (EachLeft (λ device. ⟦<SectorFile<H> as SectorDevice>⟧.failures device ≡ 0) (λ _. ⊤) result.0) }
     ensures failed { IfErr result.1 (λ failure. UpgradeFailed ⟦<SectorFile<H> as SectorDevice>⟧
-        (λ device. device ≡ source) (IsMade H.HostFile (O.makes files.now new.now)) Layout.Three failure result.0) }
+        (λ device. device ≡ source) (IsMade H.HostFile (O.makes files.now new.now))
+        (IsUnfinished H.HostFile (O.makes files.now new.now)) Layout.Three failure result.0) }
     ensures unstopped { IfErr result.1 (λ e. e ≢ Failure.Stopped) }
 {
     let Some(blocks) = blocks_of_size(source.sectors()) else {
@@ -69,7 +71,7 @@ fn upgrade_newer_into<H: HostFile + Drop, O: HostFiles<H>, E>(
             let outcome = upgrade_over(&mut source, &mut target);
             (Left::Upgraded(source, target), outcome)
         }
-        Err(failure) => (Left::Opened(source), Err(failure)),
+        Err((failure, unfinished)) => (begun_beside(source, unfinished), Err(failure)),
     }
 }
 

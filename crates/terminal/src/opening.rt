@@ -25,7 +25,7 @@ use std::io::{Read, Write};
 /// fault ends the session only where it is strict. Its failures, where no session begins: those of `open_over`, then
 /// `NoMemory`.
 /// Rule: MANUAL, forth83 run IMAGE [FILE ..].
-pub fn run_over<D: SectorDevice + Drop, F: Lines<D>, R: Read, W: Write, T: Tracer>(
+pub fn run_over<D: SectorDevice, F: Lines<D>, R: Read, W: Write, T: Tracer>(
     alloc: Global,
     device: D,
     steps: u32,

@@ -14,7 +14,7 @@ ghost use Rattle.terminal.specs.Done.{DoneOn, RunsFrom};
 ghost use Rattle.terminal.specs.Failed.{NewFailed, ScriptFailed, UpgradeFailed};
 ghost use Rattle.sessions.specs.Devices.{Becomes};
 ghost use Rattle.terminal.specs.Failures.{status_of};
-ghost use Rattle.terminal.specs.Files.{IsMade, IsOpened};
+ghost use Rattle.terminal.specs.Files.{IsMade, IsOpened, IsUnfinished};
 ghost use Rattle.terminal.specs.Newer.{NewDone, UpgradeDone};
 ghost use Rattle.terminal.specs.Scripts.{RunsScript, StopsScript, is_plain};
 ghost use Rattle.terminal.specs.InMemory.{AsksForNothing, IsForMemory, CompletesInMemory, BreaksInMemory, IsHelp};
@@ -90,9 +90,9 @@ pub fn command<F: Lines<FileDisk>, M: Lines<MemoryDisk>, S: AsStr, R: Input, W: 
 /// for a salvage, which is to have no such image. The text for `put` is a file of this one. The files of images that
 /// were opened or made are given back as they are then.
 pub fn command_over<
-    H: HostFile + Drop,
+    H: HostFile,
     O: HostFiles<H>,
-    K: HostFile + Drop,
+    K: HostFile,
     P: HostFiles<K>,
     F: Lines<SectorFile<H>>,
     M: Lines<MemoryDisk>,
@@ -130,6 +130,7 @@ pub fn command_over<
     ensures failed { result.1 ≢ 0 → (result.0 ≡ Left.Nothing)
         ⊎ OrderIsFailed ⟦<SectorFile<H> as SectorDevice>⟧ ⟦<SectorFile<K> as SectorDevice>⟧ (map S.text words.now)
         (λ path. IsOpened H.HostFile (O.opens files.now path)) (λ path. IsMade H.HostFile (O.makes files.now path))
+        (λ path. IsUnfinished H.HostFile (O.makes files.now path))
         (λ path. IsOpened K.HostFile (P.opens looking.now path)) (λ path. IsOpened K.HostFile (P.opens alone.now path))
         (R.remaining input.old) (R.remaining input.new) (W.contents output.old) (W.contents output.new) result.1 result.0 }
     // Words that are refused open and make nothing.
@@ -149,9 +150,9 @@ pub fn command_over<
 /// Does what is asked, and gives the files back that were opened or made. What is told of files that are to be imported
 /// goes to `errors`.
 fn perform<
-    H: HostFile + Drop,
+    H: HostFile,
     O: HostFiles<H>,
-    K: HostFile + Drop,
+    K: HostFile,
     P: HostFiles<K>,
     F: Lines<SectorFile<H>>,
     M: Lines<MemoryDisk>,
@@ -183,6 +184,7 @@ fn perform<
         (R.remaining input.old) (R.remaining input.new) (W.contents output.old) (W.contents output.new) result.0 }
     ensures failed { IfErr result.1 (λ failure. IsFailed ⟦<SectorFile<H> as SectorDevice>⟧ ⟦<SectorFile<K> as SectorDevice>⟧
         (λ path. IsOpened H.HostFile (O.opens files.now path)) (λ path. IsMade H.HostFile (O.makes files.now path))
+        (λ path. IsUnfinished H.HostFile (O.makes files.now path))
         (λ path. IsOpened K.HostFile (P.opens looking.now path)) (λ path. IsOpened K.HostFile (P.opens alone.now path)) asked.entry
         (R.remaining input.old) (R.remaining input.new) (W.contents output.old) (W.contents output.new) failure result.0) }
 {
@@ -219,15 +221,7 @@ fn perform<
 
 /// Runs lines over an image. It tells of their faults where that is asked for, and at the end of changed blocks that
 /// were not saved, but nothing of the input alone.
-fn run_by<
-    H: HostFile + Drop,
-    O: HostFiles<H>,
-    F: Lines<SectorFile<H>>,
-    R: Input,
-    W: Write,
-    E: Write,
-    K,
->(
+fn run_by<H: HostFile, O: HostFiles<H>, F: Lines<SectorFile<H>>, R: Input, W: Write, E: Write, K>(
     rt: &(impl Files<File = File> + AllocGlobal),
     files: &O,
     path: &str,
@@ -280,7 +274,7 @@ fn run_by<
 }
 
 /// Makes an image of blank blocks, by a layout.
-fn make_by<H: HostFile + Drop, O: HostFiles<H>, E>(
+fn make_by<H: HostFile, O: HostFiles<H>, E>(
     files: &O,
     path: &str,
     blocks: u16,
@@ -291,7 +285,8 @@ fn make_by<H: HostFile + Drop, O: HostFiles<H>, E>(
     ensures made { OnOk result.1 (NewDone ⟦<SectorFile<H> as SectorDevice>⟧
         (IsMade H.HostFile (O.makes files.now path.now)) blocks layout result.0) }
     ensures failed { IfErr result.1 (λ failure. NewFailed ⟦<SectorFile<H> as SectorDevice>⟧
-        (IsMade H.HostFile (O.makes files.now path.now)) blocks layout failure result.0) }
+        (IsMade H.HostFile (O.makes files.now path.now)) (IsUnfinished H.HostFile (O.makes files.now path.now))
+        blocks layout failure result.0) }
     ensures unstopped { IfErr result.1 (λ e. e ≢ Failure.Stopped) }
 {
     match layout {
@@ -301,7 +296,7 @@ fn make_by<H: HostFile + Drop, O: HostFiles<H>, E>(
 }
 
 /// Makes an image of the blocks of an older one, by a layout.
-fn upgrade_by<H: HostFile + Drop, O: HostFiles<H>, E>(
+fn upgrade_by<H: HostFile, O: HostFiles<H>, E>(
     files: &O,
     old: &str,
     new: &str,
@@ -310,7 +305,8 @@ fn upgrade_by<H: HostFile + Drop, O: HostFiles<H>, E>(
     ensures made { OnOk result.1 (UpgradeDone ⟦<SectorFile<H> as SectorDevice>⟧
         (IsOpened H.HostFile (O.opens files.now old.now)) (IsMade H.HostFile (O.makes files.now new.now)) layout result.0) }
     ensures failed { IfErr result.1 (λ failure. UpgradeFailed ⟦<SectorFile<H> as SectorDevice>⟧
-        (IsOpened H.HostFile (O.opens files.now old.now)) (IsMade H.HostFile (O.makes files.now new.now)) layout failure result.0) }
+        (IsOpened H.HostFile (O.opens files.now old.now)) (IsMade H.HostFile (O.makes files.now new.now))
+        (IsUnfinished H.HostFile (O.makes files.now new.now)) layout failure result.0) }
     ensures unstopped { IfErr result.1 (λ e. e ≢ Failure.Stopped) }
 {
     match layout {

@@ -11,12 +11,12 @@ ghost use Rattle.recovery.specs.Steps.{OnlyRead, WentWell};
 ghost use Rattle.image_care.specs.Made.{MakingLeaves};
 ghost use Rattle.image_care.specs.Salvaged.{salvage_refusal, salvaged_blocks};
 ghost use Rattle.terminal.specs.Care.{SalvageDone};
-ghost use Rattle.terminal.specs.Copying.{MadeOf, MakesSalvage, Salvages, no_recovery, pages_no_recovery, salvage_told, salvaged_count, sectors_for_salvage, standing_by};
+ghost use Rattle.terminal.specs.Copying.{MakesSalvage, Salvages, no_recovery, pages_no_recovery, salvage_told, salvaged_count, sectors_for_salvage, standing_by};
 ghost use Rattle.terminal.specs.Damage.{damage_told};
 ghost use Rattle.terminal.specs.Done.{EachLeft, IsGiven, LeavesBlocks};
-ghost use Rattle.terminal.specs.Failed.{SalvageFailed, SalvageFails};
+ghost use Rattle.terminal.specs.Failed.{MakesSalvageInPart, SalvageFailed, SalvageFails};
 ghost use Rattle.terminal.specs.Failures.{of_upgrade};
-ghost use Rattle.terminal.specs.Files.{IsMade, IsOpened};
+ghost use Rattle.terminal.specs.Files.{IsMade, IsOpened, IsUnfinished};
 
 use super::checking::print;
 use super::copying::{copied, make_file, sectors_by};
@@ -40,13 +40,7 @@ const NO_RECOVERY: &str =
 /// recovery, and gives both files. Nothing is made where the old one has the size of no image, or of one of another
 /// number of blocks than is asked for (`BadSize`), or where it can't be opened (`CannotOpen`, `InUse`); and whatever
 /// has the new name already stays as it is (`Exists`). Its other failures are those of `salvage_over`.
-pub fn salvage_image<
-    K: HostFile + Drop,
-    P: HostFiles<K>,
-    H: HostFile + Drop,
-    O: HostFiles<H>,
-    W: Write,
->(
+pub fn salvage_image<K: HostFile, P: HostFiles<K>, H: HostFile, O: HostFiles<H>, W: Write>(
     alloc: Global,
     looking: &P,
     files: &O,
@@ -63,7 +57,8 @@ pub fn salvage_image<
     ensures well { OnOk result.1 (EachLeft (λ device. ⟦<SectorFile<H> as SectorDevice>⟧.failures device ≡ 0)
         (λ device. ⟦<SectorFile<K> as SectorDevice>⟧.failures device ≡ 0) result.0) }
     ensures failed { IfErr result.1 (λ failure. SalvageFailed ⟦<SectorFile<K> as SectorDevice>⟧ ⟦<SectorFile<H> as SectorDevice>⟧
-        (IsOpened K.HostFile (P.opens looking.now old.now)) (IsMade H.HostFile (O.makes files.now new.now)) asked failure result.0) }
+        (IsOpened K.HostFile (P.opens looking.now old.now)) (IsMade H.HostFile (O.makes files.now new.now))
+        (IsUnfinished H.HostFile (O.makes files.now new.now)) asked failure result.0) }
     // No session has begun that could stop.
     ensures unstopped { IfErr result.1 (λ e. e ≢ Failure.Stopped) }
 {
@@ -77,7 +72,7 @@ pub fn salvage_image<
 }
 
 /// Salvages the image on a device, into a new file, and gives that one, if it was made.
-fn salvage_into<A: SectorDevice, H: HostFile + Drop, O: HostFiles<H>, W: Write>(
+fn salvage_into<A: SectorDevice, H: HostFile, O: HostFiles<H>, W: Write>(
     alloc: Global,
     source: &mut A,
     files: &O,
@@ -92,10 +87,10 @@ fn salvage_into<A: SectorDevice, H: HostFile + Drop, O: HostFiles<H>, W: Write>(
     ensures kept { OnlyRead A.SectorDevice source.old source.new }
     ensures old_well { OnOk result.1 (A.failures source.new ≡ A.failures source.old) }
     ensures new_well { OnOk result.1 (IfSome result.0 (λ target. ⟦<SectorFile<H> as SectorDevice>⟧.failures target ≡ 0)) }
-    // Where it failed, an image may be made in part, or no call of the old one was made.
-    ensures failed { IfErr result.1 (λ failure. IfSome result.0 (λ target. MadeOf A.SectorDevice ⟦<SectorFile<H> as SectorDevice>⟧
-        (IsMade H.HostFile (O.makes files.now new.now)) (sectors_for_salvage (A.sector_count source.old) asked)
-        (SalvageFails A.SectorDevice ⟦<SectorFile<H> as SectorDevice>⟧ failure) source.old source.new target)) }
+    // Where it failed, an image may be made in part, or its file, or no call of the old one was made.
+    ensures failed { IfErr result.1 (λ failure. IfSome result.0 (λ target. MakesSalvageInPart A.SectorDevice ⟦<SectorFile<H> as SectorDevice>⟧
+        (IsMade H.HostFile (O.makes files.now new.now)) (IsUnfinished H.HostFile (O.makes files.now new.now)) asked failure
+        source.old source.new target)) }
     ensures unmade { result.0 ≡ None → source.new ≡ source.old }
     ensures unstopped { IfErr result.1 (λ e. e ≢ Failure.Stopped) }
 {
@@ -107,7 +102,7 @@ fn salvage_into<A: SectorDevice, H: HostFile + Drop, O: HostFiles<H>, W: Write>(
             let outcome = salvage_over(alloc, source, &mut target, output);
             (Some(target), outcome)
         }
-        Err(failure) => (None, Err(failure)),
+        Err((failure, unfinished)) => (unfinished, Err(failure)),
     }
 }
 

@@ -37,7 +37,7 @@ use stores::Store;
 /// image's file can't be opened for reading and writing, and those of `run_over`.
 /// Rule: MANUAL, forth83 run IMAGE [FILE ..].
 pub fn run_image<
-    H: HostFile + Drop,
+    H: HostFile,
     O: HostFiles<H>,
     F: Lines<SectorFile<H>>,
     R: Input,
@@ -83,15 +83,7 @@ pub fn run_image<
 }
 
 /// Runs the input over an image, strictly or not.
-fn run_led<
-    H: HostFile + Drop,
-    O: HostFiles<H>,
-    F: Lines<SectorFile<H>>,
-    R: Input,
-    W: Write,
-    T: Tracer,
-    E,
->(
+fn run_led<H: HostFile, O: HostFiles<H>, F: Lines<SectorFile<H>>, R: Input, W: Write, T: Tracer, E>(
     alloc: Global,
     files: &O,
     path: &str,
@@ -123,7 +115,7 @@ fn run_led<
 
 /// Runs the input over a store, strictly or not, and gives the store back: what was changed and not saved is given up.
 /// Its failure is `NoMemory`, where no session begins.
-pub(super) fn run_until_end<D: SectorDevice + Drop, F: Lines<D>, R: Read, W: Write, T: Tracer>(
+pub(super) fn run_until_end<D: SectorDevice, F: Lines<D>, R: Read, W: Write, T: Tracer>(
     alloc: Global,
     store: Store<D>,
     steps: u32,

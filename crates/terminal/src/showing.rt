@@ -26,13 +26,7 @@ use std::io::Write;
 /// Prints a block of an image: after its recovery where its file can be opened for writing, and by reads alone where it
 /// can't, or is in use. Its failures: `InUse` or `CannotOpen` where it can't be opened for reading either, then those
 /// of `list_over` or `show_over`.
-pub fn list_image<
-    H: HostFile + Drop,
-    O: HostFiles<H>,
-    K: HostFile + Drop,
-    P: HostFiles<K>,
-    W: Write,
->(
+pub fn list_image<H: HostFile, O: HostFiles<H>, K: HostFile, P: HostFiles<K>, W: Write>(
     files: &O,
     looking: &P,
     path: &str,
@@ -54,7 +48,7 @@ pub fn list_image<
 /// Prints a block of an image, as `list_image`, once its file was opened for writing or wasn't: only where it wasn't it
 /// is opened for reading. Its failures: `InUse` or `CannotOpen` where it can't be opened for reading either, then those
 /// of `list_over` or `show_over`.
-pub fn list_opened<H: HostFile + Drop, K: HostFile + Drop, P: HostFiles<K>, W: Write>(
+pub fn list_opened<H: HostFile, K: HostFile, P: HostFiles<K>, W: Write>(
     opened: Result<SectorFile<H>, FileFault>,
     looking: &P,
     path: &str,
@@ -86,7 +80,7 @@ pub fn list_opened<H: HostFile + Drop, K: HostFile + Drop, P: HostFiles<K>, W: W
 
 /// Prints a block of an image. Its file is opened for nothing but that, and is given back. Its failures: `CannotOpen`
 /// or `InUse` where the file can't be opened for reading, then those of `show_over`.
-pub fn show_image<H: HostFile + Drop, O: HostFiles<H>, W: Write, D>(
+pub fn show_image<H: HostFile, O: HostFiles<H>, W: Write, D>(
     files: &O,
     path: &str,
     block: u16,

@@ -1,5 +1,7 @@
-use Rattle.std.proofs.Common.{◌∙◌, ap, refl, sym}
-use Rattle.std.proofs.lemmas.Result.{on_err_weaker, on_ok_weaker}
+use Rattle.std.proofs.Common.{◌∙◌, ap, inr, refl, sym}
+use Rattle.std.proofs.lemmas.Result.{on_ok_weaker}
+use Rattle.terminal.proofs.Begun.{begun_in_part}
+use Rattle.terminal.proofs.Closing.{on_err_weaker}
 use Rattle.terminal.specs.Copying.{sectors_for_copy}
 use Rattle.terminal.proofs.copying.copy_into.Goals as goal
 
@@ -21,8 +23,8 @@ returns-in-Ok-clause-made g c =
 pub returns-in-Ok-clause-failed : goal.returns-in-Ok-clause-failed
 returns-in-Ok-clause-failed g c =
     let done = c.copy_over-outcome in
-    on_err_weaker done.result
-    (λ did. (
+    on_err_weaker done.result _
+    (λ e did. inr (
       c.in-Some.sectors,
       sym (c.in-Some.ensures ∙ ap (λ s. sectors_for_copy s c.args.asked) c.sectors.ensures),
       c.in-Ok.target,
@@ -30,3 +32,7 @@ returns-in-Ok-clause-failed g c =
       did,
     ))
     done.ensures.failed
+
+pub returns-in-Err-clause-failed : goal.returns-in-Err-clause-failed
+returns-in-Err-clause-failed g c =
+    begun_in_part _ _ c.in-Err.unfinished c.in-Err.failure _ _ c.args.source.now c.in-Err.ensures.unfinished c.in-Err.ensures.refused

@@ -1,4 +1,5 @@
-use Rattle.std.proofs.Common.{inl, refl}
+use Rattle.std.proofs.Common.{inl}
+use Rattle.terminal.proofs.Begun.{not_finished, told_cannot, unfinished_are}
 use Rattle.terminal.proofs.Ended.{unmade}
 use Rattle.terminal.proofs.Making.{made_done, made_failed, made_well, older_size}
 use Rattle.terminal.proofs.files.make_image.Goals as goal
@@ -21,4 +22,7 @@ returns-in-Ok-clause-well g c =
     made_well _ _ c.make_over.result c.made.result.0 c.made.result.1 c.made.ensures.made c.made.ensures.failed c.make_over.ensures.well
 
 pub returns-in-Err-clause-failed : goal.returns-in-Err-clause-failed
-returns-in-Err-clause-failed g c = inl (refl, unmade c.in-Err.fault c.from.result c.from.ensures)
+returns-in-Err-clause-failed g c =
+    let e = c.in-Err.ensures in
+    inl (not_finished _ c.in-Err.unfinished c.begun.result c.from.result _ c.begun.ensures (unmade c.in-Err.fault c.from.result c.from.ensures)
+    (unfinished_are g.H.HostFile _ c.in-Err.unfinished e.unfinished e.empty) (told_cannot c.in-Err.unfinished c.in-Err.fault c.from.result c.from.ensures e.refused))

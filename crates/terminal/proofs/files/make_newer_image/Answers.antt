@@ -1,4 +1,5 @@
-use Rattle.std.proofs.Common.{inl, refl}
+use Rattle.std.proofs.Common.{inl}
+use Rattle.terminal.proofs.Begun.{not_finished}
 use Rattle.terminal.proofs.Making.{made_done, made_failed, made_well, newer_size}
 use Rattle.terminal.proofs.files.make_newer_image.Goals as goal
 
@@ -18,4 +19,6 @@ returns-in-Ok-clause-well g c =
     made_well _ _ c.make_newer_over.result c.made.result.0 c.made.result.1 c.made.ensures.made c.made.ensures.failed c.make_newer_over.ensures.well
 
 pub returns-in-Err-clause-failed : goal.returns-in-Err-clause-failed
-returns-in-Err-clause-failed g c = λ many few. inl (refl, c.in-Err.ensures.unmade)
+returns-in-Err-clause-failed g c = λ many few.
+    let e = c.in-Err.ensures in
+    inl (not_finished _ c.in-Err.unfinished c.begun.result c.in-Err.failure _ c.begun.ensures e.unmade e.unfinished e.refused)

@@ -11,11 +11,11 @@ returns-in-Ok-clause-made g c =
 
 pub returns-in-Ok-clause-failed : goal.returns-in-Ok-clause-failed
 returns-in-Ok-clause-failed g c =
-    upgrade_failed _ Two c.upgrade_into.result.1 c.upgrade_into.result.0 c.in-Ok.source _ _ (record { file = c.in-Ok.ensures.file; sectors = c.in-Ok.ensures.sectors })
+    upgrade_failed _ Two c.upgrade_into.result.1 c.upgrade_into.result.0 c.in-Ok.source _ _ _ (record { file = c.in-Ok.ensures.file; sectors = c.in-Ok.ensures.sectors })
     c.upgrade_into.ensures.failed
 
 pub returns-in-Ok-clause-well : goal.returns-in-Ok-clause-well
 returns-in-Ok-clause-well g c = c.upgrade_into.ensures.well c.in-Ok.ensures.failures
 
 pub returns-in-Err-clause-failed : goal.returns-in-Err-clause-failed
-returns-in-Err-clause-failed g c = inl (inl (refl, unopened c.in-Err.fault c.from.result c.in-Err.ensures.refusal c.from.ensures))
+returns-in-Err-clause-failed g c = inl (inl (inl (refl, unopened c.in-Err.fault c.from.result c.in-Err.ensures.refusal c.from.ensures)))

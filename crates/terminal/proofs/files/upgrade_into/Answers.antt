@@ -3,7 +3,7 @@ use Rattle.std.proofs.lemmas.Result.{on_ok_weaker}
 use Rattle.journal.specs.Layout.{sectors_for}
 use Rattle.sector_disk.specs.Opening.{AreZeros}
 use Rattle.terminal.proofs.Closing.{on_err_weaker}
-use Rattle.terminal.proofs.Ended.{unmade}
+use Rattle.terminal.proofs.Begun.{not_upgraded, told_cannot, unfinished_are}
 use Rattle.terminal.proofs.files.upgrade_into.Goals as goal
 
 pub returns-in-Ok-clause-made : goal.returns-in-Ok-clause-made
@@ -40,7 +40,10 @@ returns-in-Ok-clause-failed g c =
     (done.ensures.failed c.in-Some.field-0 size same)
 
 pub returns-in-None-clause-failed : goal.returns-in-None-clause-failed
-returns-in-None-clause-failed g c = inl (inr (c.args.source, refl, c.args.source, refl, refl))
+returns-in-None-clause-failed g c = inl (inl (inr (c.args.source, refl, c.args.source, refl, refl)))
 
 pub returns-in-Err-clause-failed : goal.returns-in-Err-clause-failed
-returns-in-Err-clause-failed g c = inl (inr (c.args.source, refl, c.args.source, refl, refl))
+returns-in-Err-clause-failed g c =
+    let e = c.in-Err.ensures in
+    inl (not_upgraded _ c.in-Err.unfinished c.begun_beside.result c.from.result _ _ c.args.source refl c.begun_beside.ensures
+    (unfinished_are g.H.HostFile _ c.in-Err.unfinished e.unfinished e.empty) (told_cannot c.in-Err.unfinished c.in-Err.fault c.from.result c.from.ensures e.refused))

@@ -3,6 +3,7 @@ use Rattle.std.proofs.lemmas.Result.{on_ok_weaker}
 use Rattle.journal.specs.PageLayout.{sectors_for}
 use Rattle.shadow.specs.Upgraded.{known_blocks}
 use Rattle.terminal.specs.Files.{IsMade}
+use Rattle.terminal.proofs.Begun.{not_upgraded}
 use Rattle.terminal.proofs.Closing.{on_err_weaker}
 use Rattle.terminal.proofs.newer_upgrading.upgrade_newer_into.Goals as goal
 
@@ -23,7 +24,9 @@ returns-in-Ok-clause-failed g c =
     on_err_weaker done.result _ (λ e did. inr (c.args.source, refl, target, is, done.new.old, done.new.new, refl, did)) (done.ensures.failed is.sectors_are)
 
 pub returns-in-None-clause-failed : goal.returns-in-None-clause-failed
-returns-in-None-clause-failed g c = inl (inr (c.args.source, refl, c.args.source, refl, refl))
+returns-in-None-clause-failed g c = inl (inl (inr (c.args.source, refl, c.args.source, refl, refl)))
 
 pub returns-in-Err-clause-failed : goal.returns-in-Err-clause-failed
-returns-in-Err-clause-failed g c = inl (inr (c.args.source, refl, c.args.source, refl, refl))
+returns-in-Err-clause-failed g c =
+    let e = c.in-Err.ensures in
+    inl (not_upgraded _ c.in-Err.unfinished c.begun_beside.result c.in-Err.failure _ _ c.args.source refl c.begun_beside.ensures e.unfinished e.refused)

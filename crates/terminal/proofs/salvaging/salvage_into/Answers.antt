@@ -1,5 +1,6 @@
-use Rattle.std.proofs.Common.{◌∙◌, ap, refl, sym}
+use Rattle.std.proofs.Common.{◌∙◌, ap, inr, refl, sym}
 use Rattle.std.proofs.lemmas.Result.{IfErr-weaker, on_ok_weaker}
+use Rattle.terminal.proofs.Begun.{begun_in_part}
 use Rattle.terminal.specs.Copying.{sectors_for_salvage}
 use Rattle.terminal.proofs.salvaging.salvage_into.Goals as goal
 
@@ -22,7 +23,7 @@ pub returns-in-Ok-clause-failed : goal.returns-in-Ok-clause-failed
 returns-in-Ok-clause-failed g c =
     let done = c.salvage_over-outcome in
     IfErr-weaker done.result _ _
-    (λ e did. (
+    (λ e did. inr (
       c.in-Some.sectors,
       sym (c.in-Some.ensures ∙ ap (λ s. sectors_for_salvage s c.args.asked) c.sectors.ensures),
       c.in-Ok.target,
@@ -30,3 +31,7 @@ returns-in-Ok-clause-failed g c =
       did,
     ))
     done.ensures.failed
+
+pub returns-in-Err-clause-failed : goal.returns-in-Err-clause-failed
+returns-in-Err-clause-failed g c =
+    begun_in_part _ _ c.in-Err.unfinished c.in-Err.failure _ _ c.args.source.now c.in-Err.ensures.unfinished c.in-Err.ensures.refused

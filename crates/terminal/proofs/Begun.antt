@@ -1,0 +1,48 @@
+-- A file that was made and not finished, and the commands that were to make an image on it.
+use Rattle.std.proofs.Common.{◌≡◌, ◌⊎◌, ◌∙◌, Option, None, Some, ap, inl, inr, refl}
+use Rattle.std.specs.Prelude.{IfSome, MatchOption}
+use Rattle.sector_disk.specs.Opening.{WentOn}
+use Rattle.sector_disk.specs.SectorFile.{file_of, sectors_of}
+use Rattle.sector_disk.specs.declared.device.SectorDevice as device
+use Rattle.sector_disk.specs.declared.file.SectorFile.{SectorFile}
+use Rattle.sector_disk.specs.declared.host.HostFile.{Ghosts}
+use Rattle.sector_disk.specs.declared.opening.FileFault.{FileFault}
+use Rattle.sector_disk.specs.declared.opening.FileFault.TheVariants as file
+use Rattle.terminal.specs.Failed.{IsUnmade, MakesSome, NotFinished, NotUpgraded}
+use Rattle.terminal.specs.Failures.{of_file}
+use Rattle.terminal.specs.Files.{IsUnfinished}
+use Rattle.terminal.specs.declared.failure.Failure.{Failure}
+use Rattle.terminal.specs.declared.failure.Failure.TheVariants.{CannotOpen}
+use Rattle.terminal.specs.declared.left.Left.{Left}
+use Rattle.terminal.specs.declared.left.Left.TheVariants.{Made, Nothing, Opened, Upgraded}
+
+pub unfinished_are : {H : Type 0} (G : Ghosts H) (makes : H → Type 0) (o : Option (SectorFile H G))
+    → IfSome o (λ d. (file : H) × makes file × WentOn G file (file_of d)) → IfSome o (λ d. sectors_of d ≡ 0) → IfSome o (IsUnfinished G makes)
+unfinished_are G makes (Some d) made empty = record { file = made.0; made = made.1; goes = made.2; empty = empty }
+unfinished_are G makes None made empty = tt
+
+-- It is told as one that can't be opened.
+pub told_cannot : {D : Type 0} (o : Option D) (fault : FileFault) (failure : Failure) → failure ≡ of_file fault
+    → IfSome o (λ _. fault ≡ file.Cannot) → IfSome o (λ _. failure ≡ CannotOpen)
+told_cannot (Some d) fault failure is cannot = is ∙ ap of_file cannot
+told_cannot None fault failure is cannot = tt
+
+module _ {D E : Type 0} (G : device.Ghosts D) where
+  pub not_finished : (unfinished : Option D) (left : Left D E) (failure : Failure) (begun : D → Type 0)
+      → MatchOption unfinished (left ≡ Nothing) (λ device. left ≡ Made device) → IsUnmade failure → IfSome unfinished begun
+      → IfSome unfinished (λ _. failure ≡ CannotOpen) → NotFinished G begun failure left
+  not_finished None left failure begun at unmade is told = inl (at, unmade)
+  not_finished (Some device) left failure begun at unmade is told = inr (told, device, is, at)
+
+  pub not_upgraded : (unfinished : Option D) (left : Left D E) (failure : Failure) (opened begun : D → Type 0) (source : D) → opened source
+      → MatchOption unfinished (left ≡ Opened source) (λ device. left ≡ Upgraded source device) → IfSome unfinished begun
+      → IfSome unfinished (λ _. failure ≡ CannotOpen) → NotUpgraded G opened begun failure left
+  not_upgraded None left failure opened begun source is at made told = inl (inr (source, at, source, is, refl))
+  not_upgraded (Some device) left failure opened begun source is at made told = inr (told, source, is, device, made, at)
+
+module _ {A B : Type 0} (G : device.Ghosts A) (H : device.Ghosts B) where
+  pub begun_in_part : (unfinished : Option B) (failure : Failure) (begun : B → Type 0) (P : A → A → B → Type 0) (source : A)
+      → IfSome unfinished begun → IfSome unfinished (λ _. failure ≡ CannotOpen)
+      → IfSome unfinished (λ after. MakesSome G H begun P failure source source after)
+  begun_in_part (Some after) failure begun P source made told = inl (told, refl, made)
+  begun_in_part None failure begun P source made told = tt
