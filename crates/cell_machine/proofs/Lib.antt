@@ -31,7 +31,7 @@ pub mod Wides
 pub mod Stores
 pub mod Standing
 pub mod Called
-pub mod Fusing
+pub mod InARow
 pub mod Executing
 pub mod Due
 pub mod Closing
