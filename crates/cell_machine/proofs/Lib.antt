@@ -28,7 +28,7 @@ pub mod Shapes
 pub mod Trims
 pub mod Floors
 pub mod Wides
-pub mod Stores
+pub mod OnSpace
 pub mod Standing
 pub mod Called
 pub mod InARow

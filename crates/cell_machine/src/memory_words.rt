@@ -3,7 +3,7 @@
 
 ghost use Rattle.std.specs.Prelude.{◌≡◌, ◌+◌, ◌≤◌, ◌<◌, ◌%◌, length, take, OnOk, OnErr, IfOk, IfErr};
 ghost use Rattle.data_space.specs.Space.{cell_at, with_cell, bytes_at, moved_up, moved_down, filled};
-ghost use Rattle.system_words.specs.declared.words.Store.TheVariants.{Fetch, Set, AddTo, FetchByte, SetByte, Count, MoveUp, MoveDown, Fill, Trailing};
+ghost use Rattle.system_words.specs.declared.words.MemoryWord.TheVariants.{Fetch, Set, AddTo, FetchByte, SetByte, Count, MoveUp, MoveDown, Fill, Trailing};
 ghost use Rattle.system_words.specs.declared.words.Own.TheVariants.{Space, SetCell};
 ghost use Rattle.cell_machine.specs.Effects.{trimmed};
 ghost use Rattle.cell_machine.specs.Deeds.{held, Did, Ended, Short};
@@ -11,7 +11,7 @@ ghost use Rattle.cell_machine.specs.Deeds.{held, Did, Ended, Short};
 use crate::event::{Event, MachineFault};
 use crate::operands::Operands;
 use data_space::DataSpace;
-use system_words::words::Store;
+use system_words::words::MemoryWord;
 
 impl Operands {
     /// A word on data space. Faults: `Steps`, `StackEmpty`, `Steps` again for a word that takes one more for each byte,
@@ -23,7 +23,7 @@ impl Operands {
         places: &mut [u16],
         space: &mut DataSpace,
         budget: &mut u32,
-        word: Store,
+        word: MemoryWord,
     ) -> Result<(), Event>
         requires sized { length places.old ≡ 257 }
         ensures did { OnOk result (Did (Space word)
@@ -34,16 +34,16 @@ impl Operands {
             (held places.new self.new.depth self.new.top) space.new budget.new) }
     {
         match word {
-            Store::Set => self.store(places, space, budget),
-            Store::AddTo => self.add_to(places, space, budget),
-            Store::Fetch => self.fetch(places, space, budget),
-            Store::SetByte => self.store_byte(places, space, budget),
-            Store::FetchByte => self.fetch_byte(places, space, budget),
-            Store::MoveUp => self.move_up(places, space, budget),
-            Store::MoveDown => self.move_down(places, space, budget),
-            Store::Count => self.count(places, space, budget),
-            Store::Fill => self.fill(places, space, budget),
-            Store::Trailing => self.trailing(places, space, budget),
+            MemoryWord::Set => self.store(places, space, budget),
+            MemoryWord::AddTo => self.add_to(places, space, budget),
+            MemoryWord::Fetch => self.fetch(places, space, budget),
+            MemoryWord::SetByte => self.store_byte(places, space, budget),
+            MemoryWord::FetchByte => self.fetch_byte(places, space, budget),
+            MemoryWord::MoveUp => self.move_up(places, space, budget),
+            MemoryWord::MoveDown => self.move_down(places, space, budget),
+            MemoryWord::Count => self.count(places, space, budget),
+            MemoryWord::Fill => self.fill(places, space, budget),
+            MemoryWord::Trailing => self.trailing(places, space, budget),
         }
     }
 
@@ -55,7 +55,7 @@ impl Operands {
         places: &mut [u16],
         space: &mut DataSpace,
         budget: &mut u32,
-        word: Store,
+        word: MemoryWord,
     ) -> Result<(), Event>
         requires sized { length places.old ≡ 257 }
         ensures did { OnOk result (Did (Space word)
