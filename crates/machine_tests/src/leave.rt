@@ -3,11 +3,11 @@
 ghost use Rattle.compiler.specs.Represents.{IsSound};
 
 use cell_machine::code::Code;
-use compiler::{Compiler, Refusal};
+use compiler::{CompileRefusal, Compiler};
 use std::test::Fail;
 
 /// `: A`
-fn begin(compiler: &mut Compiler, code: &Code) -> Result<(), Refusal>
+fn begin(compiler: &mut Compiler, code: &Code) -> Result<(), CompileRefusal>
     requires { IsSound compiler.old code.now }
     ensures { IsSound compiler.new code.now }
 {
@@ -16,7 +16,7 @@ fn begin(compiler: &mut Compiler, code: &Code) -> Result<(), Refusal>
 
 /// `DO IF LEAVE`
 #[tactic(auto, using(crate::proofs::Sound::sound_added))]
-fn leave(compiler: &mut Compiler, code: &mut Code) -> Result<(), Refusal>
+fn leave(compiler: &mut Compiler, code: &mut Code) -> Result<(), CompileRefusal>
     requires { IsSound compiler.old code.old }
     ensures { IsSound compiler.new code.new }
 {
@@ -27,7 +27,7 @@ fn leave(compiler: &mut Compiler, code: &mut Code) -> Result<(), Refusal>
 
 /// `THEN LOOP`
 #[tactic(auto, using(crate::proofs::Sound::sound_added))]
-fn close(compiler: &mut Compiler, code: &mut Code) -> Result<(), Refusal>
+fn close(compiler: &mut Compiler, code: &mut Code) -> Result<(), CompileRefusal>
     requires { IsSound compiler.old code.old }
     ensures { IsSound compiler.new code.new }
 {

@@ -7,7 +7,7 @@ use crate::rows::{Row, number_in};
 use crate::words::desk::Desk;
 use cell_machine::event::{Event, Op};
 use dictionary::WORD_LIMIT;
-use lexicon::{CompileRefusal, FIRST_HERE, Refusal, TextKind};
+use lexicon::{CompileRefusal, FIRST_HERE, LexiconRefusal, TextKind};
 use std::alloc::Global;
 use std::process::Abort;
 use std::test::Fail;
@@ -288,15 +288,15 @@ fn structure_in(name: &str) -> Option<Structure> {
     }
 }
 
-fn is_done(row: Row<'_>, done: Result<(), Refusal>) -> bool {
+fn is_done(row: Row<'_>, done: Result<(), LexiconRefusal>) -> bool {
     row.answer
         == match done {
             Ok(()) => "",
-            Err(Refusal::DefinitionOpen) => "DefinitionOpen",
-            Err(Refusal::Name) => "Name",
-            Err(Refusal::DictionaryFull) => "DictionaryFull",
-            Err(Refusal::Protected) => "Protected",
-            Err(Refusal::Token) => "Token",
+            Err(LexiconRefusal::DefinitionOpen) => "DefinitionOpen",
+            Err(LexiconRefusal::Name) => "Name",
+            Err(LexiconRefusal::DictionaryFull) => "DictionaryFull",
+            Err(LexiconRefusal::Protected) => "Protected",
+            Err(LexiconRefusal::Token) => "Token",
         }
 }
 

@@ -9,7 +9,7 @@ ghost use Rattle.lexicon.specs.Stands.{IsHere};
 use cell_machine::event::{Event, Work};
 use cell_machine::machine::Machine;
 use data_space::DataSpace;
-use lexicon::{CompileRefusal, Lexicon, Refusal, TextKind};
+use lexicon::{CompileRefusal, Lexicon, LexiconRefusal, TextKind};
 use stacks::{DataStack, ReturnStack};
 use std::alloc::Global;
 use std::test::Fail;
@@ -43,7 +43,7 @@ impl Desk {
         })
     }
 
-    pub(super) fn begin(&mut self, name: &[u8]) -> Result<(), Refusal>
+    pub(super) fn begin(&mut self, name: &[u8]) -> Result<(), LexiconRefusal>
         requires { IsReady self.old.lexicon self.old.machine self.old.returns }
         ensures ready { IsReady self.new.lexicon self.new.machine self.new.returns }
         ensures idle { self.new.machine ≡ self.old.machine }
@@ -94,7 +94,7 @@ impl Desk {
         self.lexicon.add_structure(structure)
     }
 
-    pub(super) fn create(&mut self, name: &[u8]) -> Result<(), Refusal>
+    pub(super) fn create(&mut self, name: &[u8]) -> Result<(), LexiconRefusal>
         requires { IsReady self.old.lexicon self.old.machine self.old.returns }
         ensures ready { IsReady self.new.lexicon self.new.machine self.new.returns }
         ensures idle { self.new.machine ≡ self.old.machine }
@@ -102,7 +102,7 @@ impl Desk {
         self.lexicon.create(name)
     }
 
-    pub(super) fn constant(&mut self, name: &[u8], cell: u16) -> Result<(), Refusal>
+    pub(super) fn constant(&mut self, name: &[u8], cell: u16) -> Result<(), LexiconRefusal>
         requires { IsReady self.old.lexicon self.old.machine self.old.returns }
         ensures ready { IsReady self.new.lexicon self.new.machine self.new.returns }
         ensures idle { self.new.machine ≡ self.old.machine }
@@ -110,7 +110,7 @@ impl Desk {
         self.lexicon.add_constant(name, cell)
     }
 
-    pub(super) fn vocabulary(&mut self, name: &[u8]) -> Result<(), Refusal>
+    pub(super) fn vocabulary(&mut self, name: &[u8]) -> Result<(), LexiconRefusal>
         requires { IsReady self.old.lexicon self.old.machine self.old.returns }
         ensures ready { IsReady self.new.lexicon self.new.machine self.new.returns }
         ensures idle { self.new.machine ≡ self.old.machine }
@@ -118,7 +118,7 @@ impl Desk {
         self.lexicon.add_vocabulary(name)
     }
 
-    pub(super) fn immediate(&mut self) -> Result<(), Refusal>
+    pub(super) fn immediate(&mut self) -> Result<(), LexiconRefusal>
         requires { IsReady self.old.lexicon self.old.machine self.old.returns }
         ensures ready { IsReady self.new.lexicon self.new.machine self.new.returns }
         ensures idle { self.new.machine ≡ self.old.machine }
