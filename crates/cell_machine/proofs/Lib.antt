@@ -25,7 +25,6 @@ pub mod Calling
 pub mod Served
 pub mod Deeds
 pub mod Shapes
-pub mod Trims
 pub mod Floors
 pub mod Wides
 pub mod OnSpace

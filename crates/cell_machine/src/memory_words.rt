@@ -5,7 +5,7 @@ ghost use Rattle.std.specs.Prelude.{◌≡◌, ◌+◌, ◌≤◌, ◌<◌, ◌%
 ghost use Rattle.data_space.specs.Space.{cell_at, with_cell, bytes_at, moved_up, moved_down, filled};
 ghost use Rattle.system_words.specs.declared.words.MemoryWord.TheVariants.{Fetch, Set, AddTo, FetchByte, SetByte, Count, MoveUp, MoveDown, Fill, Trailing};
 ghost use Rattle.system_words.specs.declared.words.Own.TheVariants.{Space, SetCell};
-ghost use Rattle.cell_machine.specs.Effects.{trimmed};
+ghost use Rattle.data_space.specs.Blanks.{trimmed};
 ghost use Rattle.cell_machine.specs.Deeds.{held, Did, Ended, Short};
 
 use crate::event::{Event, MachineFault};
@@ -427,7 +427,7 @@ fn low_byte(w: u16) -> u8
 }
 
 /// How many bytes are left without the blanks at the end.
-#[tactic(auto, using(crate::proofs::Trims::trimmed_last, crate::proofs::Trims::trimmed_blank))]
+#[tactic(auto, using(data_space::proofs::Trims::trimmed_last, data_space::proofs::Trims::trimmed_blank))]
 fn without_blanks(bytes: &[u8]) -> u16
     requires { length bytes.now < 65536 }
     ensures { result ≡ trimmed bytes.now }

@@ -3,7 +3,7 @@
 ghost use Rattle.std.specs.Prelude.{◌≡◌, ◌≢◌, ◌⊎◌, ◌<◌, ◌≤◌, ◌-◌, ◌+◌, ◌*◌, ◌++◌, ◌∷◌, ◌↔◌, [], length, map, take, true, OnOk, IfErr, IsErrOf};
 ghost use Rattle.std.specs.Io.KnownBytes.{Appends};
 ghost use Rattle.arrayvec.specs.ArrayVec.{array_vec_len};
-ghost use Rattle.cell_machine.specs.Effects.{trimmed};
+ghost use Rattle.data_space.specs.Blanks.{trimmed};
 ghost use Rattle.journal.specs.Maps.{Maps, contents};
 ghost use Rattle.journal.specs.Store.{StandsFor, DeviceFailed, DeviceWentWell, blocks_of, closed_of};
 ghost use Rattle.terminal.specs.Screen.{shown};
@@ -138,7 +138,7 @@ pub(super) fn without_blanks(line: &[u8]) -> &[u8]
 }
 
 /// How many bytes are left without the blanks at the end.
-#[tactic(auto, using(cell_machine::proofs::Trims::trimmed_last, cell_machine::proofs::Trims::trimmed_blank))]
+#[tactic(auto, using(data_space::proofs::Trims::trimmed_last, data_space::proofs::Trims::trimmed_blank))]
 fn text_length(line: &[u8]) -> usize
     ensures length { result ≡ trimmed line.now }
     ensures within { result ≤ length line.now }

@@ -4,7 +4,7 @@ use Rattle.std.specs.Prelude.{slice_index, if◌then◌else◌, ◌==◌, ◌&&�
 use Rattle.std.proofs.lemmas.Bool.Decides.{nat_tests}
 use Rattle.std.proofs.Math.Seq.{take-suc}
 use Rattle.std.proofs.lemmas.List.{length-take}
-use Rattle.cell_machine.specs.Effects.{trimmed}
+use Rattle.data_space.specs.Blanks.{trimmed}
 
 -- a list that ends with a byte that is no blank
 trimmed_snoc : (s : List ℕ) (b : ℕ) → b ≢ 32 → trimmed (s ++ b ∷ []) ≡ suc (length s)
