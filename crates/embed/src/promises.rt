@@ -20,11 +20,11 @@ ghost use Rattle.embed.specs.Saving.{with_blocks};
 ghost use Rattle.embed.specs.Sessions.{BreaksSession, RanNothing, RunsSession, TellsSession};
 
 use crate::block_calls::{read_block, recover, save_blocks};
+use crate::image_sessions::run_image;
 use crate::kept_calls::{open_kept, read_kept, save_kept};
 use crate::making::make_image;
 use crate::open_store::{OpenStore, close, gate, told_kept};
 use crate::refusal::{Refusal, told};
-use crate::running::run_image;
 use sector_disk::SectorDevice;
 use std::alloc::Global;
 use std::io::{Read, Write};

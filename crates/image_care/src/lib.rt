@@ -3,9 +3,9 @@
 
 mod all_blocks;
 mod blocks;
+mod copy_source;
 mod copying;
 mod examining;
-mod giving;
 pub mod laws;
 mod laying;
 mod listing;
@@ -13,8 +13,8 @@ mod looking;
 mod one_block;
 pub mod pages;
 mod reading_files;
+mod salvage_source;
 mod salvaging;
-mod taking;
 mod view;
 mod whole_copies;
 
@@ -24,6 +24,6 @@ pub use examining::{Examined, examine};
 pub use looking::look;
 pub use one_block::{read_block, read_found};
 pub use reading_files::{ReadOnlyFile, ReadingFiles};
+pub use salvage_source::Taken;
 pub use salvaging::salvage;
-pub use taking::Taken;
 pub use view::{Listing, View};

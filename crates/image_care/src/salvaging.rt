@@ -24,7 +24,7 @@ ghost use Rattle.image_care.specs.View.{is_journal, sectors_of};
 
 use crate::laying::lay;
 use crate::listing::read_listing;
-use crate::taking::{Taken, TakenBlocks, nothing_noted};
+use crate::salvage_source::{Taken, TakenBlocks, nothing_noted};
 use crate::view::{Listing, View};
 use journal::NamedRecord;
 use journal::layout::BlockCount;

@@ -4,8 +4,8 @@ use Rattle.std.specs.Prelude.{◌≡◌, ◌==◌, ◌+◌, ◌||◌, not, ℕ, 
 use Rattle.std.specs.List.{flat_map}
 use lib.Pointwise.{pointwise}
 use Rattle.sector_disk.specs.Disk.{Image, Disk}
-use Rattle.sector_disk.specs.declared.memory.Fate.{Fate}
-use Rattle.sector_disk.specs.declared.memory.Fate.TheVariants.{Lost, Kept, Torn}
+use Rattle.sector_disk.specs.declared.memory_disk.Fate.{Fate}
+use Rattle.sector_disk.specs.declared.memory_disk.Fate.TheVariants.{Lost, Kept, Torn}
 use Rattle.journal.specs.Layout.{label_of}
 use Rattle.journal.specs.Images.{block_of}
 use Rattle.rows.specs.Stops.{DiskCall, Write, Sync, after_calls, at_each_stop, synced_disk}

@@ -6,8 +6,8 @@ use lib.Pointwise.{pointwise}
 use Rattle.sector_disk.specs.Coarse.{in_eights}
 use Rattle.sector_disk.specs.Disk.{Image, Disk, written, settled}
 use Rattle.sector_disk.specs.Stop.{stopped}
-use Rattle.sector_disk.specs.declared.memory.Fate.{Fate}
-use Rattle.sector_disk.specs.declared.memory.Fate.TheVariants.{Lost, Kept, Torn}
+use Rattle.sector_disk.specs.declared.memory_disk.Fate.{Fate}
+use Rattle.sector_disk.specs.declared.memory_disk.Fate.TheVariants.{Lost, Kept, Torn}
 use Rattle.journal.specs.Layout.{label_of}
 use Rattle.sha2.specs.Sha256.{sha256, first_words, schedule, rounds, compress, hash_after, digest_bytes}
 use Rattle.journal.specs.Images.{block_of, is_damaged}

@@ -13,7 +13,7 @@ use Rattle.sector_disk.specs.Whole.{Goes}
 use Rattle.sector_disk.specs.Moments.{Elapses}
 use Rattle.sector_disk.proofs.Moments.{elapses_then, leaves_then}
 use Rattle.sector_disk.proofs.Units.{unless, when}
-use Rattle.sector_disk.specs.declared.host.HostFile.{Ghosts}
+use Rattle.sector_disk.specs.declared.host_file.HostFile.{Ghosts}
 
 same_refl : (k : ℕ) (f : FileBytes) → SameSector k f f
 same_refl k f = record { bytes = λ i below. refl; unsynced = refl }

@@ -2,7 +2,7 @@
 use Rattle.std.specs.Prelude.{◌≡◌, ℕ, ◌<◌, ◌*◌, ◌/◌, ◌%◌, ◌^◌, ◌==◌, ◌&&◌, nat_lt, if◌then◌else◌, false}
 use Rattle.sector_disk.specs.FileBytes.{FileBytes}
 use Rattle.sector_disk.specs.Moments.{Elapses}
-use Rattle.sector_disk.specs.declared.host.HostFile.{Ghosts}
+use Rattle.sector_disk.specs.declared.host_file.HostFile.{Ghosts}
 
 -- how many sectors a file of so many bytes has: none where they don't come out even, or are 2^32 or more
 abbrev pub sectors_in : ℕ → ℕ

@@ -4,10 +4,10 @@ use Rattle.std.specs.Prelude.{IfSome, MatchOption}
 use Rattle.sector_disk.specs.Opening.{WentOn}
 use Rattle.sector_disk.specs.SectorFile.{file_of, sectors_of}
 use Rattle.sector_disk.specs.declared.device.SectorDevice as device
-use Rattle.sector_disk.specs.declared.file.SectorFile.{SectorFile}
-use Rattle.sector_disk.specs.declared.host.HostFile.{Ghosts}
-use Rattle.sector_disk.specs.declared.opening.FileFault.{FileFault}
-use Rattle.sector_disk.specs.declared.opening.FileFault.TheVariants as file
+use Rattle.sector_disk.specs.declared.sector_file.SectorFile.{SectorFile}
+use Rattle.sector_disk.specs.declared.host_file.HostFile.{Ghosts}
+use Rattle.sector_disk.specs.declared.host_files.FileFault.{FileFault}
+use Rattle.sector_disk.specs.declared.host_files.FileFault.TheVariants as file
 use Rattle.terminal.specs.Failed.{IsUnmade, MakesSome, NotFinished, NotUpgraded}
 use Rattle.terminal.specs.Failures.{of_file}
 use Rattle.terminal.specs.Files.{IsUnfinished}

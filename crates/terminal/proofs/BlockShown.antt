@@ -5,8 +5,8 @@ use Rattle.std.proofs.lemmas.Bool.{lt-ltb}
 use Rattle.std.specs.Io.KnownBytes.{Appends}
 use Rattle.sector_disk.specs.Disk.{Image, MayLeave}
 use Rattle.sector_disk.specs.declared.device.SectorDevice.{Ghosts}
-use Rattle.sector_disk.specs.declared.opening.FileFault.{FileFault}
-use Rattle.sector_disk.specs.declared.opening.FileFault.TheVariants.{Exists}
+use Rattle.sector_disk.specs.declared.host_files.FileFault.{FileFault}
+use Rattle.sector_disk.specs.declared.host_files.FileFault.TheVariants.{Exists}
 use Rattle.journal.specs.Calls.{BeginsAtMost, Proceeds, ReadsAtMost, StopsLeave}
 use Rattle.journal.specs.Maps.{block_in, contents, fresh}
 use Rattle.journal.proofs.Blocks.{at_none}

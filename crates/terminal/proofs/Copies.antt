@@ -26,7 +26,7 @@ use Rattle.image_care.specs.Salvaged.{standing_in}
 use Rattle.image_care.specs.Standing.{is_nowhere, is_other, standing_of}
 use Rattle.image_care.specs.declared.pages.standing.Standing.{Standing}
 use Rattle.image_care.specs.declared.pages.standing.Standing.TheVariants.{Current, Other, Nowhere}
-use Rattle.image_care.specs.declared.taking.Taken.{Taken}
+use Rattle.image_care.specs.declared.salvage_source.Taken.{Taken}
 use Rattle.sessions.specs.Devices.{Becomes}
 use Rattle.terminal.specs.Copying.{count_on, no_recovery, pages_no_recovery, salvage_told, sectors_like, standing_by}
 use Rattle.terminal.specs.Damage.{damage_line, damage_lines, damage_told}

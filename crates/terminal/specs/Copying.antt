@@ -19,7 +19,7 @@ use Rattle.image_care.specs.Salvaged.{IsUndamaged, reads_to_salvage, salvaged_bl
 use Rattle.image_care.specs.Standing.{standing_of}
 use Rattle.image_care.specs.declared.pages.standing.Standing.{Standing}
 use Rattle.image_care.specs.declared.pages.standing.Standing.TheVariants.{Current, Other, Nowhere}
-use Rattle.image_care.specs.declared.taking.Taken.{Taken}
+use Rattle.image_care.specs.declared.salvage_source.Taken.{Taken}
 use Rattle.sessions.specs.Devices.{Becomes}
 use Rattle.terminal.specs.Checked.{line}
 use Rattle.terminal.specs.Damage.{damage_told}

@@ -6,8 +6,8 @@ use Rattle.journal.specs.Store.{StandsFor, blocks_of, closed_of, device_of, pend
 use Rattle.journal.specs.Suits.{suits}
 use Rattle.sector_disk.specs.Opening.{AreZeros, KeepsGoing, WentOn, sectors_in}
 use Rattle.sector_disk.specs.SectorFile.{file_of, sectors_of}
-use Rattle.sector_disk.specs.declared.file.SectorFile.{SectorFile}
-use Rattle.sector_disk.specs.declared.host.HostFile.{Ghosts}
+use Rattle.sector_disk.specs.declared.sector_file.SectorFile.{SectorFile}
+use Rattle.sector_disk.specs.declared.host_file.HostFile.{Ghosts}
 use Rattle.terminal.specs.Done.{Recovers, blocks_on, maps_on}
 
 module _ {H : Type 0} (G : Ghosts H) where

@@ -19,7 +19,7 @@ ghost use Rattle.terminal.specs.Transfer.{IsFound, exported, exports};
 use super::exporting::print_bytes;
 use super::failure::Failure;
 use super::left::Left;
-use super::opening::export_over;
+use super::over_devices::export_over;
 use command_line::orders::Form;
 use image_care::{View, look, read_found};
 use sector_disk::{FileFault, HostFile, HostFiles, SectorDevice, SectorFile, open_disk};

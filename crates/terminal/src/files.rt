@@ -15,7 +15,7 @@ use super::failure::Failure;
 use super::images::{make_newer_over, make_over, put_text};
 use super::importing::read_blocks;
 use super::left::Left;
-use super::opening::{import_over, put_over};
+use super::over_devices::{import_over, put_over};
 use command_line::orders::{Form, Layout};
 use journal::layout::MOST_BLOCKS_1;
 use recovery::upgrade;

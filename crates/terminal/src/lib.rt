@@ -28,7 +28,7 @@ mod input;
 pub mod laws;
 mod left;
 mod newer_upgrading;
-mod opening;
+mod over_devices;
 mod program;
 mod salvaging;
 mod screen;

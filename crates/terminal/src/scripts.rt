@@ -19,7 +19,7 @@ use super::files::opened;
 use super::importing::{MOST_BYTES, read_all};
 use super::input::Input;
 use super::left::Left;
-use super::opening::run_over;
+use super::over_devices::run_over;
 use command_line::orders::Script;
 use interpreter::Memory;
 use interpreter::promise::Lines;

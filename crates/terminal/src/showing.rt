@@ -17,7 +17,7 @@ ghost use Rattle.terminal.specs.Shown.{ShowsImage, block_refusal};
 use super::checking::print;
 use super::failure::Failure;
 use super::left::Left;
-use super::opening::list_over;
+use super::over_devices::list_over;
 use super::screen::listing;
 use image_care::read_block;
 use sector_disk::{FileFault, HostFile, HostFiles, SectorDevice, SectorFile, open_disk};

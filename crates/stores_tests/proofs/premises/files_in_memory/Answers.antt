@@ -1,5 +1,5 @@
 use Rattle.std.proofs.Common.{refl}
-use Rattle.sector_disk.specs.contracts.file.SectorFileSectorDevice.TheImpl.{ghosts}
+use Rattle.sector_disk.specs.contracts.sector_file.SectorFileSectorDevice.TheImpl.{ghosts}
 use Rattle.sector_disk.specs.contracts.memory_file.MemoryFile.{the_row}
 use Rattle.sector_disk.specs.contracts.memory_file.MemoryFileHostFile.TheImpl as file
 use Rattle.stores_tests.proofs.Suited.{both}

@@ -1,5 +1,0 @@
-use Rattle.image_care.proofs.Takings.{first_notes}
-use Rattle.image_care.proofs.taking.nothing_noted.Goals as goal
-
-pub returns : goal.returns
-returns c = first_notes
