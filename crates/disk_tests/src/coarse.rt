@@ -4,10 +4,10 @@ use crate::contents::holds;
 use sector_disk::{Coarse, Fate, Fused, MemoryDisk, SectorDevice};
 use std::alloc::{AllocError, Global};
 use std::test::Fail;
-use stops::disks::{formatted, opened, put, spill};
-use stops::fates::unsynced_sectors;
-use stops::fillings::{left_in, shown};
-use stops::medium::OLDER;
+use test_stops::disks::{formatted, opened, put, spill};
+use test_stops::fates::unsynced_sectors;
+use test_stops::fillings::{left_in, shown};
+use test_stops::medium::OLDER;
 
 #[test]
 fn a_write_touches_the_sectors_of_its_unit(rt: HostRuntime) -> Result<(), Fail> {

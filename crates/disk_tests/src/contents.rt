@@ -3,8 +3,8 @@ use crate::assertions::{Assert, assert_same};
 use sector_disk::SectorDevice;
 use std::process::Abort;
 use std::test::Fail;
-use stops::disks::{block, sector};
 use stores::Store;
+use test_stops::disks::{block, sector};
 
 /// Compares a sector.
 pub(crate) fn holds<D: SectorDevice>(

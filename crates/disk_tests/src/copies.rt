@@ -6,10 +6,10 @@ use journal::layout;
 use recovery::{OpenFault, UpgradeFault};
 use sector_disk::{Counts, Fate, Fused, MemoryDisk, SectorDevice};
 use std::test::Fail;
-use stops::disks::{SECTORS, check, formatted, formatted_with, opened, put, sector, spill};
-use stops::fates::{count_of_stops, stopped, unsynced_sectors};
-use stops::fillings::{left_in, shown};
-use stops::medium::OLDER;
+use test_stops::disks::{SECTORS, check, formatted, formatted_with, opened, put, sector, spill};
+use test_stops::fates::{count_of_stops, stopped, unsynced_sectors};
+use test_stops::fillings::{left_in, shown};
+use test_stops::medium::OLDER;
 
 // An open gate.
 fn gate() -> [u8; 512] {

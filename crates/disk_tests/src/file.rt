@@ -3,7 +3,7 @@ use crate::contents::are_full;
 use sector_disk::{FileDisk, FileFault, SectorDevice};
 use std::fs;
 use std::test::Fail;
-use stops::disks::{put, sector};
+use test_stops::disks::{put, sector};
 
 #[test]
 fn a_file_keeps_what_is_written(rt: HostRuntime) -> Result<(), Fail> {

@@ -3,7 +3,7 @@ use crate::contents::are_full;
 use sector_disk::{Counts, Fused, MemoryDisk, SectorDevice};
 use std::process::Abort;
 use std::test::Fail;
-use stops::disks::{put, sector};
+use test_stops::disks::{put, sector};
 
 // Six calls, and whether each of them failed.
 fn outcomes<D: SectorDevice>(disk: &mut D) -> [bool; 6] {

@@ -7,7 +7,7 @@ use sector_disk::{Fused, MemoryDisk, SectorDevice};
 use sha2::{Digest, Sha256};
 use std::process::Abort;
 use std::test::Fail;
-use stops::disks::{BLOCKS, SECTORS, formatted, opened, put, sector, spill};
+use test_stops::disks::{BLOCKS, SECTORS, formatted, opened, put, sector, spill};
 
 /// A commit record with these first bytes, and the digest that belongs to it over slots that are full of these bytes.
 pub(crate) fn record(bits: &[u8], slots: &[u8]) -> [u8; 512] {

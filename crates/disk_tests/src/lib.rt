@@ -1,5 +1,5 @@
 //! Tests of devices, journal, recovery, image_care and buffers, by their public calls alone: bytes, layouts, digests, sizes and
-//! refusals. What a stop or a failing call leaves of one image stands in the texts that `stop_texts` follows.
+//! refusals. What a stop or a failing call leaves of one image stands in the texts that `test_stop_texts` follows.
 #![tactic(auto)]
 
 #[cfg(test)]

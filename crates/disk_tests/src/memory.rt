@@ -2,7 +2,7 @@ use crate::assertions::{Assert, assert_same};
 use crate::contents::{are_full, holds};
 use sector_disk::{Counts, Fate, MemoryDisk, SectorDevice};
 use std::test::Fail;
-use stops::disks::put;
+use test_stops::disks::put;
 
 // The first 256 bytes are new and the rest old.
 fn half_torn(new: u8, old: u8) -> [u8; 512] {

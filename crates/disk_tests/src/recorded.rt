@@ -2,7 +2,7 @@ use crate::assertions::{Assert, assert_same};
 use crate::contents::are_full;
 use sector_disk::{Fate, MemoryDisk, Recorded, SectorDevice};
 use std::test::Fail;
-use stops::disks::{put, sector};
+use test_stops::disks::{put, sector};
 
 #[test]
 fn each_moment_is_told(rt: HostRuntime) -> Result<(), Fail> {

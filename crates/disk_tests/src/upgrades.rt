@@ -5,10 +5,10 @@ use journal::layout;
 use recovery::{OpenFault, UpgradeFault, format, upgrade};
 use sector_disk::{Fate, Fused, MemoryDisk};
 use std::test::Fail;
-use stops::disks::{BLOCKS, SECTORS, block, check, formatted, opened, put, sector, spill};
-use stops::fates::{count_of_stops, stopped, unsynced_sectors};
-use stops::fillings::{left_in, shown};
-use stops::medium::OLDER;
+use test_stops::disks::{BLOCKS, SECTORS, block, check, formatted, opened, put, sector, spill};
+use test_stops::fates::{count_of_stops, stopped, unsynced_sectors};
+use test_stops::fillings::{left_in, shown};
+use test_stops::medium::OLDER;
 
 // An image of layout 1 whose save of blocks 1 and 2, with bytes 65 and 66, has its gate open and synced. In the homes they
 // are blank, or torn.

@@ -182,7 +182,7 @@ fn follow_new(rt: &impl Abort, alloc: Global, text: &str) -> Result<(), Fail> {
     Ok(())
 }
 
-// Their names and marks are in the texts that `transcripts` follows.
+// Their names and marks are in the texts that `test_transcripts` follows.
 #[test]
 fn the_system_words_are_primitives_of_forth(rt: HostRuntime) -> Result<(), Fail> {
     let dictionary = Dictionary::new(rt.alloc())?;
