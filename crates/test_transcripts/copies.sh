@@ -1,6 +1,6 @@
 #!/bin/sh
 # Copies the pages and the screens of their examples into data/: a run of the gate sees that folder, and nothing else of the repository. And what tests ask
-# for into each crate of tests that uses it: a library may not end a program, so it stands in each.
+# for from the tests of storage to those of the program: a library may not end a program, so it stands in both.
 # usage: crates/test_transcripts/copies.sh             copies them
 #        crates/test_transcripts/copies.sh --check     shows where a copy differs, and ends with status 1 where one does
 set -eu
@@ -8,7 +8,6 @@ cd "$(dirname "$0")/../.."
 data=crates/test_transcripts/data
 pages='README.md docs/TUTORIAL.md docs/MANUAL.md docs/LANGUAGE.md docs/PORTING.md examples library'
 asked=src/assertions.rt
-asking='test_program shadow_tests image_care_tests'
 copy_to() {
     mkdir -p "$1/docs"
     for page in $pages; do
@@ -24,12 +23,8 @@ if [ "${1:-}" = --check ]; then
     for page in $pages; do
         diff -r "$data/$page" "$fresh/$page" || status=1
     done
-    for crate in $asking; do
-        diff "crates/$crate/$asked" "crates/disk_tests/$asked" || status=1
-    done
+    diff "crates/test_program/$asked" "crates/test_storage/$asked" || status=1
     exit "$status"
 fi
 copy_to "$data"
-for crate in $asking; do
-    cp "crates/disk_tests/$asked" "crates/$crate/$asked"
-done
+cp "crates/test_storage/$asked" "crates/test_program/$asked"
