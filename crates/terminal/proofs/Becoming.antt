@@ -17,7 +17,7 @@ use Rattle.terminal.specs.Done.{Exports, ImportsBlocks, ListsBlock, PutsBlock, U
 use Rattle.sessions.specs.Devices.{Becomes}
 use Rattle.terminal.specs.Files.{OpensAs}
 use Rattle.terminal.specs.Findings.{AreSound, blocks_for, said_all}
-use Rattle.terminal.specs.Older as older
+use Rattle.terminal.specs.Layout2 as older
 use Rattle.terminal.specs.Imported.{ImportsSome}
 use Rattle.terminal.specs.Putting.{PutsSome}
 use Rattle.terminal.specs.Screen.{listing}

@@ -11,8 +11,8 @@ use Rattle.command_line.specs.declared.orders.Layout.{Layout}
 use Rattle.command_line.specs.declared.orders.Layout.TheVariants.{Two, Three}
 use Rattle.terminal.specs.Done.{EachLeft}
 use Rattle.terminal.specs.Failed.{NotUpgraded, UpgradeFailed, UpgradeFails}
-use Rattle.terminal.specs.Newer.{UpgradeDone}
-use Rattle.terminal.specs.Older as older
+use Rattle.terminal.specs.Layout3.{UpgradeDone}
+use Rattle.terminal.specs.Layout2 as older
 use Rattle.terminal.specs.declared.failure.Failure.{Failure}
 use Rattle.terminal.specs.declared.left.Left.{Left}
 use Rattle.terminal.proofs.Becoming.{proceeded}

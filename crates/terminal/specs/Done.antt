@@ -20,7 +20,7 @@ use Rattle.command_line.specs.declared.orders.Form.{Form}
 use Rattle.terminal.specs.Findings.{AreSound, blocks_for, said_all}
 use Rattle.terminal.specs.declared.left.Left.{Left}
 use Rattle.terminal.specs.declared.left.Left.TheVariants.{Nothing, Opened, Made, Upgraded as Both, Looked, Compared as LookedBoth, Copied}
-use Rattle.terminal.specs.Older as older
+use Rattle.terminal.specs.Layout2 as older
 use Rattle.terminal.specs.Screen.{listing, screen_of}
 use Rattle.terminal.specs.Transfer.{as_blocks, exports, spilled_from}
 use Rattle.sessions.specs.Devices.{Becomes}

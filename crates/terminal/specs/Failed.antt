@@ -28,8 +28,8 @@ use Rattle.terminal.specs.Copying.{MadeOf, sectors_for_copy, sectors_for_salvage
 use Rattle.terminal.specs.Done.{BreaksFrom, DoneOn, LeavesBlocks, MeansOn, Recovers, blocks_on, maps_on, meant_by}
 use Rattle.terminal.specs.Failures.{of_image, of_run}
 use Rattle.terminal.specs.Findings.{AreSound, said_all}
-use Rattle.terminal.specs.Newer.{meant_by_older}
-use Rattle.terminal.specs.Older as older
+use Rattle.terminal.specs.Layout3.{meant_by_older}
+use Rattle.terminal.specs.Layout2 as older
 use Rattle.terminal.specs.Scripts.{IsLed, StopsFrom, load_line}
 use Rattle.terminal.specs.Transfer.{as_blocks, spilled_from}
 use Rattle.terminal.specs.declared.failure.Failure.{Failure}

@@ -6,8 +6,8 @@ pub mod InMemory
 pub mod Failures
 pub mod Damage
 pub mod Done
-pub mod Older
-pub mod Newer
+pub mod Layout2
+pub mod Layout3
 pub mod Copying
 pub mod Shown
 pub mod Care

@@ -11,7 +11,7 @@ use Rattle.terminal.specs.Compared.{DiffDone, TellsEach}
 use Rattle.terminal.specs.Done.{DoneOn, ImportsBlocks, LooksAt, PutsBlock}
 use Rattle.terminal.specs.Failed.{CopyFailed, DiffFailed, ExportFailed, FailsAfter, FailsOn, ImportFails, IsUntouched, ListFailed, NewFailed, PutFails, ReadingFails, SalvageFailed, ScriptFailed, UpgradeFailed}
 use Rattle.terminal.specs.Failures.{status_of}
-use Rattle.terminal.specs.Newer.{NewDone, UpgradeDone}
+use Rattle.terminal.specs.Layout3.{NewDone, UpgradeDone}
 use Rattle.terminal.specs.Scripts.{RunsScript, StopsScript}
 use Rattle.terminal.specs.declared.failure.Failure.{Failure}
 use Rattle.terminal.specs.declared.left.Left.{Left}

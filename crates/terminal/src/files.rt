@@ -8,7 +8,7 @@ ghost use Rattle.terminal.specs.Done.{DoneOn, EachLeft, ImportsBlocks, LooksAt, 
 ghost use Rattle.recovery.specs.Steps.{WentWell};
 ghost use Rattle.terminal.specs.Failed.{FailsAfter, FailsOn, ImportFails, IsUnmade, IsUntouched, NewFailed, PutFails, UpgradeFailed, UpgradeFails};
 ghost use Rattle.terminal.specs.Files.{IsMade, IsOpened, IsUnfinished};
-ghost use Rattle.terminal.specs.Newer.{MakesNewer, UpgradeDone};
+ghost use Rattle.terminal.specs.Layout3.{MakesNewer, UpgradeDone};
 ghost use Rattle.terminal.specs.Putting.{LeavesSome, PutsSome};
 
 use super::failure::Failure;

@@ -18,7 +18,7 @@ ghost use Rattle.terminal.specs.Done.{LeavesBlocks, MakesBlank, meant_by};
 ghost use Rattle.terminal.specs.Failed.{MakingFails, NewerMakingFails, RefusesImage};
 ghost use Rattle.terminal.specs.Failures.{of_image};
 ghost use Rattle.terminal.specs.Files.{OpensAs};
-ghost use Rattle.terminal.specs.Newer.{MakesNewer};
+ghost use Rattle.terminal.specs.Layout3.{MakesNewer};
 ghost use Rattle.terminal.specs.Putting.{PutsSome, LeavesSome};
 ghost use Rattle.terminal.specs.Screen.{screen_of, listing};
 

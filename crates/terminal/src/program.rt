@@ -15,7 +15,7 @@ ghost use Rattle.terminal.specs.Failed.{NewFailed, ScriptFailed, UpgradeFailed};
 ghost use Rattle.sessions.specs.Devices.{Becomes};
 ghost use Rattle.terminal.specs.Failures.{status_of};
 ghost use Rattle.terminal.specs.Files.{IsMade, IsOpened, IsUnfinished};
-ghost use Rattle.terminal.specs.Newer.{NewDone, UpgradeDone};
+ghost use Rattle.terminal.specs.Layout3.{NewDone, UpgradeDone};
 ghost use Rattle.terminal.specs.Scripts.{RunsScript, StopsScript, is_plain};
 ghost use Rattle.terminal.specs.InMemory.{AsksForNothing, IsForMemory, CompletesInMemory, BreaksInMemory, IsHelp};
 ghost use Rattle.sessions.specs.Sessions.{BreaksOff};
@@ -31,8 +31,8 @@ use super::files::{
     check_import, import_image, make_image, make_newer_image, put_into_image, upgrade_image,
 };
 use super::input::Input;
+use super::layout_3_upgrading::upgrade_to_newer;
 use super::left::Left;
-use super::newer_upgrading::upgrade_to_newer;
 use super::salvaging::salvage_image;
 use super::scripts::run_image;
 use super::showing::list_image;

@@ -13,5 +13,5 @@ pub mod Images
 pub mod Stops
 pub mod Openings
 pub mod Formats
-pub mod NewerStops
-pub mod NewerSessions
+pub mod Layout3Stops
+pub mod Layout3Sessions

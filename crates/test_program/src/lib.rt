@@ -8,11 +8,11 @@ mod copies;
 #[cfg(test)]
 mod files_in_memory;
 #[cfg(test)]
+mod layout_3_images;
+#[cfg(test)]
+mod layout_3_images_in_memory;
+#[cfg(test)]
 mod lines;
-#[cfg(test)]
-mod newer_images;
-#[cfg(test)]
-mod newer_images_in_memory;
 #[cfg(test)]
 mod scripts;
 #[cfg(test)]

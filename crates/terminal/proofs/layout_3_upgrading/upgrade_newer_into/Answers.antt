@@ -5,7 +5,7 @@ use Rattle.shadow.specs.Upgraded.{known_blocks}
 use Rattle.terminal.specs.Files.{IsMade}
 use Rattle.terminal.proofs.Begun.{not_upgraded}
 use Rattle.terminal.proofs.Closing.{on_err_weaker}
-use Rattle.terminal.proofs.newer_upgrading.upgrade_newer_into.Goals as goal
+use Rattle.terminal.proofs.layout_3_upgrading.upgrade_newer_into.Goals as goal
 
 pub returns-in-Ok-clause-made : goal.returns-in-Ok-clause-made
 returns-in-Ok-clause-made g c =

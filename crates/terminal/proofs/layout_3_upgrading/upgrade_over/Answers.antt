@@ -1,10 +1,10 @@
 use Rattle.std.proofs.Common.{◌≡◌, ◌∙◌, sym}
 use Rattle.journal.specs.PageLayout.{sectors_for}
 use Rattle.shadow.specs.Upgraded.{known_blocks}
-use Rattle.terminal.proofs.NewerSizes.{newer_size, older_sound}
+use Rattle.terminal.proofs.Layout3Sizes.{newer_size, older_sound}
 use Rattle.journal.proofs.Suited.{stays}
 use Rattle.terminal.proofs.Copies.{never_stopped}
-use Rattle.terminal.proofs.newer_upgrading.upgrade_over.Goals as goal
+use Rattle.terminal.proofs.layout_3_upgrading.upgrade_over.Goals as goal
 
 pub returns-in-Ok-clause-upgrades : goal.returns-in-Ok-clause-upgrades
 returns-in-Ok-clause-upgrades g c =

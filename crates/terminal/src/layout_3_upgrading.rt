@@ -13,7 +13,7 @@ ghost use Rattle.terminal.specs.Failures.{of_upgrade};
 ghost use Rattle.terminal.specs.Files.{IsMade, IsOpened, IsUnfinished};
 ghost use Rattle.terminal.specs.Done.{EachLeft, blocks_on};
 ghost use Rattle.terminal.specs.Failed.{NewerUpgradeFails, UpgradeFailed};
-ghost use Rattle.terminal.specs.Newer.{LeavesNewer, UpgradeDone, UpgradesNewer};
+ghost use Rattle.terminal.specs.Layout3.{LeavesNewer, UpgradeDone, UpgradesNewer};
 
 use super::failure::Failure;
 use super::files::{begun_beside, make_newer_file};

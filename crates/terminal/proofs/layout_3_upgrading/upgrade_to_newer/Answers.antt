@@ -2,7 +2,7 @@ use Rattle.std.proofs.Common.{inl, refl}
 use Rattle.command_line.specs.declared.orders.Layout.TheVariants.{Three}
 use Rattle.terminal.proofs.Ended.{unopened}
 use Rattle.terminal.proofs.Upgrading.{upgrade_done, upgrade_failed}
-use Rattle.terminal.proofs.newer_upgrading.upgrade_to_newer.Goals as goal
+use Rattle.terminal.proofs.layout_3_upgrading.upgrade_to_newer.Goals as goal
 
 pub returns-in-Ok-clause-made : goal.returns-in-Ok-clause-made
 returns-in-Ok-clause-made g c =

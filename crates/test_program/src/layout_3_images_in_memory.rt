@@ -1,5 +1,5 @@
 //! Images of layout 3 on disks in memory, whose calls fail and are stopped, that are checked, copied, salvaged, and listed and exported by reads alone.
-use super::newer_images::{LENGTH, NAMED};
+use super::layout_3_images::{LENGTH, NAMED};
 use super::stopping::{Disk, FATES, Fate, OneDisk, Opened};
 use super::support::{
     DEVICE_FAULT, Left, call_over, call_over_both, check, overwrite, run_over_files, told_of_making,
