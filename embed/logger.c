@@ -8,7 +8,7 @@
 #include <fcntl.h>
 #include <stdio.h>
 #include <stdlib.h>
-#include <string.h>
+#include <sys/file.h>
 #include <sys/stat.h>
 #include <unistd.h>
 
@@ -31,6 +31,7 @@ static int write_sector(void *context, uint32_t k, const uint8_t bytes[SECTOR_BY
     return pwrite(file, bytes, SECTOR_BYTES, (off_t)k * SECTOR_BYTES) != SECTOR_BYTES;
 }
 
+/* (After a sync that failed this program ends. One that went on would have to fail each later one too, as forth.c does.) */
 static int sync_all(void *context) {
     (void)context;
     return fdatasync(file);
@@ -85,9 +86,16 @@ static uint8_t begin(void) {
     return answer;
 }
 
+/* Opens the image, or makes an empty file. The lock tells other programs that it is in use: `forth83` then runs nothing over it, and copies no half save. */
+static int open_image(const char *name) {
+    file = open(name, O_RDWR | O_CREAT | O_CLOEXEC, 0666);
+    return file < 0 || flock(file, LOCK_EX | LOCK_NB);
+}
+
 int main(int argc, char **argv) {
     const struct silgwyrad_device device = {NULL, read_sector, write_sector, sync_all};
-    if (argc < 2 || (file = open(argv[1], O_RDWR | O_CREAT | O_CLOEXEC, 0666)) < 0) return fprintf(stderr, "usage: logger IMAGE READING ..\n"), 2;
+    if (argc < 2) return fprintf(stderr, "usage: logger IMAGE READING ..\n"), 2;
+    if (open_image(argv[1])) return perror(argv[1]), 2;
     silgwyrad_use_device(DEVICE, &device);
     uint8_t answer = begin();
     for (int i = 2; i < argc && !answer; i++) answer = add((uint32_t)strtoul(argv[i], NULL, 10));
