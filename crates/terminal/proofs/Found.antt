@@ -55,8 +55,7 @@ module _ {D : Type 0} (G : Ghosts D) (present : (d : D) → IsTrue (G.keeps_mode
   now device old new next found keeps = present next (suits_keeps G keeps_both next (subst IsTrue (sym found.suited) keeps))
 
   pub stopped : StoppedIsFound G
-  stopped device old new next P stops found keeps =
-      stops (G.disk next).content (found.left (G.disk next).content (now device old new next found keeps))
+  stopped device old new next found keeps = found.left (G.disk next).content (now device old new next found keeps)
 
   pub ended : EndedIsFound G
   ended device after next blocks leaves found keeps long =
@@ -96,7 +95,7 @@ module _ {D : Type 0} (G : Ghosts D) (present : (d : D) → IsTrue (G.keeps_mode
       (subst (λ (n : ℕ). Means n blocks (G.disk next).content) (sym found.sectors) means)) runs in
       let two = subst (λ (n : ℕ). Means n (meant_by G device) (G.disk next).content
       ⊎ Means n (latest (spilled (maps_on G device) b saves.1)) (G.disk next).content) put.recovers.sectors
-      (stopped device put.begun after next _ saves.3.stops found keeps) in (
+      (saves.3.stops (G.disk next).content (stopped device put.begun after next found keeps)) in (
         saves.0,
         saves.1,
         saves.2,

@@ -3,7 +3,6 @@ use Rattle.std.specs.Prelude.{◌≡◌, ◌⊎◌, ℕ, ◌+◌, ◌-◌, IsTru
 use Rattle.std.specs.Io.KnownBytes.{Appends}
 use Rattle.sector_disk.specs.Disk.{Image, MayLeave}
 use Rattle.sector_disk.specs.declared.device.SectorDevice.{Ghosts}
-use Rattle.journal.specs.Calls.{StopsLeave}
 use Rattle.journal.specs.Maps.{fresh, latest, spilled}
 use Rattle.journal.specs.Suits.{suits}
 use Rattle.recovery.specs.Formatted.{blank_blocks}
@@ -22,10 +21,10 @@ module _ {D : Type 0} (G : Ghosts D) where
     pub suited : suits G next ≡ suits G device
     pub left : (image : Image) → MayLeave (G.disk next) image → G.left_since new (G.time old) image
 
-  -- What a stop of a command at any moment may leave is what is found.
+  -- What is found is what a stop of the command at some moment may leave: so each clause on its stops says what is found.
   abbrev pub StoppedIsFound : Type 0
-  StoppedIsFound = (device old new next : D) (P : Image → Type 0) → StopsLeave G old new P → IsFoundAgain device old new next
-      → IsTrue (suits G device) → P (G.disk next).content
+  StoppedIsFound = (device old new next : D) → IsFoundAgain device old new next → IsTrue (suits G device)
+      → G.left_since new (G.time old) (G.disk next).content
 
   -- The blocks that a command has left when it ended are those that the next one opens.
   abbrev pub EndedIsFound : Type 0
