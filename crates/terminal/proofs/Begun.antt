@@ -3,12 +3,11 @@ use Rattle.std.proofs.Common.{◌≡◌, ◌⊎◌, ◌∙◌, Option, None, Som
 use Rattle.std.specs.Prelude.{IfSome, MatchOption}
 use Rattle.sector_disk.specs.Opening.{WentOn}
 use Rattle.sector_disk.specs.SectorFile.{file_of, sectors_of}
-use Rattle.sector_disk.specs.declared.device.SectorDevice as device
 use Rattle.sector_disk.specs.declared.sector_file.SectorFile.{SectorFile}
 use Rattle.sector_disk.specs.declared.host_file.HostFile.{Ghosts}
 use Rattle.sector_disk.specs.declared.host_files.FileFault.{FileFault}
 use Rattle.sector_disk.specs.declared.host_files.FileFault.TheVariants as file
-use Rattle.terminal.specs.Failed.{IsUnmade, MakesSome, NotFinished, NotUpgraded}
+use Rattle.terminal.specs.Failed.{IsUnmade, IsUnopened}
 use Rattle.terminal.specs.Failures.{of_file}
 use Rattle.terminal.specs.Files.{IsUnfinished}
 use Rattle.terminal.specs.declared.failure.Failure.{Failure}
@@ -27,22 +26,25 @@ pub told_cannot : {D : Type 0} (o : Option D) (fault : FileFault) (failure : Fai
 told_cannot (Some d) fault failure is cannot = is ∙ ap of_file cannot
 told_cannot None fault failure is cannot = tt
 
-module _ {D E : Type 0} (G : device.Ghosts D) where
-  pub not_finished : (unfinished : Option D) (left : Left D E) (failure : Failure) (begun : D → Type 0)
-      → MatchOption unfinished (left ≡ Nothing) (λ device. left ≡ Made device) → IsUnmade failure → IfSome unfinished begun
-      → IfSome unfinished (λ _. failure ≡ CannotOpen) → NotFinished G begun failure left
-  not_finished None left failure begun at unmade is told = inl (at, unmade)
-  not_finished (Some device) left failure begun at unmade is told = inr (told, device, is, at)
+-- The clauses `NotFinished` and `NotUpgraded`, over no model of the device.
+pub not_finished : {D E : Type 0} (unfinished : Option D) (left : Left D E) (failure : Failure) (begun : D → Type 0)
+    → MatchOption unfinished (left ≡ Nothing) (λ device. left ≡ Made device) → IsUnmade failure → IfSome unfinished begun
+    → IfSome unfinished (λ _. failure ≡ CannotOpen)
+    → ((left ≡ Nothing) × IsUnmade failure) ⊎ ((failure ≡ CannotOpen) × (device : D) × begun device × (left ≡ Made device))
+not_finished None left failure begun at unmade is told = inl (at, unmade)
+not_finished (Some device) left failure begun at unmade is told = inr (told, device, is, at)
 
-  pub not_upgraded : (unfinished : Option D) (left : Left D E) (failure : Failure) (opened begun : D → Type 0) (source : D) → opened source
-      → MatchOption unfinished (left ≡ Opened source) (λ device. left ≡ Upgraded source device) → IfSome unfinished begun
-      → IfSome unfinished (λ _. failure ≡ CannotOpen) → NotUpgraded G opened begun failure left
-  not_upgraded None left failure opened begun source is at made told = inl (inr (source, at, source, is, refl))
-  not_upgraded (Some device) left failure opened begun source is at made told = inr (told, source, is, device, made, at)
+pub not_upgraded : {D E : Type 0} (unfinished : Option D) (left : Left D E) (failure : Failure) (opened begun : D → Type 0) (source : D) → opened source
+    → MatchOption unfinished (left ≡ Opened source) (λ device. left ≡ Upgraded source device) → IfSome unfinished begun
+    → IfSome unfinished (λ _. failure ≡ CannotOpen)
+    → (((left ≡ Nothing) × IsUnopened failure) ⊎ ((after : D) × (left ≡ Opened after) × (device : D) × opened device × (after ≡ device)))
+    ⊎ ((failure ≡ CannotOpen) × (source : D) × opened source × (device : D) × begun device × (left ≡ Upgraded source device))
+not_upgraded None left failure opened begun source is at made told = inl (inr (source, at, source, is, refl))
+not_upgraded (Some device) left failure opened begun source is at made told = inr (told, source, is, device, made, at)
 
-module _ {A B : Type 0} (G : device.Ghosts A) (H : device.Ghosts B) where
-  pub begun_in_part : (unfinished : Option B) (failure : Failure) (begun : B → Type 0) (P : A → A → B → Type 0) (source : A)
-      → IfSome unfinished begun → IfSome unfinished (λ _. failure ≡ CannotOpen)
-      → IfSome unfinished (λ after. MakesSome G H begun P failure source source after)
-  begun_in_part (Some after) failure begun P source made told = inl (told, refl, made)
-  begun_in_part None failure begun P source made told = tt
+-- No image was made on it, and of the old one no call was made.
+pub begun_in_part : {A B : Type 0} (unfinished : Option B) (failure : Failure) (begun P : B → Type 0) (source : A)
+    → IfSome unfinished begun → IfSome unfinished (λ _. failure ≡ CannotOpen)
+    → IfSome unfinished (λ after. ((failure ≡ CannotOpen) × (source ≡ source) × begun after) ⊎ P after)
+begun_in_part (Some after) failure begun P source made told = inl (told, refl, made)
+begun_in_part None failure begun P source made told = tt

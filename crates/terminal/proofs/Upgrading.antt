@@ -44,6 +44,7 @@ module _ {D E T : Type 0} (G : Ghosts D) where
   upgrade_failed Three (Err e) left source opened made begun is (inr both) =
       inr (both.0, subst opened (sym both.1) is, both.2, both.3, both.4, both.5, both.6, both.7)
 
+module _ {D : Type 0} (G : Ghosts D) where
   -- What an upgrade to layout 2 leaves whatever its answer is.
   pub in_part : (source source' device after : D) (n : ℕ) → n ≡ older.blocks_on G source → G.sector_count source ≡ sectors_for n
       → G.sector_count device ≡ G.sector_count source → Proceeds G source source' → Proceeds G device after

@@ -5,12 +5,12 @@ use Rattle.terminal.proofs.files.check_import.Goals as goal
 
 pub returns-in-Ok-clause-looked : goal.returns-in-Ok-clause-looked
 returns-in-Ok-clause-looked g c =
-    done_on _ (λ d. Opened d) _ _ c.in-Ok.disk c.in-Ok.disk c.check_files-outcome.result c.check_files-outcome.result _
+    done_on (λ d. Opened d) _ _ c.in-Ok.disk c.in-Ok.disk c.check_files-outcome.result c.check_files-outcome.result _
     (record { file = c.in-Ok.ensures.file; sectors = c.in-Ok.ensures.sectors }) refl refl c.check_files-outcome.ensures.looked
 
 pub returns-in-Ok-clause-failed : goal.returns-in-Ok-clause-failed
 returns-in-Ok-clause-failed g c =
-    failed_on _ (λ d. Opened d) _ _ c.in-Ok.disk c.in-Ok.disk c.check_files-outcome.result c.check_files-outcome.result _
+    failed_on (λ d. Opened d) _ _ c.in-Ok.disk c.in-Ok.disk c.check_files-outcome.result c.check_files-outcome.result _
     (record { file = c.in-Ok.ensures.file; sectors = c.in-Ok.ensures.sectors }) refl refl (just_read c.check_files-outcome.result refl)
 
 pub returns-in-Err-clause-failed : goal.returns-in-Err-clause-failed

@@ -5,12 +5,12 @@ use Rattle.terminal.proofs.files.import_image.Goals as goal
 
 pub returns-in-Ok-clause-imported : goal.returns-in-Ok-clause-imported
 returns-in-Ok-clause-imported g c =
-    done_on _ (λ d. Opened d) _ _ c.in-Ok.disk c.import_over.result.0 c.import_over.result.1 c.opened.result.1 c.opened.result.0
+    done_on (λ d. Opened d) _ _ c.in-Ok.disk c.import_over.result.0 c.import_over.result.1 c.opened.result.1 c.opened.result.0
     (record { file = c.in-Ok.ensures.file; sectors = c.in-Ok.ensures.sectors }) c.opened.ensures.left c.opened.ensures.outcome c.import_over.ensures.imported
 
 pub returns-in-Ok-clause-failed : goal.returns-in-Ok-clause-failed
 returns-in-Ok-clause-failed g c =
-    failed_on _ (λ d. Opened d) _ _ c.in-Ok.disk c.import_over.result.0 c.import_over.result.1 c.opened.result.1 c.opened.result.0
+    failed_on (λ d. Opened d) _ _ c.in-Ok.disk c.import_over.result.0 c.import_over.result.1 c.opened.result.1 c.opened.result.0
     (record { file = c.in-Ok.ensures.file; sectors = c.in-Ok.ensures.sectors }) c.opened.ensures.left c.opened.ensures.outcome c.import_over.ensures.failed
 
 pub returns-in-Err-clause-failed : goal.returns-in-Err-clause-failed

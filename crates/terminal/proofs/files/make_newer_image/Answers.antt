@@ -21,4 +21,4 @@ returns-in-Ok-clause-well g c =
 pub returns-in-Err-clause-failed : goal.returns-in-Err-clause-failed
 returns-in-Err-clause-failed g c = λ many few.
     let e = c.in-Err.ensures in
-    inl (not_finished _ c.in-Err.unfinished c.begun.result c.in-Err.failure _ c.begun.ensures e.unmade e.unfinished e.refused)
+    inl (not_finished c.in-Err.unfinished c.begun.result c.in-Err.failure _ c.begun.ensures e.unmade e.unfinished e.refused)

@@ -20,7 +20,7 @@ returns-in-Ok-clause-made g c =
       sectors_are = same;
       zeros = λ keeps. subst (λ (k : ℕ). AreZeros k (g.H.HostFile.bytes c.in-Ok.target.file)) counted (c.in-Ok.ensures.zeros keeps);
     } in
-    on_ok_weaker done.result (λ did. (done.new.old, done.new.new, refl, c.args.source, refl, c.in-Ok.target, is, did)) (done.ensures.made c.in-Some.field-0 size same)
+    on_ok_weaker done.result (λ did. (done.new.old, done.new.new, refl, (c.args.source, refl, c.in-Ok.target, is, did))) (done.ensures.made c.in-Some.field-0 size same)
 
 pub returns-in-Ok-clause-failed : goal.returns-in-Ok-clause-failed
 returns-in-Ok-clause-failed g c =
@@ -45,5 +45,5 @@ returns-in-None-clause-failed g c = inl (inl (inr (c.args.source, refl, c.args.s
 pub returns-in-Err-clause-failed : goal.returns-in-Err-clause-failed
 returns-in-Err-clause-failed g c =
     let e = c.in-Err.ensures in
-    inl (not_upgraded _ c.in-Err.unfinished c.begun_beside.result c.from.result _ _ c.args.source refl c.begun_beside.ensures
+    inl (not_upgraded c.in-Err.unfinished c.begun_beside.result c.from.result _ _ c.args.source refl c.begun_beside.ensures
     (unfinished_are g.H.HostFile _ c.in-Err.unfinished e.unfinished e.empty) (told_cannot c.in-Err.unfinished c.in-Err.fault c.from.result c.from.ensures e.refused))

@@ -8,15 +8,10 @@ pub returns-in-Ok-clause-made : goal.returns-in-Ok-clause-made
 returns-in-Ok-clause-made g c =
     let done = c.salvage_over-outcome in
     on_ok_weaker done.result
-    (λ did. (
-      done.new.new,
-      refl,
-      c.in-Some.sectors,
-      sym (c.in-Some.ensures ∙ ap (λ s. sectors_for_salvage s c.args.asked) c.sectors.ensures),
-      c.in-Ok.target,
-      c.in-Ok.ensures.made,
-      did,
-    ))
+    (λ did.
+    let sized : sectors_for_salvage (g.A.SectorDevice.sector_count c.args.source.now) c.args.asked ≡ Some c.in-Some.sectors =
+    sym (c.in-Some.ensures ∙ ap (λ s. sectors_for_salvage s c.args.asked) c.sectors.ensures) in
+    (done.new.new, refl, (c.in-Some.sectors, sized, c.in-Ok.target, c.in-Ok.ensures.made, did)))
     done.ensures.salvages
 
 pub returns-in-Ok-clause-failed : goal.returns-in-Ok-clause-failed
@@ -34,4 +29,4 @@ returns-in-Ok-clause-failed g c =
 
 pub returns-in-Err-clause-failed : goal.returns-in-Err-clause-failed
 returns-in-Err-clause-failed g c =
-    begun_in_part _ _ c.in-Err.unfinished c.in-Err.failure _ _ c.args.source.now c.in-Err.ensures.unfinished c.in-Err.ensures.refused
+    begun_in_part c.in-Err.unfinished c.in-Err.failure _ _ c.args.source.now c.in-Err.ensures.unfinished c.in-Err.ensures.refused

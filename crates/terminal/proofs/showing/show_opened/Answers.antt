@@ -6,9 +6,9 @@ use Rattle.terminal.proofs.showing.show_opened.Goals as goal
 pub returns-in-Ok-clause-shown : goal.returns-in-Ok-clause-shown
 returns-in-Ok-clause-shown g c =
     let ended = c.show_over-outcome in
-    rw c.in-Ok.is (done_on _ (λ d. Looked d) _ _ c.in-Ok.disk ended.new.device ended.result ended.result _ refl refl refl ended.ensures.shows)
+    rw c.in-Ok.is (done_on (λ d. Looked d) _ _ c.in-Ok.disk ended.new.device ended.result ended.result _ refl refl refl ended.ensures.shows)
 
 pub returns-in-Ok-clause-unshown : goal.returns-in-Ok-clause-unshown
 returns-in-Ok-clause-unshown g c =
     let ended = c.show_over-outcome in
-    rw c.in-Ok.is (done_err _ (λ d. Looked d) _ _ c.in-Ok.disk ended.new.device ended.result _ refl refl (just_read ended.result ended.ensures.only_read))
+    rw c.in-Ok.is (done_err (λ d. Looked d) _ _ c.in-Ok.disk ended.new.device ended.result _ refl refl (just_read ended.result ended.ensures.only_read))
