@@ -68,6 +68,8 @@ impl HostFile for ReadOnlyFile {
 
     ghost widens = { λ f s t c le since. since };
 
+    // One place off, those of a file of this system would meet their clauses all the same: what `check` prints of files
+    // sees it, on the pages of `test_transcripts`.
     fn len(&self) -> u64 {
         match self {
             ReadOnlyFile::Live { len, .. } => *len,

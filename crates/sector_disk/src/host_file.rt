@@ -22,8 +22,9 @@ pub enum HostFault {
 /// A file as a system gives it. A call may do a part of what it was asked for. Each call is one step, before, within or
 /// after which the system may stop.
 ///
-/// The clauses with the premise `keeps_model` are what has to be assumed of a system's file. No device is asked for
-/// anything else.
+/// The clauses are what has to be assumed of a system's file. Those without the premise `keeps_model` each file meets:
+/// `count`, by what the system's call promises, and `bytes`, `spoils` and `stops` where nothing is said of what it
+/// holds. No device is asked for anything else.
 /// Rule: IMAGE, The file.
 pub trait HostFile {
     /// Whether it keeps the model of a file. A write touches the units in which it writes, and each lies in a page of
@@ -170,6 +171,9 @@ impl HostFile for StdFile {
 
     ghost widens = { λ f s t c le since. since };
 
+    // One place off, each of these would meet its clauses all the same. Tests over a file of the system see it: of a read
+    // `a_file_keeps_what_is_written`, of a write `each_sector_stands_at_its_place`, of the length
+    // `a_length_of_no_sectors_has_none`, all in `test_storage`.
     fn len(&self) -> u64 {
         self.len
     }
