@@ -126,6 +126,12 @@ pub wrong_told : {D : Type 0} (outcome : Result D (Refusal × D)) (answer : ℕ)
 wrong_told outcome answer device after None is same none = tt
 wrong_told outcome answer device after (Some e) is same some = (is ∙ ap answer_of some, same ∙ ap device_after some)
 
+-- What is known of a call over an opening that stays, which was refused for anything but this.
+pub kept_other : {D : Type 0} (outcome : Result (D × Bool) (Refusal × D)) (answer : ℕ) (after : D) (P : D → Type 0) → answer ≡ kept_answer outcome
+    → after ≡ kept_after outcome → (refusal : Refusal) → IfErr outcome (λ e. e.0 ≢ refusal → P e.1) → answer ≢ 0 → answer ≢ code_of refusal → P after
+kept_other (Ok kept) answer after P number device refusal known not_done other = absurd (not_done number)
+kept_other (Err e) answer after P number device refusal known not_done other = subst P (sym device) (known (λ is. other (number ∙ ap code_of is)))
+
 -- Of a call that was done the store stays open, with what is known of it.
 pub opens : {D : Type 0} (Q : D → Bool → List ℕ → Type 0) (outcome : Result (D × Bool) (Refusal × D)) (answer : ℕ) (after : D) (store : OpenStore) (listing : List ℕ)
     → answer ≡ kept_answer outcome → after ≡ kept_after outcome → store.listing ≡ listing
@@ -134,12 +140,6 @@ pub opens : {D : Type 0} (Q : D → Bool → List ℕ → Type 0) (outcome : Res
 opens Q (Ok kept) answer after store listing number device same gate holds zero =
     (kept.1, gate, subst (λ d. Q d kept.1 store.listing) (sym device) (subst (λ l. Q kept.0 kept.1 l) (sym same) holds))
 opens Q (Err e) answer after store listing number device same gate holds zero = absurd (refused_not_done e.0 (sym number ∙ zero))
-
--- The same of a call that was refused for anything but this, over an opening that stays.
-pub kept_other : {D : Type 0} (outcome : Result (D × Bool) (Refusal × D)) (answer : ℕ) (after : D) (P : D → Type 0) → answer ≡ kept_answer outcome
-    → after ≡ kept_after outcome → (refusal : Refusal) → IfErr outcome (λ e. e.0 ≢ refusal → P e.1) → answer ≢ 0 → answer ≢ code_of refusal → P after
-kept_other (Ok kept) answer after P number device refusal known not_done other = absurd (not_done number)
-kept_other (Err e) answer after P number device refusal known not_done other = subst P (sym device) (known (λ is. other (number ∙ ap code_of is)))
 
 -- and what came of it
 pub where_kept : {D : Type 0} (outcome : Result (D × Bool) (Refusal × D)) (answer : ℕ) (P : Type 0) → answer ≡ kept_answer outcome → OnOk outcome P
