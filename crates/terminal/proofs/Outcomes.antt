@@ -1,6 +1,9 @@
 -- How a command ended, by its exit status; and what isn't a session can't be stopped.
-use Rattle.std.proofs.Common.{◌≡◌, ◌≢◌, ℕ, Result, Ok, Err}
+use Rattle.std.proofs.Common.{◌≡◌, ◌≢◌, ℕ, List, [], Result, Ok, Err, inl, inr, subst}
 use Rattle.std.specs.Prelude.{IfErr, IsErrOf, MatchResult, OnOk}
+use Rattle.clap.specs.Words.{HasKind, IsAmong, Kinds, kind_of}
+use Rattle.clap.specs.declared.error.kind.ErrorKind.TheVariants.{OutOfMemory}
+use Rattle.clap.specs.declared.error.Error.{Error}
 use Rattle.terminal.specs.Failures.{status_of}
 use Rattle.terminal.specs.declared.failure.Failure.{Failure}
 use Rattle.terminal.specs.declared.failure.Failure.TheVariants.{Stopped}
@@ -24,3 +27,8 @@ module _ {T : Type 0} where
       → status ≢ 0 → IfErr r P → (failure : Failure) × (status ≡ status_of failure) × P failure
   failed_so (Ok t) status P is other failed = absurd (other is)
   failed_so (Err e) status P is other failed = (e, is, failed)
+
+-- Of words that are refused nothing it is memory that wasn't there.
+pub no_memory : {kinds : Kinds} (e : Error) → HasKind kinds e → kinds ≡ [] → kind_of e ≡ OutOfMemory
+no_memory {kinds} e (inl memory) none = memory
+no_memory {kinds} e (inr among) none = absurd (subst (λ (ks : Kinds). IsAmong (kind_of e) ks) none among)

@@ -14,8 +14,16 @@ use Rattle.terminal.specs.Failures.{status_of}
 use Rattle.terminal.specs.Layout3.{NewDone, UpgradeDone}
 use Rattle.terminal.specs.Scripts.{RunsScript, StopsScript}
 use Rattle.terminal.specs.declared.failure.Failure.{Failure}
+use Rattle.terminal.specs.declared.failure.Failure.TheVariants.{NoMemory}
 use Rattle.terminal.specs.declared.left.Left.{Left}
 use Rattle.terminal.specs.declared.left.Left.TheVariants.{Nothing, Opened, Looked}
+
+-- There was no memory for the order of the words: nothing was opened, read or printed.
+pub record NotOrdered {D E : Type 0} (left left' written written' : Option (List ℕ)) (status : ℕ) (ends : Left D E) : Type 0 where
+  pub memory : status ≡ status_of NoMemory
+  pub unopened : ends ≡ Nothing
+  pub unread : left' ≡ left
+  pub unwritten : written' ≡ written
 
 -- G is of the devices that are opened for writing too or made, L of those that are opened for reading alone.
 module _ {D E : Type 0} (G : Ghosts D) (L : Ghosts E) where

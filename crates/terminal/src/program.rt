@@ -9,7 +9,7 @@ ghost use Rattle.interpreter.specs.State.{Forth as Abstract};
 ghost use Rattle.interpreter.specs.Lines.{new_forth};
 ghost use Rattle.sessions.specs.declared.run_fault.RunFault.{RunFault as AbstractFault};
 ghost use Rattle.command_line.specs.Commands.{IsInRange, forth83};
-ghost use Rattle.terminal.specs.OrderDone.{IsDone, IsFailed, IsStopped, OrderIsDone, OrderIsFailed, OrderIsStopped};
+ghost use Rattle.terminal.specs.OrderDone.{IsDone, IsFailed, IsStopped, NotOrdered, OrderIsDone, OrderIsFailed, OrderIsStopped};
 ghost use Rattle.terminal.specs.Done.{DoneOn, RunsFrom};
 ghost use Rattle.terminal.specs.Failed.{NewFailed, ScriptFailed, UpgradeFailed};
 ghost use Rattle.sessions.specs.Devices.{Becomes};
@@ -126,8 +126,9 @@ pub fn command_over<
         → OrderIsStopped ⟦<SectorFile<H> as SectorDevice>⟧ (map S.text words.now)
         (λ path. IsOpened H.HostFile (O.opens files.now path))
         (R.remaining input.old) (R.remaining input.new) (W.contents output.old) (W.contents output.new) result.0 }
-    // At any status but 0 no file is given back, or what is told of the files is what the order leaves where it failed so.
-    ensures failed { result.1 ≢ 0 → (result.0 ≡ Left.Nothing)
+    // At any other status what is told of the files is what the order leaves where it failed so, or there was no memory for it.
+    ensures failed { fault_of forth83 (map S.text words.now) ≡ [] → result.1 ≢ 0 → NotOrdered
+        (R.remaining input.old) (R.remaining input.new) (W.contents output.old) (W.contents output.new) result.1 result.0
         ⊎ OrderIsFailed ⟦<SectorFile<H> as SectorDevice>⟧ ⟦<SectorFile<K> as SectorDevice>⟧ (map S.text words.now)
         (λ path. IsOpened H.HostFile (O.opens files.now path)) (λ path. IsMade H.HostFile (O.makes files.now path))
         (λ path. IsUnfinished H.HostFile (O.makes files.now path))
@@ -429,6 +430,8 @@ fn explain<W: Write, E: Write>(error: &Error, output: &mut W, errors: &mut E) ->
     ensures shown { result ≡ 0 → IsHelp (kind_of error.now) }
     ensures unshown { result ≡ 4 → IsHelp (kind_of error.now) }
     ensures refused { (result ≡ 2) ⊎ (result ≡ 5) ⊎ IsHelp (kind_of error.now) }
+    ensures memory { kind_of error.now ≡ ErrorKind.OutOfMemory → result ≡ 5 }
+    ensures unwritten { kind_of error.now ≡ ErrorKind.OutOfMemory → output.new ≡ output.old }
     ensures unstopped { result ≢ 1 }
 {
     match error.kind() {

@@ -1,12 +1,22 @@
-use Rattle.std.proofs.Common.{inr}
-use Rattle.terminal.proofs.Outcomes.{failed_so}
+use Rattle.std.proofs.Common.{ap, inl, inr, refl}
+use Rattle.terminal.proofs.Outcomes.{failed_so, no_memory}
 use Rattle.terminal.proofs.program.command_over.Goals as goal
 
 pub returns-in-Ok-clause-failed : goal.returns-in-Ok-clause-failed
-returns-in-Ok-clause-failed g c = λ other.
+returns-in-Ok-clause-failed g c = λ fits other.
     let done = c.perform-left in
     let so = failed_so done.result.1 c.told.result _ c.told.ensures.status other done.ensures.failed in
     inr (c.in-Ok.asked, c.in-Ok.ensures.given, so.0, so.1, so.2)
 
 pub returns-in-Ok-clause-unasked : goal.returns-in-Ok-clause-unasked
 returns-in-Ok-clause-unasked g c = λ refused. absurd (refused c.in-Ok.ensures.fits)
+
+pub returns-in-Err-clause-failed : goal.returns-in-Err-clause-failed
+returns-in-Err-clause-failed g c = λ fits other.
+    let memory = no_memory c.in-Err.error c.in-Err.ensures.fits fits in
+    inl (record {
+      memory = c.explain.ensures.memory memory;
+      unopened = refl;
+      unread = refl;
+      unwritten = ap g.W.Write.contents (c.explain.ensures.unwritten memory);
+    })
