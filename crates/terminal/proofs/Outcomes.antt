@@ -1,9 +1,11 @@
 -- How a command ended, by its exit status; and what isn't a session can't be stopped.
-use Rattle.std.proofs.Common.{◌≡◌, ◌≢◌, ℕ, List, [], Result, Ok, Err, inl, inr, subst}
+use Rattle.std.proofs.Common.{◌≡◌, ◌≢◌, ◌∙◌, ◌⊎◌, ℕ, List, [], Option, Result, Ok, Err, ap, inl, inr, subst, sym}
 use Rattle.std.specs.Prelude.{IfErr, IsErrOf, MatchResult, OnOk}
 use Rattle.clap.specs.Words.{HasKind, IsAmong, Kinds, kind_of}
-use Rattle.clap.specs.declared.error.kind.ErrorKind.TheVariants.{OutOfMemory}
+use Rattle.clap.specs.declared.error.kind.ErrorKind.{ErrorKind}
+use Rattle.clap.specs.declared.error.kind.ErrorKind.TheVariants.{DisplayHelp, DisplayVersion, OutOfMemory}
 use Rattle.clap.specs.declared.error.Error.{Error}
+use Rattle.terminal.specs.InMemory.{AsksForHelp, EndsHelp, IsHelp}
 use Rattle.terminal.specs.Failures.{status_of}
 use Rattle.terminal.specs.declared.failure.Failure.{Failure}
 use Rattle.terminal.specs.declared.failure.Failure.TheVariants.{Stopped}
@@ -28,7 +30,32 @@ module _ {T : Type 0} where
   failed_so (Ok t) status P is other failed = absurd (other is)
   failed_so (Err e) status P is other failed = (e, is, failed)
 
+-- ---- words that give no order
+
 -- Of words that are refused nothing it is memory that wasn't there.
 pub no_memory : {kinds : Kinds} (e : Error) → HasKind kinds e → kinds ≡ [] → kind_of e ≡ OutOfMemory
 no_memory {kinds} e (inl memory) none = memory
 no_memory {kinds} e (inr among) none = absurd (subst (λ (ks : Kinds). IsAmong (kind_of e) ks) none among)
+
+-- Where memory wasn't there no help was asked for, so nothing is printed.
+pub not_help : {P : Type 0} (e : Error) → kind_of e ≡ OutOfMemory → IsHelp (kind_of e) ⊎ P → P
+not_help e memory (inr p) = p
+not_help e memory (inl (inl help)) = absurd (let no : OutOfMemory ≡ DisplayHelp = sym memory ∙ help in cc)
+not_help e memory (inl (inr version)) = absurd (let no : OutOfMemory ≡ DisplayVersion = sym memory ∙ version in cc)
+
+-- Help that an error shows was asked for.
+pub asked_for : {kinds : Kinds} (e : Error) → HasKind kinds e → IsHelp (kind_of e) → AsksForHelp kinds
+asked_for {kinds} e (inl memory) help = not_help {AsksForHelp kinds} e memory (inl help)
+asked_for {kinds} e (inr among) (inl help) = inl (subst (λ (k : ErrorKind). IsAmong k kinds) help among)
+asked_for {kinds} e (inr among) (inr version) = inr (subst (λ (k : ErrorKind). IsAmong k kinds) version among)
+
+pub ends_as : {kinds : Kinds} (e : Error) (status : ℕ) → HasKind kinds e
+    → (status ≡ 2) ⊎ (status ≡ 5) ⊎ (IsHelp (kind_of e) × EndsHelp status) → (status ≡ 2) ⊎ (status ≡ 5) ⊎ (AsksForHelp kinds × EndsHelp status)
+ends_as e status has (inl refused) = inl refused
+ends_as e status has (inr (inl memory)) = inr (inl memory)
+ends_as e status has (inr (inr shown)) = inr (inr (asked_for e has shown.0, shown.1))
+
+pub prints_same : {kinds : Kinds} {W : Type 0} (contents : W → Option (List ℕ)) {old new : W} (e : Error) → HasKind kinds e
+    → IsHelp (kind_of e) ⊎ (new ≡ old) → AsksForHelp kinds ⊎ (contents new ≡ contents old)
+prints_same contents e has (inl help) = inl (asked_for e has help)
+prints_same contents e has (inr same) = inr (ap contents same)

@@ -17,7 +17,7 @@ ghost use Rattle.terminal.specs.Failures.{status_of};
 ghost use Rattle.terminal.specs.Files.{IsMade, IsOpened, IsUnfinished};
 ghost use Rattle.terminal.specs.Layout3.{NewDone, UpgradeDone};
 ghost use Rattle.terminal.specs.Scripts.{RunsScript, StopsScript, is_plain};
-ghost use Rattle.terminal.specs.InMemory.{AsksForNothing, IsForMemory, CompletesInMemory, BreaksInMemory, IsHelp};
+ghost use Rattle.terminal.specs.InMemory.{AsksForHelp, AsksForNothing, BreaksInMemory, CompletesInMemory, EndsHelp, IsForMemory, IsHelp};
 ghost use Rattle.sessions.specs.Sessions.{BreaksOff};
 
 use super::checking::check_image;
@@ -136,6 +136,13 @@ pub fn command_over<
         (R.remaining input.old) (R.remaining input.new) (W.contents output.old) (W.contents output.new) result.1 result.0 }
     // Words that are refused open and make nothing.
     ensures unasked { fault_of forth83 (map S.text words.now) ≢ [] → result.0 ≡ Left.Nothing }
+    // Their status is 2, or 5 where there was no memory; or help was asked for, and it was shown or couldn't be.
+    ensures refused { fault_of forth83 (map S.text words.now) ≢ [] → (result.1 ≡ 2) ⊎ (result.1 ≡ 5)
+        ⊎ (AsksForHelp (fault_of forth83 (map S.text words.now)) × EndsHelp result.1) }
+    // They read nothing, and print nothing where help wasn't asked for.
+    ensures unread { fault_of forth83 (map S.text words.now) ≢ [] → R.remaining input.new ≡ R.remaining input.old }
+    ensures unwritten { fault_of forth83 (map S.text words.now) ≢ []
+        → AsksForHelp (fault_of forth83 (map S.text words.now)) ⊎ (W.contents output.new ≡ W.contents output.old) }
 {
     match order(rt.alloc(), words) {
         Ok(asked) => {
@@ -429,9 +436,9 @@ fn told<E: Write>(outcome: Result<(), Failure>, errors: &mut E) -> u8
 fn explain<W: Write, E: Write>(error: &Error, output: &mut W, errors: &mut E) -> u8
     ensures shown { result ≡ 0 → IsHelp (kind_of error.now) }
     ensures unshown { result ≡ 4 → IsHelp (kind_of error.now) }
-    ensures refused { (result ≡ 2) ⊎ (result ≡ 5) ⊎ IsHelp (kind_of error.now) }
+    ensures refused { (result ≡ 2) ⊎ (result ≡ 5) ⊎ (IsHelp (kind_of error.now) × EndsHelp result) }
     ensures memory { kind_of error.now ≡ ErrorKind.OutOfMemory → result ≡ 5 }
-    ensures unwritten { kind_of error.now ≡ ErrorKind.OutOfMemory → output.new ≡ output.old }
+    ensures unwritten { IsHelp (kind_of error.now) ⊎ (output.new ≡ output.old) }
     ensures unstopped { result ≢ 1 }
 {
     match error.kind() {

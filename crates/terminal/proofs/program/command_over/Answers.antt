@@ -1,5 +1,5 @@
 use Rattle.std.proofs.Common.{ap, inl, inr, refl}
-use Rattle.terminal.proofs.Outcomes.{failed_so, no_memory}
+use Rattle.terminal.proofs.Outcomes.{ends_as, failed_so, no_memory, not_help, prints_same}
 use Rattle.terminal.proofs.program.command_over.Goals as goal
 
 pub returns-in-Ok-clause-failed : goal.returns-in-Ok-clause-failed
@@ -18,5 +18,20 @@ returns-in-Err-clause-failed g c = λ fits other.
       memory = c.explain.ensures.memory memory;
       unopened = refl;
       unread = refl;
-      unwritten = ap g.W.Write.contents (c.explain.ensures.unwritten memory);
+      unwritten = ap g.W.Write.contents (not_help c.in-Err.error memory c.explain.ensures.unwritten);
     })
+
+pub returns-in-Ok-clause-refused : goal.returns-in-Ok-clause-refused
+returns-in-Ok-clause-refused g c = λ refused. absurd (refused c.in-Ok.ensures.fits)
+
+pub returns-in-Ok-clause-unread : goal.returns-in-Ok-clause-unread
+returns-in-Ok-clause-unread g c = λ refused. absurd (refused c.in-Ok.ensures.fits)
+
+pub returns-in-Ok-clause-unwritten : goal.returns-in-Ok-clause-unwritten
+returns-in-Ok-clause-unwritten g c = λ refused. absurd (refused c.in-Ok.ensures.fits)
+
+pub returns-in-Err-clause-refused : goal.returns-in-Err-clause-refused
+returns-in-Err-clause-refused g c = λ refused. ends_as c.in-Err.error c.explain.result c.in-Err.ensures.fits c.explain.ensures.refused
+
+pub returns-in-Err-clause-unwritten : goal.returns-in-Err-clause-unwritten
+returns-in-Err-clause-unwritten g c = λ refused. prints_same g.W.Write.contents c.in-Err.error c.in-Err.ensures.fits c.explain.ensures.unwritten
