@@ -72,10 +72,6 @@ pub printed_or_not : {T P : Type 0} (r : Result T Failure) (Q : Failure → Type
 printed_or_not (Ok t) Q p only = p
 printed_or_not (Err e) Q p only = inr (inl only)
 
-pub both_ok : {T E : Type 0} (r : Result T E) (A B C : T → Type 0) → ((t : T) → A t → B t → C t) → IfOk r A → IfOk r B → IfOk r C
-both_ok (Ok t) A B C f a b = f t a b
-both_ok (Err e) A B C f a b = tt
-
 -- What P says was done on the file that was opened for writing, or on the one that was opened for reading what Shown says.
 module _ {D E T : Type 0} (G : Ghosts D) (L : Ghosts E) (file : Result D FileFault) (r : Result T Failure) (left : Left D E) (opened : D → Type 0) (looked : E → Type 0) where
   either_done : (Shown : Type 0) (P : D → D → Type 0) → IfOk file opened

@@ -11,18 +11,23 @@ use Rattle.sector_disk.specs.declared.host_file.HostFile.{Ghosts}
 use Rattle.terminal.specs.Done.{Recovers, blocks_on, maps_on}
 
 module _ {H : Type 0} (G : Ghosts H) where
-  -- The device is a file as it was opened, with the sectors that it has.
+  -- The device is a file as it was opened, with the sectors that it has. No call of it was counted yet, and none has failed.
   pub record IsOpened (opens : H → Type 0) (device : SectorFile H G) : Type 0 where
     pub file : opens (file_of device)
     pub sectors : IsTrue (G.keeps_model (file_of device)) → sectors_of device ≡ sectors_in (G.extent (file_of device))
+    pub counts : device.counts ≡ record { reads = 0; writes = 0; syncs = 0 }
+    pub failures : device.failures ≡ 0
 
-  -- The device is a file that was made and then filled with so many sectors of zeros, all of them synced.
+  -- The device is a file that was made and then filled with so many sectors of zeros, all of them synced. No call of the device was
+  -- counted yet, and none has failed.
   pub record IsMade (makes : H → Type 0) (sectors : ℕ) (device : SectorFile H G) : Type 0 where
     pub file : H
     pub made : makes file
     pub goes : KeepsGoing G file (file_of device)
     pub sectors_are : sectors_of device ≡ sectors
     pub zeros : IsTrue (G.keeps_model (file_of device)) → AreZeros sectors (G.bytes (file_of device))
+    pub counts : device.counts ≡ record { reads = 0; writes = 0; syncs = 0 }
+    pub failures : device.failures ≡ 0
 
   -- The device is a file that was made and not finished. It has no sectors.
   pub record IsUnfinished (makes : H → Type 0) (device : SectorFile H G) : Type 0 where

@@ -7,7 +7,7 @@ pub returns-in-Ok-clause-compared : goal.returns-in-Ok-clause-compared
 returns-in-Ok-clause-compared g c =
     let done = c.compare_over-outcome in
     on_ok_weaker done.result
-    (λ compares. (done.new.old, done.new.new, refl, c.args.before, refl, c.in-Ok.after, record { file = c.in-Ok.ensures.file; sectors = c.in-Ok.ensures.sectors }, compares))
+    (λ compares. (done.new.old, done.new.new, refl, c.args.before, refl, c.in-Ok.after, record { file = c.in-Ok.ensures.file; sectors = c.in-Ok.ensures.sectors; counts = c.in-Ok.ensures.counts; failures = c.in-Ok.ensures.failures }, compares))
     done.ensures.compares
 
 pub returns-in-Ok-clause-failed : goal.returns-in-Ok-clause-failed
@@ -17,7 +17,7 @@ returns-in-Ok-clause-failed g c =
       c.args.before,
       refl,
       c.in-Ok.after,
-      record { file = c.in-Ok.ensures.file; sectors = c.in-Ok.ensures.sectors },
+      record { file = c.in-Ok.ensures.file; sectors = c.in-Ok.ensures.sectors; counts = c.in-Ok.ensures.counts; failures = c.in-Ok.ensures.failures },
       done.new.old,
       done.new.new,
       refl,

@@ -19,6 +19,8 @@ returns-in-Ok-clause-made g c =
       goes = made.2;
       sectors_are = same;
       zeros = λ keeps. subst (λ (k : ℕ). AreZeros k (g.H.HostFile.bytes c.in-Ok.target.file)) counted (c.in-Ok.ensures.zeros keeps);
+      counts = c.in-Ok.ensures.counts;
+      failures = c.in-Ok.ensures.failures;
     } in
     on_ok_weaker done.result (λ did. (done.new.old, done.new.new, refl, (c.args.source, refl, c.in-Ok.target, is, did))) (done.ensures.made c.in-Some.field-0 size same)
 
@@ -35,6 +37,8 @@ returns-in-Ok-clause-failed g c =
       goes = made.2;
       sectors_are = same;
       zeros = λ keeps. subst (λ (k : ℕ). AreZeros k (g.H.HostFile.bytes c.in-Ok.target.file)) counted (c.in-Ok.ensures.zeros keeps);
+      counts = c.in-Ok.ensures.counts;
+      failures = c.in-Ok.ensures.failures;
     } in
     on_err_weaker done.result _ (λ e did. inr (c.args.source, refl, c.in-Ok.target, is, done.new.old, done.new.new, refl, did))
     (done.ensures.failed c.in-Some.field-0 size same)
