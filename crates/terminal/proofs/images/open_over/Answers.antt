@@ -2,7 +2,7 @@ use Rattle.std.proofs.Common.{◌∙◌, ℕ, ap, subst, sym}
 use Rattle.journal.specs.BySize.{Means}
 use Rattle.stores.specs.Images.{meaning}
 use Rattle.terminal.specs.Failures.{of_image}
-use Rattle.terminal.proofs.Refused.{bad_size_of, refused_recovers, told_image}
+use Rattle.terminal.proofs.Refused.{bad_size_of, device_of, refused_recovers, told_image}
 use Rattle.journal.specs.Store.{blocks_of, is_pending}
 use Rattle.terminal.proofs.Becoming.{none_below}
 use Rattle.terminal.proofs.images.open_over.Goals as goal
@@ -35,6 +35,10 @@ returns-in-Err-clause-kept g c =
       recovers = refused_recovers g.D.SectorDevice g.met.D.SectorDevice.only_now c.args.device c.in-Err.device c.in-Err.fault
           (record { model = did.model; time = did.time; failures = did.failures }) did.sectors did.bad_size did.unasked did.stops did.begins did.reads;
       told = λ keeps. told_image c.from.result c.in-Err.fault _ c.from.ensures (did.exact keeps);
+      faults = record {
+        failed = λ is. did.device (device_of c.in-Err.fault (sym c.from.ensures ∙ is));
+        well = λ other. did.refused (λ is. other (c.from.ensures ∙ ap of_image is));
+      };
       unasked = λ is. did.unasked (bad_size_of c.in-Err.fault (sym c.from.ensures ∙ is));
       unwritten = λ other. did.unwritten (λ is. other (c.from.ensures ∙ ap of_image is));
     }

@@ -3,7 +3,7 @@ use Rattle.journal.specs.PageLayout.{sectors_for}
 use Rattle.shadow.specs.Upgraded.{known_blocks}
 use Rattle.terminal.proofs.Layout3Sizes.{newer_size, older_sound}
 use Rattle.journal.proofs.Suited.{stays}
-use Rattle.terminal.proofs.Copies.{never_stopped}
+use Rattle.terminal.proofs.Copies.{never_stopped, tells}
 use Rattle.terminal.proofs.layout_3_upgrading.upgrade_over.Goals as goal
 
 pub returns-in-Ok-clause-upgrades : goal.returns-in-Ok-clause-upgrades
@@ -44,6 +44,8 @@ returns-in-Err-clause-failed g c = λ to.
       unwritten = did.old_begins;
       goes = record { model = stays g.B.SectorDevice c.args.new.now _ did.new_passes.sectors did.new_passes.model did.new_passes.units; time = did.new_passes.time; failures = did.new_passes.failures };
       stops = λ keeps keeps'. did.new_stops keeps keeps' (known_blocks (g.A.SectorDevice.sector_count c.args.old.now)) to;
+      tells = tells g.A.SectorDevice g.B.SectorDevice _ _ c.from.result c.in-Err.fault c.args.old.now c.upgrade.new.old c.args.new.now c.upgrade.new.new
+          c.from.ensures did.old_device did.new_device did.old_well did.new_well did.new_same did.exact;
     }
 
 pub returns-in-Err-clause-unstopped : goal.returns-in-Err-clause-unstopped

@@ -14,6 +14,6 @@ pub returns-clause-unshown : goal.returns-clause-unshown
 returns-clause-unshown g c =
     let opened = c.open_disk.ensures in
     let done = c.show_opened.ensures in
-    unshown_of _ c.open_disk.result c.show_opened.result.1 c.show_opened.result.0 _
+    unshown_of _ c.open_disk.result c.show_opened.result.1 c.show_opened.result.0 _ _
     (opened_are g.H.HostFile _ c.open_disk.result opened.file opened.sectors opened.counts opened.failures)
     opened.refusal done.unshown done.refused done.unopened
