@@ -1,14 +1,16 @@
 -- How a command ended, by its exit status; and what isn't a session can't be stopped.
-use Rattle.std.proofs.Common.{◌≡◌, ◌≢◌, ◌∙◌, ◌⊎◌, ℕ, List, [], Option, Result, Ok, Err, ap, inl, inr, subst, sym}
-use Rattle.std.specs.Prelude.{IfErr, IsErrOf, MatchResult, OnOk}
+use Rattle.std.proofs.Common.{◌≡◌, ◌≢◌, ◌∙◌, ◌⊎◌, ℕ, List, [], Bool, true, false, Option, Result, Ok, Err, ap, inl, inr, refl, subst, sym}
+use Rattle.std.specs.Prelude.{IfErr, IsErrOf, IsOk, MatchResult, OnOk}
 use Rattle.clap.specs.Words.{HasKind, IsAmong, Kinds, kind_of}
 use Rattle.clap.specs.declared.error.kind.ErrorKind.{ErrorKind}
 use Rattle.clap.specs.declared.error.kind.ErrorKind.TheVariants.{DisplayHelp, DisplayVersion, OutOfMemory}
 use Rattle.clap.specs.declared.error.Error.{Error}
 use Rattle.terminal.specs.InMemory.{AsksForHelp, EndsHelp, IsHelp}
 use Rattle.terminal.specs.Failures.{status_of}
+use Rattle.terminal.specs.OrderDone.{KeepsStreams, PrintsNothing, prints, reads_input}
 use Rattle.terminal.specs.declared.failure.Failure.{Failure}
-use Rattle.terminal.specs.declared.failure.Failure.TheVariants.{Stopped}
+use Rattle.terminal.specs.declared.failure.Failure.TheVariants.{CannotWrite, Stopped}
+use Rattle.command_line.specs.declared.orders.Order.{Order}
 
 module _ {T : Type 0} where
   pub never : {P : Type 0} (r : Result T Failure) → IfErr r (λ e. e ≢ Stopped) → IsErrOf r Stopped → P
@@ -24,11 +26,53 @@ module _ {T : Type 0} where
   if_failed (Ok t) p = tt
   if_failed (Err e) p = p
 
+  -- What holds of a failure and what else holds of it.
+  pub both_err : (r : Result T Failure) (P Q : Failure → Type 0) → IfErr r P → IfErr r Q → IfErr r (λ e. P e × Q e)
+  both_err (Ok t) P Q p q = tt
+  both_err (Err e) P Q p q = (p, q)
+
+  -- Status 0 is that of what was done.
+  pub done_so : {P : Type 0} (r : Result T Failure) (status : ℕ) → (status ≡ 0 → IsOk r) → status ≡ 0 → OnOk r P → P
+  done_so (Ok t) status well is p = p
+  done_so (Err e) status well is p = let ok = well is in absurd cc
+
   -- Another status than 0 is that of a failure.
   pub failed_so : (r : Result T Failure) (status : ℕ) (P : Failure → Type 0) → MatchResult r (λ _. status ≡ 0) (λ e. status ≡ status_of e)
       → status ≢ 0 → IfErr r P → (failure : Failure) × (status ≡ status_of failure) × P failure
   failed_so (Ok t) status P is other failed = absurd (other is)
   failed_so (Err e) status P is other failed = (e, is, failed)
+
+-- ---- the input and the output of an order
+
+-- They weren't used.
+pub untouched : (order : Order) (left written : Option (List ℕ)) → KeepsStreams order left left written written
+untouched order left written = record { unread = λ is. refl; unwritten = λ is. refl }
+
+-- It prints.
+pub printed_only : (order : Order) (left written written' : Option (List ℕ)) → prints order ≡ true → KeepsStreams order left left written written'
+printed_only order left written written' prints = record {
+  unread = λ is. refl;
+  unwritten = λ is. absurd (let no : true ≡ false = sym prints ∙ is in cc);
+}
+
+-- It is a session.
+pub used : (order : Order) (left left' written written' : Option (List ℕ)) → reads_input order ≡ true → prints order ≡ true
+    → KeepsStreams order left left' written written'
+used order left left' written written' reads prints = record {
+  unread = λ is. absurd (let no : true ≡ false = sym reads ∙ is in cc);
+  unwritten = λ is. absurd (let no : true ≡ false = sym prints ∙ is in cc);
+}
+
+-- What was not printed is so of the output's bytes.
+pub prints_none : {T W : Type 0} (contents : W → Option (List ℕ)) (old new : W) (r : Result T Failure) → IfErr r (λ e. e ≢ CannotWrite → new ≡ old)
+    → IfErr r (λ e. PrintsNothing e (contents old) (contents new))
+prints_none contents old new (Ok t) same = tt
+prints_none contents old new (Err e) same = λ other. ap contents (same other)
+
+pub prints_none_but : {T W : Type 0} (contents : W → Option (List ℕ)) (old new : W) (failure : Failure) (r : Result T Failure)
+    → IfErr r (λ e. e ≢ failure → e ≢ CannotWrite → new ≡ old) → IfErr r (λ e. e ≢ failure → PrintsNothing e (contents old) (contents new))
+prints_none_but contents old new failure (Ok t) same = tt
+prints_none_but contents old new failure (Err e) same = λ but other. ap contents (same but other)
 
 -- ---- words that give no order
 

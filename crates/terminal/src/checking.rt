@@ -42,6 +42,8 @@ pub fn check_image<H: HostFile, O: HostFiles<H>, W: Write, D>(
         (ChecksImage ⟦<SectorFile<H> as SectorDevice>⟧ (W.contents output.old) (W.contents output.new)) result.0) }
     ensures failed { IfErr result.1 (λ failure. FailsOn ⟦<SectorFile<H> as SectorDevice>⟧ Left.Looked
         (IsOpened H.HostFile (O.opens files.now path.now)) (LookingFails ⟦<SectorFile<H> as SectorDevice>⟧) failure result.0) }
+    // Nothing was printed, but where the image is damaged or the output failed.
+    ensures unprinted { IfErr result.1 (λ e. e ≢ Failure.Damaged → e ≢ Failure.CannotWrite → output.new ≡ output.old) }
     // No session has begun that could stop.
     ensures unstopped { IfErr result.1 (λ e. e ≢ Failure.Stopped) }
 {

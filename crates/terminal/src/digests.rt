@@ -36,6 +36,7 @@ pub fn digest_image<H: HostFile, O: HostFiles<H>, W: Write, D>(
         (TellsEach ⟦<SectorFile<H> as SectorDevice>⟧ (W.contents output.old) (W.contents output.new)) result.0) }
     ensures failed { IfErr result.1 (λ failure. FailsOn ⟦<SectorFile<H> as SectorDevice>⟧ Left.Looked
         (IsOpened H.HostFile (O.opens files.now path.now)) (LookingFails ⟦<SectorFile<H> as SectorDevice>⟧) failure result.0) }
+    ensures unprinted { IfErr result.1 (λ e. e ≢ Failure.CannotWrite → output.new ≡ output.old) }
     ensures unstopped { IfErr result.1 (λ e. e ≢ Failure.Stopped) }
 {
     match open_disk(files, path) {

@@ -44,6 +44,8 @@ pub fn export_image<H: HostFile, O: HostFiles<H>, K: HostFile, P: HostFiles<K>, 
     ensures failed { IfErr result.1 (λ failure. ExportFailed ⟦<SectorFile<H> as SectorDevice>⟧ ⟦<SectorFile<K> as SectorDevice>⟧
         (IsOpened H.HostFile (O.opens files.now path.now)) (IsOpened K.HostFile (P.opens looking.now path.now))
         first last failure result.0) }
+    // Some blocks may be printed only where a read or the output failed.
+    ensures unprinted { IfErr result.1 (λ e. e ≢ Failure.Device → e ≢ Failure.CannotWrite → output.new ≡ output.old) }
     // No session has begun that could stop.
     ensures unstopped { IfErr result.1 (λ e. e ≢ Failure.Stopped) }
 {
@@ -82,6 +84,7 @@ pub fn export_opened<H: HostFile, K: HostFile, P: HostFiles<K>, W: Write>(
         (ShowsBlocks ⟦<SectorFile<K> as SectorDevice>⟧ form first last (W.contents output.old) (W.contents output.new)) result.0)) }
     ensures unshown { IfErr opened (λ _. IfErr result.1 (λ failure. FailsOn ⟦<SectorFile<K> as SectorDevice>⟧ Left.Looked
         (IsOpened K.HostFile (P.opens looking.now path.now)) (ShowingFails ⟦<SectorFile<K> as SectorDevice>⟧ (blocks_refusal first last)) failure result.0)) }
+    ensures unprinted { IfErr result.1 (λ e. e ≢ Failure.Device → e ≢ Failure.CannotWrite → output.new ≡ output.old) }
     ensures unstopped { IfErr result.1 (λ e. e ≢ Failure.Stopped) }
 {
     match opened {
@@ -108,6 +111,7 @@ pub fn show_blocks<H: HostFile, O: HostFiles<H>, W: Write, D>(
         (ShowsBlocks ⟦<SectorFile<H> as SectorDevice>⟧ form first last (W.contents output.old) (W.contents output.new)) result.0) }
     ensures unshown { IfErr result.1 (λ failure. FailsOn ⟦<SectorFile<H> as SectorDevice>⟧ Left.Looked
         (IsOpened H.HostFile (O.opens files.now path.now)) (ShowingFails ⟦<SectorFile<H> as SectorDevice>⟧ (blocks_refusal first last)) failure result.0) }
+    ensures unprinted { IfErr result.1 (λ e. e ≢ Failure.Device → e ≢ Failure.CannotWrite → output.new ≡ output.old) }
     ensures unstopped { IfErr result.1 (λ e. e ≢ Failure.Stopped) }
 {
     show_opened_blocks(open_disk(files, path), first, last, form, output)
@@ -129,6 +133,7 @@ pub fn show_opened_blocks<H: HostFile, W: Write, D>(
     ensures refused { IfErr opened (λ fault. result.1 ≡ Err (of_file fault)) }
     ensures unopened { IfErr opened (λ _. result.0 ≡ Left.Nothing) }
     ensures silent { IfErr opened (λ _. output.new ≡ output.old) }
+    ensures unprinted { IfErr result.1 (λ e. e ≢ Failure.Device → e ≢ Failure.CannotWrite → output.new ≡ output.old) }
     ensures unstopped { IfErr result.1 (λ e. e ≢ Failure.Stopped) }
 {
     match opened {

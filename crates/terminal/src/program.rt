@@ -9,7 +9,7 @@ ghost use Rattle.interpreter.specs.State.{Forth as Abstract};
 ghost use Rattle.interpreter.specs.Lines.{new_forth};
 ghost use Rattle.sessions.specs.declared.run_fault.RunFault.{RunFault as AbstractFault};
 ghost use Rattle.command_line.specs.Commands.{IsInRange, forth83};
-ghost use Rattle.terminal.specs.OrderDone.{IsDone, IsFailed, IsStopped, NotOrdered, OrderIsDone, OrderIsFailed, OrderIsStopped};
+ghost use Rattle.terminal.specs.OrderDone.{IsDone, IsFailed, IsStopped, KeepsStreams, NotOrdered, OrderIsDone, OrderIsFailed, OrderIsStopped};
 ghost use Rattle.terminal.specs.Done.{DoneOn, RunsFrom};
 ghost use Rattle.terminal.specs.Failed.{NewFailed, ScriptFailed, UpgradeFailed};
 ghost use Rattle.sessions.specs.Devices.{Becomes};
@@ -195,6 +195,8 @@ fn perform<
         (λ path. IsUnfinished H.HostFile (O.makes files.now path))
         (λ path. IsOpened K.HostFile (P.opens looking.now path)) (λ path. IsOpened K.HostFile (P.opens alone.now path)) asked.entry
         (R.remaining input.old) (R.remaining input.new) (W.contents output.old) (W.contents output.new) failure result.0) }
+    ensures streams { KeepsStreams asked.entry
+        (R.remaining input.old) (R.remaining input.new) (W.contents output.old) (W.contents output.new) }
 {
     match asked {
         Order::Memory => (

@@ -39,6 +39,8 @@ pub fn list_image<H: HostFile, O: HostFiles<H>, K: HostFile, P: HostFiles<K>, W:
     ensures failed { IfErr result.1 (λ failure. ListFailed ⟦<SectorFile<H> as SectorDevice>⟧ ⟦<SectorFile<K> as SectorDevice>⟧
         (IsOpened H.HostFile (O.opens files.now path.now)) (IsOpened K.HostFile (P.opens looking.now path.now))
         block failure result.0) }
+    // Nothing was printed, but where the output failed.
+    ensures unprinted { IfErr result.1 (λ e. e ≢ Failure.CannotWrite → output.new ≡ output.old) }
     // No session has begun that could stop.
     ensures unstopped { IfErr result.1 (λ e. e ≢ Failure.Stopped) }
 {
@@ -67,6 +69,7 @@ pub fn list_opened<H: HostFile, K: HostFile, P: HostFiles<K>, W: Write>(
         (ShowsImage ⟦<SectorFile<K> as SectorDevice>⟧ block (W.contents output.old) (W.contents output.new)) result.0)) }
     ensures unshown { IfErr opened (λ _. IfErr result.1 (λ failure. FailsOn ⟦<SectorFile<K> as SectorDevice>⟧ Left.Looked
         (IsOpened K.HostFile (P.opens looking.now path.now)) (ShowingFails ⟦<SectorFile<K> as SectorDevice>⟧ (block_refusal block)) failure result.0)) }
+    ensures unprinted { IfErr result.1 (λ e. e ≢ Failure.CannotWrite → output.new ≡ output.old) }
     ensures unstopped { IfErr result.1 (λ e. e ≢ Failure.Stopped) }
 {
     match opened {
@@ -91,6 +94,7 @@ pub fn show_image<H: HostFile, O: HostFiles<H>, W: Write, D>(
         (ShowsImage ⟦<SectorFile<H> as SectorDevice>⟧ block (W.contents output.old) (W.contents output.new)) result.0) }
     ensures unshown { IfErr result.1 (λ failure. FailsOn ⟦<SectorFile<H> as SectorDevice>⟧ Left.Looked
         (IsOpened H.HostFile (O.opens files.now path.now)) (ShowingFails ⟦<SectorFile<H> as SectorDevice>⟧ (block_refusal block)) failure result.0) }
+    ensures unprinted { IfErr result.1 (λ e. e ≢ Failure.CannotWrite → output.new ≡ output.old) }
     ensures unstopped { IfErr result.1 (λ e. e ≢ Failure.Stopped) }
 {
     show_opened(open_disk(files, path), block, output)
@@ -110,6 +114,7 @@ pub fn show_opened<H: HostFile, W: Write, D>(
     ensures refused { IfErr opened (λ fault. result.1 ≡ Err (of_file fault)) }
     ensures unopened { IfErr opened (λ _. result.0 ≡ Left.Nothing) }
     ensures silent { IfErr opened (λ _. output.new ≡ output.old) }
+    ensures unprinted { IfErr result.1 (λ e. e ≢ Failure.CannotWrite → output.new ≡ output.old) }
     ensures unstopped { IfErr result.1 (λ e. e ≢ Failure.Stopped) }
 {
     match opened {

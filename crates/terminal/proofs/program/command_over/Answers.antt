@@ -1,12 +1,17 @@
 use Rattle.std.proofs.Common.{ap, inl, inr, refl}
-use Rattle.terminal.proofs.Outcomes.{ends_as, failed_so, no_memory, not_help, prints_same}
+use Rattle.terminal.proofs.Outcomes.{done_so, ends_as, failed_so, no_memory, not_help, prints_same}
 use Rattle.terminal.proofs.program.command_over.Goals as goal
+
+pub returns-in-Ok-clause-done : goal.returns-in-Ok-clause-done
+returns-in-Ok-clause-done g c = λ fits is.
+    let done = c.perform-left in
+    (c.in-Ok.asked, c.in-Ok.ensures.given, done.ensures.streams, done_so done.result.1 c.told.result c.told.ensures.well is done.ensures.done)
 
 pub returns-in-Ok-clause-failed : goal.returns-in-Ok-clause-failed
 returns-in-Ok-clause-failed g c = λ fits other.
     let done = c.perform-left in
     let so = failed_so done.result.1 c.told.result _ c.told.ensures.status other done.ensures.failed in
-    inr (c.in-Ok.asked, c.in-Ok.ensures.given, so.0, so.1, so.2)
+    inr (c.in-Ok.asked, c.in-Ok.ensures.given, done.ensures.streams, so.0, so.1, so.2)
 
 pub returns-in-Ok-clause-unasked : goal.returns-in-Ok-clause-unasked
 returns-in-Ok-clause-unasked g c = λ refused. absurd (refused c.in-Ok.ensures.fits)
