@@ -41,6 +41,7 @@ module _ {D : Type 0} (G : Ghosts D) where
   lists device old new b written written' opens below on listed state stops few reads = record {
     begun = device_of old;
     recovers = opens.recovers;
+    well = opens.well;
     goes = continued old new on;
     there = there_on device old b opens below;
     listed = λ keeps. listed (maps_on G device) (opens.stands keeps);
@@ -59,6 +60,7 @@ module _ {D : Type 0} (G : Ghosts D) where
   exported device old new form first last written written' opens ordered below printed read = record {
     begun = device_of old;
     recovers = opens.recovers;
+    well = opens.well;
     goes = continued old new read.continues;
     ordered = ordered;
     there = there_on device old last opens below;
@@ -78,6 +80,7 @@ module _ {D : Type 0} (G : Ghosts D) where
       record {
         begun = device_of old;
         recovers = opens.recovers;
+        well = opens.well;
         goes = continued old new on;
         files = some.files;
         each = some.each;
@@ -96,6 +99,7 @@ module _ {D : Type 0} (G : Ghosts D) where
   puts device old new b opens below on some few reads = record {
     begun = device_of old;
     recovers = opens.recovers;
+    well = opens.well;
     goes = continued old new on;
     there = there_on device old b opens below;
     saves = λ keeps. let saved = some.saved (maps_on G device) (opens.stands keeps) in (saved.0, saved.1, saved.2, saved.4);

@@ -116,10 +116,11 @@ module _ {D : Type 0} (G : Ghosts D) where
     pub unasked : failure ≡ BadSize → after ≡ device
     pub unwritten : failure ≢ Device → BeginsAtMost G device after 0 1
 
-  -- The image was opened, after its recovery, and then was done what P says.
+  -- The image was opened, after its recovery, of which no call failed, and then was done what P says.
   pub record OpensThen (P : (device begun after : D) → Type 0) (device after : D) : Type 0 where
     pub begun : D
     pub recovers : Recovers G device begun
+    pub well : G.failures begun ≡ G.failures device
     pub same : IsTrue (suits G device) → LeavesBlocks G begun (meant_by G device)
     pub goes : Becomes G begun after
     pub done : P device begun after

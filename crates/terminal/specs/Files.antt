@@ -36,9 +36,10 @@ module _ {H : Type 0} (G : Ghosts H) where
     pub goes : WentOn G file (file_of device)
     pub empty : sectors_of device ≡ 0
 
--- The store was opened on the device: it has the blocks that the image there meant, nothing is pending, and it isn't closed.
+-- The store was opened on the device, and no call of it failed: it has the blocks that the image there meant, nothing is pending, and it isn't closed.
 pub record OpensAs {D : Type 0} (G : device.Ghosts D) (opened : D) (store : Store D G) : Type 0 where
   pub recovers : Recovers G opened (device_of store)
+  pub well : G.failures (device_of store) ≡ G.failures opened
   pub size : blocks_of store ≡ blocks_on G opened
   pub stands : IsTrue (suits G opened) → StandsFor store (maps_on G opened)
   pub pending : pending_count store ≡ 0

@@ -70,6 +70,7 @@ module _ {D : Type 0} (G : Ghosts D) where
     pub leads : IsLed (load_line script.load) script.files.items left led
     pub begun : D
     pub recovers : Recovers G device begun
+    pub well : G.failures begun ≡ G.failures device
     pub goes : Becomes G begun after
     pub stops : IsTrue (suits G device) → StopsFrom (new_forth steps (maps_on G device)) led left' written written' begun after
 
@@ -91,6 +92,7 @@ module _ {D : Type 0} (G : Ghosts D) where
       (left left' written written' : Option (List ℕ)) (tracer tracer' : T) (device after : D) : Type 0 where
     pub begun : D
     pub recovers : Recovers G device begun
+    pub well : G.failures begun ≡ G.failures device
     pub same : IsTrue (suits G device) → LeavesBlocks G begun (meant_by G device)
     pub goes : Becomes G begun after
     pub strict : IfOk end (λ end. end ≡ by.Fault → is_strict ≡ true)
