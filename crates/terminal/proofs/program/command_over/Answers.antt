@@ -3,9 +3,12 @@ use Rattle.terminal.proofs.Outcomes.{done_so, ends_as, failed_so, no_memory, not
 use Rattle.terminal.proofs.program.command_over.Goals as goal
 
 pub returns-in-Ok-clause-done : goal.returns-in-Ok-clause-done
-returns-in-Ok-clause-done g c = λ fits is.
-    let done = c.perform-left in
-    (c.in-Ok.asked, c.in-Ok.ensures.given, done.ensures.streams, done_so done.result.1 c.told.result c.told.ensures.well is done.ensures.done)
+returns-in-Ok-clause-done g c = λ fits is. (
+  c.in-Ok.asked,
+  c.in-Ok.ensures.given,
+  c.perform-left.ensures.streams,
+  done_so c.perform-left.result.1 c.told.result c.told.ensures.well is c.perform-left.ensures.done,
+)
 
 pub returns-in-Ok-clause-failed : goal.returns-in-Ok-clause-failed
 returns-in-Ok-clause-failed g c = λ fits other.
