@@ -1,5 +1,6 @@
 -- What a command over images leaves where it failed, on any device: from the device that it opened or made to what that has become.
 use Rattle.std.specs.Prelude.{◌≡◌, ◌≢◌, ◌⊎◌, ℕ, Bool, true, ◌+◌, ◌-◌, ◌*◌, ◌≤◌, ◌<◌, IsTrue, List, Option, Some, IfSome, length, option_map}
+use Rattle.std.specs.Io.KnownBytes.{Appends}
 use Rattle.sector_disk.specs.Counting.{count_up}
 use Rattle.sector_disk.specs.declared.device.SectorDevice.{Ghosts}
 use Rattle.journal.specs.Calls.{BeginsAtMost, ReadsAtMost, StopsLeave}
@@ -28,8 +29,10 @@ use Rattle.command_line.specs.declared.orders.Form.{Form}
 use Rattle.command_line.specs.declared.orders.Layout.{Layout}
 use Rattle.command_line.specs.declared.orders.Layout.TheVariants.{Two, Three}
 use Rattle.command_line.specs.declared.orders.Script.{Script}
+use Rattle.terminal.specs.Checked.{layout_by_size}
 use Rattle.terminal.specs.Compared.{OneFailed, refusal_of_either}
 use Rattle.terminal.specs.Copying.{MadeOf, sectors_for_copy, sectors_for_salvage}
+use Rattle.terminal.specs.Damage.{damage_report}
 use Rattle.terminal.specs.Done.{BreaksFrom, DoneOn, LeavesBlocks, MeansOn, Recovers, blocks_on, maps_on, meant_by}
 use Rattle.terminal.specs.Failures.{of_image, of_run, of_upgrade}
 use Rattle.terminal.specs.Findings.{AreSound, said_all}
@@ -40,7 +43,7 @@ use Rattle.terminal.specs.Scripts.{IsLed, StopsFrom, load_line}
 use Rattle.terminal.specs.Shown.{block_refusal, blocks_refusal}
 use Rattle.terminal.specs.Transfer.{as_blocks, spilled_from}
 use Rattle.terminal.specs.declared.failure.Failure.{Failure}
-use Rattle.terminal.specs.declared.failure.Failure.TheVariants.{BadSize, CannotOpen, CannotRead, CannotWrite, Device, Exists, InUse, NoBlock, NoMemory, Stopped}
+use Rattle.terminal.specs.declared.failure.Failure.TheVariants.{BadSize, CannotOpen, CannotRead, CannotWrite, Damaged, Device, Exists, InUse, NoBlock, NoMemory, Stopped}
 use Rattle.terminal.specs.declared.left.Left.{Left}
 use Rattle.terminal.specs.declared.left.Left.TheVariants as files
 
@@ -211,9 +214,16 @@ module _ {D : Type 0} (G : Ghosts D) where
     pub told : IsTrue (G.keeps_model device) → (failure ≡ Device) ⊎ untold failure
         ⊎ (refusal (G.sector_count device) (G.disk device).content ≡ Some failure)
 
-  -- `check`, `check --blocks`: the image is refused as an opening refuses it.
+  -- `check --blocks`: the image is refused as an opening refuses it.
   abbrev pub LookingFails : Failure → (device after : D) → Type 0
   LookingFails = ReadingFails IsUntold (λ sectors image. option_map of_image (image_refusal sectors image))
+
+  -- `check`: of a damaged image of layout 3 each damaged block was told, and of one of layout 2 nothing was printed.
+  pub record CheckFails (written written' : Option (List ℕ)) (failure : Failure) (device after : D) : Type 0 where
+    pub looks : LookingFails failure device after
+    pub damaged : IsTrue (G.keeps_model device) → layout_by_size (G.sector_count device) ≡ Three → failure ≡ Damaged
+        → Appends written written' (damage_report (G.sector_count device) (G.disk device).content)
+    pub silent : layout_by_size (G.sector_count device) ≡ Two → failure ≢ CannotWrite → written' ≡ written
 
   -- `list`, `export`: the image is refused, or a block isn't there.
   abbrev pub ShowingFails : (refusal : (sectors : ℕ) → Image → Option Failure) → Failure → (device after : D) → Type 0

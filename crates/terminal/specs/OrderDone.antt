@@ -9,7 +9,7 @@ use Rattle.terminal.specs.Care.{CopyDone, ExportDone, ListDone, SalvageDone}
 use Rattle.terminal.specs.Checked.{ChecksImage}
 use Rattle.terminal.specs.Compared.{DiffDone, TellsEach}
 use Rattle.terminal.specs.Done.{DoneOn, ImportsBlocks, LooksAt, PutsBlock}
-use Rattle.terminal.specs.Failed.{CopyFailed, DiffFailed, ExportFailed, FailsAfter, FailsOn, ImportFails, IsUntouched, ListFailed, LookingFails, NewFailed, PutFails, SalvageFailed, ScriptFailed, UpgradeFailed}
+use Rattle.terminal.specs.Failed.{CheckFails, CopyFailed, DiffFailed, ExportFailed, FailsAfter, FailsOn, ImportFails, IsUntouched, ListFailed, LookingFails, NewFailed, PutFails, SalvageFailed, ScriptFailed, UpgradeFailed}
 use Rattle.terminal.specs.Failures.{status_of}
 use Rattle.terminal.specs.Layout3.{NewDone, UpgradeDone}
 use Rattle.terminal.specs.Scripts.{RunsScript, StopsScript}
@@ -107,7 +107,7 @@ module _ {D E : Type 0} (G : Ghosts D) (L : Ghosts E) where
   IsFailed opened made begun looked alone (CheckImport path first sources form) left left' written written' failure ends =
       FailsOn G Opened (opened path.now) IsUntouched failure ends
   IsFailed opened made begun looked alone (Check path) left left' written written' failure ends =
-      FailsOn L Looked (looked path.now) (LookingFails L) failure ends × (failure ≢ Damaged → PrintsNothing failure written written')
+      FailsOn L Looked (looked path.now) (CheckFails L written written') failure ends × (failure ≢ Damaged → PrintsNothing failure written written')
   IsFailed opened made begun looked alone (Digests path) left left' written written' failure ends =
       FailsOn L Looked (looked path.now) (LookingFails L) failure ends × PrintsNothing failure written written'
   IsFailed opened made begun looked alone (Diff old new) left left' written written' failure ends =
