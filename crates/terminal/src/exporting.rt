@@ -45,8 +45,10 @@ pub fn export_blocks<D: SectorDevice, W: Write>(
     if last >= store.blocks() {
         return Err(Failure::NoBlock);
     }
-    print_blocks(store, first, last + 1, form, output)?;
-    flush(output).map_err(|_| Failure::CannotWrite)
+    match print_blocks(store, first, last + 1, form, output) {
+        Ok(()) => flush(output).map_err(|_| Failure::CannotWrite),
+        Err(failure) => Err(failure),
+    }
 }
 
 /// Prints the blocks from `first` on that stand before `past`.
