@@ -8,7 +8,7 @@ pub returns-in-Ok-clause-compared : goal.returns-in-Ok-clause-compared
 returns-in-Ok-clause-compared g c =
     let done = c.compare_over-outcome in
     on_ok_weaker done.result
-    (λ compares. (done.new.old, done.new.new, refl, c.args.before, refl, c.in-Ok.after, record { file = c.in-Ok.ensures.file; sectors = c.in-Ok.ensures.sectors; counts = c.in-Ok.ensures.counts; failures = c.in-Ok.ensures.failures }, compares))
+    (λ compares. (done.new.old, done.new.new, refl, (c.args.before, refl, c.in-Ok.after, record { file = c.in-Ok.ensures.file; sectors = c.in-Ok.ensures.sectors; counts = c.in-Ok.ensures.counts; failures = c.in-Ok.ensures.failures }, compares)))
     done.ensures.compares
 
 pub returns-in-Ok-clause-failed : goal.returns-in-Ok-clause-failed
@@ -20,4 +20,4 @@ returns-in-Ok-clause-failed g c =
 
 pub returns-in-Err-clause-failed : goal.returns-in-Err-clause-failed
 returns-in-Err-clause-failed g c =
-    inl (inr (c.args.before, refl, c.args.before, refl, (unopened c.in-Err.fault c.from.result c.in-Err.ensures.refusal c.from.ensures, refl)))
+    inl (inr (c.args.before, refl, (c.args.before, refl, (unopened c.in-Err.fault c.from.result c.in-Err.ensures.refusal c.from.ensures, refl))))

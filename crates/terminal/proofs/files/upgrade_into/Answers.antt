@@ -43,7 +43,7 @@ returns-in-Ok-clause-failed g c =
     (done.ensures.failed c.in-Some.field-0 size same)
 
 pub returns-in-None-clause-failed : goal.returns-in-None-clause-failed
-returns-in-None-clause-failed g c = inl (inl (inr (c.args.source, refl, c.args.source, refl, refl)))
+returns-in-None-clause-failed g c = inl (inl (inr (c.args.source, refl, (c.args.source, refl, refl))))
 
 pub returns-in-Err-clause-failed : goal.returns-in-Err-clause-failed
 returns-in-Err-clause-failed g c =

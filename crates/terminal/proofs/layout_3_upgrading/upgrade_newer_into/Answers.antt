@@ -23,7 +23,7 @@ returns-in-Ok-clause-failed g c =
     IfErr-weaker done.result _ _ (λ e did. inr (c.args.source, refl, target, is, done.new.old, done.new.new, refl, did)) (done.ensures.failed is.sectors_are)
 
 pub returns-in_default-clause-failed : goal.returns-in_default-clause-failed
-returns-in_default-clause-failed g c = inl (inl (inr (c.args.source, refl, c.args.source, refl, refl)))
+returns-in_default-clause-failed g c = inl (inl (inr (c.args.source, refl, (c.args.source, refl, refl))))
 
 pub returns-in-Err-clause-failed : goal.returns-in-Err-clause-failed
 returns-in-Err-clause-failed g c =
