@@ -250,6 +250,7 @@ module _ {D : Type 0} (G : Ghosts D) where
   pub record MakingFails (n : ℕ) (failure : Failure) (device after : D) : Type 0 where
     pub goes : Becomes G device after
     pub told : failure ≡ Device
+    pub failed : CallFailed G device after
     pub stops : IsTrue (G.keeps_sectors device) → StopsLeave G device after (older_making.FormatLeaves n (G.disk device))
     pub begins : BeginsAtMost G device after (2 * n + 4) 4
     pub reads : ReadsAtMost G device after 1
@@ -258,6 +259,7 @@ module _ {D : Type 0} (G : Ghosts D) where
   pub record NewerMakingFails (n : ℕ) (failure : Failure) (device after : D) : Type 0 where
     pub goes : Becomes G device after
     pub told : failure ≡ Device
+    pub failed : CallFailed G device after
     pub stops : IsTrue (G.keeps_model device) → StopsLeave G device after (newer_making.FormatLeaves n (G.disk device))
     pub begins : BeginsAtMost G device after (4 * n + 5) 4
     pub reads : ReadsAtMost G device after 1

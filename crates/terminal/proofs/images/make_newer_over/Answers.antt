@@ -26,6 +26,7 @@ returns-in-Err-clause-failed g c = λ sized.
     record {
       goes = record { model = stays g.D.SectorDevice c.args.device _ did.sectors did.model did.units; time = did.time; failures = did.failures };
       told = c.from.ensures ∙ ap of_image (first_case _ sized did.refusal);
+      failed = did.device (first_case _ sized did.refusal);
       stops = λ keeps. did.stops keeps c.args.blocks (newer_sectors c.args.blocks (g.D.SectorDevice.sector_count c.args.device) sized);
       begins = did.begins;
       reads = did.reads;
