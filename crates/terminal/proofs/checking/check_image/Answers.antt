@@ -1,4 +1,5 @@
 use Rattle.std.proofs.Common.{inl, refl}
+use Rattle.std.proofs.lemmas.Result.{IfErr-weaker}
 use Rattle.terminal.specs.declared.left.Left.TheVariants.{Looked}
 use Rattle.terminal.proofs.Ended.{check_failed, done_on, failed_on, unopened}
 use Rattle.terminal.proofs.checking.check_image.Goals as goal
@@ -16,3 +17,7 @@ returns-in-Ok-clause-failed g c =
 
 pub returns-in-Err-clause-failed : goal.returns-in-Err-clause-failed
 returns-in-Err-clause-failed g c = inl (refl, unopened c.in-Err.fault c.from.result c.in-Err.ensures.refusal c.from.ensures)
+
+pub returns-in-Ok-clause-unprinted : goal.returns-in-Ok-clause-unprinted
+returns-in-Ok-clause-unprinted g c =
+    IfErr-weaker c.check_over-outcome.result _ _ (λ e same damaged other. same other damaged) c.check_over-outcome.ensures.unprinted
