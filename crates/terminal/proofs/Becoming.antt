@@ -27,7 +27,7 @@ use Rattle.terminal.proofs.Saving.{length_blocks}
 
 module _ {D : Type 0} (G : Ghosts D) where
   pub continued : (old new : Store D G) → Continues old new → Becomes G (device_of old) (device_of new)
-  continued old new on = record { model = on.model; time = on.time; failures = on.failures }
+  continued old new on = record { model = on.model; sectors = λ keeps. on.sectors; time = on.time; failures = on.failures }
 
   there_on : (device : D) (store : Store D G) (b : ℕ) → OpensAs G device store → b < blocks_of store → b < blocks_on G device
   there_on device store b opens below = subst (λ (n : ℕ). b < n) opens.size below
@@ -108,7 +108,7 @@ module _ {D : Type 0} (G : Ghosts D) where
   }
 
   pub proceeded : (old new : D) → Proceeds G old new → Becomes G old new
-  proceeded old new on = record { model = stays G old new on.sectors on.model on.units; time = on.time; failures = on.failures }
+  proceeded old new on = record { model = stays G old new on.sectors on.model on.units; sectors = λ keeps. on.sectors; time = on.time; failures = on.failures }
 
   -- The image on the first device was upgraded onto the second one.
   pub upgrades : (source source' device after : D) (n : ℕ) → n ≡ older.blocks_on G source → G.sector_count source ≡ sectors_for n

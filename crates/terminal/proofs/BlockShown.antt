@@ -48,7 +48,7 @@ module _ {D : Type 0} (G : Ghosts D) where
       → (is_size (G.sector_count device) ≡ false → ReadsAtMost G device after (3 * blocks_in (G.sector_count device) + 5))
       → Appends written written' (listing bytes) → ShowsImage G b written written' device after
   shown device after b bytes written written' passes below read meant same stops begins reads few printed = record {
-    goes = record { model = stays G device after passes.sectors passes.model passes.units; time = passes.time; failures = passes.failures };
+    goes = record { model = stays G device after passes.sectors passes.model passes.units; sectors = λ keeps. passes.sectors; time = passes.time; failures = passes.failures };
     meant = meant;
     there = below;
     listed = λ keeps.

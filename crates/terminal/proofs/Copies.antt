@@ -226,7 +226,7 @@ module _ {A B : Type 0} (G : Ghosts A) (H : Ghosts B) where
   left_after device after blocks same left image may = subst (λ s. Means s blocks image) (sym same) (left image may)
 
   pub becomes : (device after : B) → Proceeds H device after → Becomes H device after
-  becomes device after goes = record { model = stays H device after goes.sectors goes.model goes.units; time = goes.time; failures = goes.failures }
+  becomes device after goes = record { model = stays H device after goes.sectors goes.model goes.units; sectors = λ keeps. goes.sectors; time = goes.time; failures = goes.failures }
 
   -- What is told where an image wasn't made of another one.
   pub tells : (keeps : Bool) (refusal : Option UpgradeFault) (failure : Failure) (fault : UpgradeFault) (source source' : A) (device after : B)

@@ -10,7 +10,7 @@ use Rattle.terminal.proofs.images.open_over.Goals as goal
 pub returns-in-Ok-clause-opened : goal.returns-in-Ok-clause-opened
 returns-in-Ok-clause-opened g c = record {
   recovers = record {
-    goes = record { model = c.in-Ok.ensures.model; time = c.in-Ok.ensures.time; failures = c.in-Ok.ensures.failures };
+    goes = record { model = c.in-Ok.ensures.model; sectors = λ keeps. c.in-Ok.ensures.sectors; time = c.in-Ok.ensures.time; failures = c.in-Ok.ensures.failures };
     sectors = c.in-Ok.ensures.sectors;
     stops = λ keeps. c.in-Ok.ensures.stops keeps c.in-Ok.ensures.sized;
     begins = λ keeps. c.in-Ok.ensures.begins keeps c.in-Ok.ensures.sized;
@@ -34,7 +34,7 @@ returns-in-Err-clause-kept g c =
     let did = c.in-Err.ensures in
     record {
       recovers = refused_recovers g.D.SectorDevice g.met.D.SectorDevice.only_now c.args.device c.in-Err.device c.in-Err.fault
-          (record { model = did.model; time = did.time; failures = did.failures }) did.sectors did.bad_size did.unasked did.stops did.begins did.reads;
+          (record { model = did.model; sectors = λ keeps. did.sectors; time = did.time; failures = did.failures }) did.sectors did.bad_size did.unasked did.stops did.begins did.reads;
       told = λ keeps. told_image c.from.result c.in-Err.fault _ c.from.ensures (did.exact keeps);
       faults = record {
         failed = λ is. did.device (device_of c.in-Err.fault (sym c.from.ensures ∙ is));
