@@ -42,6 +42,7 @@ module _ {D : Type 0} (G : Ghosts D) where
     begun = device_of old;
     recovers = opens.recovers;
     well = opens.well;
+    meant = opens.meant;
     goes = continued old new on;
     there = there_on device old b opens below;
     listed = λ keeps. listed (maps_on G device) (opens.stands keeps);
@@ -61,6 +62,7 @@ module _ {D : Type 0} (G : Ghosts D) where
     begun = device_of old;
     recovers = opens.recovers;
     well = opens.well;
+    meant = opens.meant;
     goes = continued old new read.continues;
     ordered = ordered;
     there = there_on device old last opens below;
@@ -81,6 +83,7 @@ module _ {D : Type 0} (G : Ghosts D) where
         begun = device_of old;
         recovers = opens.recovers;
         well = opens.well;
+        meant = opens.meant;
         goes = continued old new on;
         files = some.files;
         each = some.each;
@@ -100,6 +103,7 @@ module _ {D : Type 0} (G : Ghosts D) where
     begun = device_of old;
     recovers = opens.recovers;
     well = opens.well;
+    meant = opens.meant;
     goes = continued old new on;
     there = there_on device old b opens below;
     saves = λ keeps. let saved = some.saved (maps_on G device) (opens.stands keeps) in (saved.0, saved.1, saved.2, saved.4);

@@ -91,6 +91,7 @@ module _ {D T : Type 0} (G : Ghosts D) (hears : (old new : T) → LineEnd → Op
       begun = device_of old;
       recovers = opens.recovers;
       well = opens.well;
+      meant = opens.meant;
       same = meant;
       goes = goes;
       strict = strict;
@@ -127,7 +128,7 @@ module _ {D T : Type 0} (G : Ghosts D) (hears : (old new : T) → LineEnd → Op
           record {
             led = ended.led;
             leads = ended.leads;
-            session = record { begun = session.begun; recovers = session.recovers; well = session.well; goes = session.goes; runs = λ keeps. (ran keeps).0 };
+            session = record { begun = session.begun; recovers = session.recovers; well = session.well; meant = session.meant; goes = session.goes; runs = λ keeps. (ran keeps).0 };
             faultless = λ strict keeps. (ran keeps).1 strict;
           }
 
@@ -147,6 +148,7 @@ module _ {D T : Type 0} (G : Ghosts D) (hears : (old new : T) → LineEnd → Op
         begun = ended.session.begun;
         recovers = ended.session.recovers;
         well = ended.session.well;
+        meant = ended.session.meant;
         goes = ended.session.goes;
         stops = stopped is;
       }

@@ -4,6 +4,7 @@ use Rattle.sector_disk.specs.declared.device.SectorDevice as device
 use Rattle.journal.specs.declared.store.Store.{Store}
 use Rattle.journal.specs.Store.{StandsFor, blocks_of, closed_of, device_of, pending_count}
 use Rattle.journal.specs.Suits.{suits}
+use Rattle.stores.specs.Images.{HasMeaning}
 use Rattle.sector_disk.specs.Opening.{AreZeros, KeepsGoing, WentOn, sectors_in}
 use Rattle.sector_disk.specs.SectorFile.{file_of, sectors_of}
 use Rattle.sector_disk.specs.declared.sector_file.SectorFile.{SectorFile}
@@ -36,10 +37,12 @@ module _ {H : Type 0} (G : Ghosts H) where
     pub goes : WentOn G file (file_of device)
     pub empty : sectors_of device ≡ 0
 
--- The store was opened on the device, and no call of it failed: it has the blocks that the image there meant, nothing is pending, and it isn't closed.
+-- The store was opened on the device, and no call of it failed: the image there means some blocks, the store has these, nothing is
+-- pending, and it isn't closed.
 pub record OpensAs {D : Type 0} (G : device.Ghosts D) (opened : D) (store : Store D G) : Type 0 where
   pub recovers : Recovers G opened (device_of store)
   pub well : G.failures (device_of store) ≡ G.failures opened
+  pub meant : IsTrue (suits G opened) → HasMeaning (G.sector_count opened) (G.disk opened).content
   pub size : blocks_of store ≡ blocks_on G opened
   pub stands : IsTrue (suits G opened) → StandsFor store (maps_on G opened)
   pub pending : pending_count store ≡ 0

@@ -17,6 +17,7 @@ returns-in-Ok-clause-opened g c = record {
     reads = λ keeps. c.in-Ok.ensures.reads keeps c.in-Ok.ensures.sized;
   };
   well = c.in-Ok.ensures.well;
+  meant = c.in-Ok.ensures.meaning;
   size = c.in-Ok.ensures.blocks;
   stands = c.in-Ok.ensures.ok;
   pending = none_below (is_pending c.in-Ok.store) c.in-Ok.ensures.pending (blocks_of c.in-Ok.store);
