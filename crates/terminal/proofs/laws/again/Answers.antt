@@ -1,4 +1,4 @@
-use Rattle.terminal.proofs.Found.{ended, put_then_run, run_then_export, stopped, stopped_put_then_run}
+use Rattle.terminal.proofs.Found.{chain, ended, import_then_run, new_then_import, put_then_run, run_then_export, run_then_run, stopped, stopped_put_then_run, stopped_recovery, stopped_run_then_run}
 use Rattle.terminal.proofs.laws.again.Goals as goal
 
 pub returns-clause-stopped : goal.returns-clause-stopped
@@ -9,6 +9,18 @@ pub returns-clause-ended : goal.returns-clause-ended
 returns-clause-ended g c =
     let D = g.met.D.SectorDevice in ended g.D.SectorDevice D.present D.keeps_both D.only_now
 
+pub returns-clause-stopped_recovery : goal.returns-clause-stopped_recovery
+returns-clause-stopped_recovery g c =
+    let D = g.met.D.SectorDevice in stopped_recovery g.D.SectorDevice D.present D.keeps_both D.only_now
+
+pub returns-clause-new_then_import : goal.returns-clause-new_then_import
+returns-clause-new_then_import g c =
+    let D = g.met.D.SectorDevice in new_then_import g.D.SectorDevice D.present D.keeps_both D.only_now
+
+pub returns-clause-import_then_run : goal.returns-clause-import_then_run
+returns-clause-import_then_run g c =
+    let D = g.met.D.SectorDevice in import_then_run g.D.SectorDevice D.present D.keeps_both D.only_now
+
 pub returns-clause-put_then_run : goal.returns-clause-put_then_run
 returns-clause-put_then_run g c =
     let D = g.met.D.SectorDevice in put_then_run g.D.SectorDevice D.present D.keeps_both D.only_now
@@ -17,6 +29,18 @@ pub returns-clause-stopped_put_then_run : goal.returns-clause-stopped_put_then_r
 returns-clause-stopped_put_then_run g c =
     let D = g.met.D.SectorDevice in stopped_put_then_run g.D.SectorDevice D.present D.keeps_both D.only_now
 
+pub returns-clause-run_then_run : goal.returns-clause-run_then_run
+returns-clause-run_then_run g c =
+    let D = g.met.D.SectorDevice in run_then_run g.D.SectorDevice D.present D.keeps_both D.only_now
+
+pub returns-clause-stopped_run_then_run : goal.returns-clause-stopped_run_then_run
+returns-clause-stopped_run_then_run g c =
+    let D = g.met.D.SectorDevice in stopped_run_then_run g.D.SectorDevice D.present D.keeps_both D.only_now
+
 pub returns-clause-run_then_export : goal.returns-clause-run_then_export
 returns-clause-run_then_export g c =
     let D = g.met.D.SectorDevice in run_then_export g.D.SectorDevice D.present D.keeps_both D.only_now
+
+pub returns-clause-chain : goal.returns-clause-chain
+returns-clause-chain g c =
+    let D = g.met.D.SectorDevice in chain g.D.SectorDevice D.present D.keeps_both D.only_now
