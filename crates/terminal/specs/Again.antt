@@ -15,10 +15,12 @@ use Rattle.interpreter.specs.Lines.{new_forth}
 use Rattle.command_line.specs.declared.orders.Form.{Form}
 use Rattle.command_line.specs.declared.orders.Layout.{Layout}
 use Rattle.command_line.specs.declared.orders.Layout.TheVariants.{Two, Three}
-use Rattle.terminal.specs.Done.{Exports, ImportsBlocks, LeavesBlocks, MakesBlank, PutsBlock, Recovers, RunsFrom, RunsSession, maps_on, meant_by}
+use Rattle.command_line.specs.declared.orders.Script.{Script}
+use Rattle.terminal.specs.Done.{Comes, Exports, ImportsBlocks, LeavesBlocks, MakesBlank, PutsBlock, Recovers, RunsFrom, RunsSession, maps_on, meant_by}
 use Rattle.terminal.specs.Findings.{said_all}
 use Rattle.terminal.specs.Layout3.{MakesNewer}
 use Rattle.terminal.specs.Screen.{screen_of}
+use Rattle.terminal.specs.Scripts.{IsLed, RunsScript, load_line}
 use Rattle.terminal.specs.Transfer.{as_blocks, exports, spilled_from}
 
 -- these blocks, and in them from the first one on those that some files say
@@ -158,3 +160,15 @@ module _ {D : Type 0} (G : Ghosts D) where
       × KeptFrom RunsOver (λ since next. IsFoundAgain since stopped next) (G.time stopped)
       (one.session.runs keeps).closing.world.maps.saved (two.session.runs keeps').made (G.time two.session.begun)
       × ExportsFrom last (three.session.runs keeps'').closing.world.maps.saved
+
+  -- ---- orders on what an opening gave
+
+  -- `put` was done on a device that an opening gave, it is given again as it was left, and then `run` was done on what an opening gave: a
+  -- session over the blocks as they were, with the lines of a text in that one.
+  abbrev pub PutThenRunOn : (opened opened' : D → Type 0) → Type 0
+  PutThenRunOn opened opened' = (b steps : ℕ) (script : Script) (left left' written written' : Option (List ℕ)) (after last : D)
+      (put : Comes G opened (PutsBlock G b) after) → GivesAgain opened' (G.time after) after
+      → Comes G opened' (RunsScript G steps script left left' written written') last → IsTrue (suits G put.0)
+      → (text : List ℕ) × (bytes : List ℕ) × (screen_of text ≡ Some bytes) × (led : Option (List ℕ)) × (begun : D)
+      × IsLed (load_line script.load) script.files.items left led
+      × RunsFrom G (new_forth steps (fresh (latest (spilled (maps_on G put.0) b bytes)))) led left' written written' begun last

@@ -1,8 +1,13 @@
 //! Laws of the definitions.
 //! Rule: SEMANTICS, Laws.
-ghost use Rattle.terminal.specs.Again.{Chain, EndedIsFound, ImportThenRun, NewThenImport, PutThenRun, RunThenExport, RunThenRun, StoppedIsFound, StoppedPutThenRun, StoppedRecovery, StoppedRunThenRun};
+ghost use Rattle.std.specs.Prelude.{◌≡◌, ℕ, List};
+ghost use Rattle.sector_disk.specs.MemoryFiles.{IsReopened, file_in};
+ghost use Rattle.sector_disk.specs.Opening.{sectors_in};
+ghost use Rattle.sector_disk.specs.SectorFile.{file_of, sectors_of};
+ghost use Rattle.terminal.specs.Again.{Chain, EndedIsFound, GivesAgain, ImportThenRun, NewThenImport, PutThenRun, PutThenRunOn, RunThenExport, RunThenRun, StoppedIsFound, StoppedPutThenRun, StoppedRecovery, StoppedRunThenRun};
+ghost use Rattle.terminal.specs.Files.{IsOpened};
 
-use sector_disk::SectorDevice;
+use sector_disk::{HostFile, HostFiles, MemoryFile, MemoryFiles, SectorDevice, SectorFile};
 
 /// Does nothing. Its contract is a law: what one command has left of an image is what the next one opens, whether it
 /// ended or was stopped at some moment; so of two in a row, and of a chain of them.
@@ -18,4 +23,23 @@ pub fn again<D: SectorDevice>()
     ensures stopped_run_then_run { StoppedRunThenRun D.SectorDevice }
     ensures run_then_export { RunThenExport D.SectorDevice }
     ensures chain { Chain D.SectorDevice }
+{}
+
+/// Does nothing. Its contract is a law: of what `command_over` says of `put`, and of a later `run` on the file of that
+/// name, over any system of files that gives the file again, `run` is a session over the blocks that `put` left.
+pub fn over_files<H: HostFile, O: HostFiles<H>>()
+    ensures { (files later : O) (path : List ℕ) → PutThenRunOn ⟦<SectorFile<H> as SectorDevice>⟧
+        (IsOpened H.HostFile (O.opens files path)) (IsOpened H.HostFile (O.opens later path)) }
+{
+    again::<SectorFile<H>>();
+}
+
+/// Does nothing. Its contract is a law: there is a system that gives files again. One in memory, made of the file that
+/// was left, gives it as a device of as many sectors as it had, where those are all of the file's.
+pub fn files_in_memory(files: &MemoryFiles, left: &SectorFile<MemoryFile>)
+    ensures { file_in files.now ≡ file_of left.now
+        → sectors_of left.now ≡ sectors_in (⟦<MemoryFile as HostFile>⟧.extent (file_of left.now))
+        → GivesAgain ⟦<SectorFile<MemoryFile> as SectorDevice>⟧
+        (IsOpened ⟦<MemoryFile as HostFile>⟧ (IsReopened ⟦<MemoryFile as HostFile>⟧ (file_in files.now)))
+        (⟦<SectorFile<MemoryFile> as SectorDevice>⟧.time left.now) left.now }
 {}

@@ -1,0 +1,7 @@
+use Rattle.terminal.proofs.laws.over_files.Goals as goal
+
+pub returns : goal.returns
+returns g c = λ files later path b steps script left left' written written' after last put given ran keeps.
+    let runs = c.again.ensures.put_then_run b put.0 after ran.0 put.2 (given ran.0 ran.1) keeps in
+    let session = runs.3 steps ran.2.led left' written written' last ran.2.session in
+    (runs.0, runs.1, runs.2, ran.2.led, session.0, ran.2.leads, session.1)
