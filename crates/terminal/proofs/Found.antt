@@ -31,7 +31,7 @@ use Rattle.interpreter.specs.Lines.{new_forth}
 use Rattle.sessions.specs.Devices.{Becomes}
 use Rattle.command_line.specs.declared.orders.Layout.{Layout}
 use Rattle.command_line.specs.declared.orders.Layout.TheVariants.{Two, Three}
-use Rattle.terminal.specs.Again.{Chain, EndedIsFound, ExportsFrom, GivesBlocks, ImportThenRun, ImportsOver, IsFoundAgain, IsFoundAsItEnded, MakesBy, NewThenImport, PutThenRun, RunThenExport, RunThenRun, RunsOver, StoppedIsFound, StoppedPutThenRun, StoppedRecovery, StoppedRunThenRun, with_files}
+use Rattle.terminal.specs.Again.{BrokenRunThenRun, Chain, EndedIsFound, ExportsFrom, FaultThenRun, GivesBlocks, ImportThenRun, ImportsOver, IsFoundAgain, IsFoundAsItEnded, MakesBy, NewThenImport, PutThenRun, RunThenExport, RunThenRun, RunsOver, StoppedIsFound, StoppedPutThenRun, StoppedRecovery, StoppedRunThenRun, with_files}
 use Rattle.terminal.specs.Done.{LeavesBlocks, MeansOn, RunsFrom, maps_on, meant_by}
 use Rattle.terminal.specs.Findings.{said_all}
 use Rattle.terminal.specs.Transfer.{as_blocks, exports as exported, spilled_from}
@@ -244,6 +244,22 @@ module _ {D : Type 0} (G : Ghosts D) (present : (d : D) → IsTrue (G.keeps_mode
       kept_runs ran.begun after (suits_after device ran.begun after ran.recovers.goes ran.goes keeps)
       (ran.goes.sectors (suits_begun device ran.begun ran.recovers.goes keeps))
       (meant_by G device) (ran.runs keeps).made (G.time ran.begun) (ran.runs keeps).keeps.kept.leaves
+
+  pub broken_then_run : BrokenRunThenRun G
+  broken_then_run steps is_strict left left' written written' failure device after broke keeps =
+      let now = suits_after device broke.begun after broke.recovers.goes broke.goes keeps in (
+        λ next found live. then_runs after next (broke.done.breaks keeps).closing.world.maps.saved ((broke.done.breaks keeps).saved live) found now,
+        kept_runs broke.begun after now (broke.goes.sectors (suits_begun device broke.begun broke.recovers.goes keeps))
+            (meant_by G device) (broke.done.breaks keeps).made (G.time broke.begun) (broke.done.breaks keeps).keeps.kept.leaves,
+      )
+
+  pub fault_then_run : FaultThenRun G
+  fault_then_run steps script left left' written written' device after ran keeps =
+      let now = suits_after device ran.begun after ran.recovers.goes ran.goes keeps in (
+        λ next found live. then_runs after next (ran.stops keeps).closing.world.maps.saved ((ran.stops keeps).saved live) found now,
+        kept_runs ran.begun after now (ran.goes.sectors (suits_begun device ran.begun ran.recovers.goes keeps))
+            (meant_by G device) (ran.stops keeps).made (G.time ran.begun) (ran.stops keeps).keeps.kept.leaves,
+      )
 
   pub chain : Chain G
   chain layout n first count form file made image filled opened saved again stopped_run later done last many few makes suited found_image imports found_opened one keeps live found_again two keeps' found_later three keeps'' live' found_last =

@@ -1,5 +1,5 @@
 -- One command after another: what the one left, when it ended or when it was stopped, is what the next one opens.
-use Rattle.std.specs.Prelude.{◌≡◌, ◌⊎◌, ℕ, ◌+◌, ◌-◌, ◌≤◌, IsTrue, List, Option, Some, false}
+use Rattle.std.specs.Prelude.{◌≡◌, ◌⊎◌, ℕ, ◌+◌, ◌-◌, ◌≤◌, Bool, IsTrue, List, Option, Some, false}
 use Rattle.std.specs.Io.KnownBytes.{Appends}
 use Rattle.sector_disk.specs.Disk.{Image, MayLeave}
 use Rattle.sector_disk.specs.declared.device.SectorDevice.{Ghosts}
@@ -17,11 +17,13 @@ use Rattle.command_line.specs.declared.orders.Layout.{Layout}
 use Rattle.command_line.specs.declared.orders.Layout.TheVariants.{Two, Three}
 use Rattle.command_line.specs.declared.orders.Script.{Script}
 use Rattle.terminal.specs.Done.{Comes, Exports, ImportsBlocks, LeavesBlocks, MakesBlank, PutsBlock, Recovers, RunsFrom, RunsSession, maps_on, meant_by}
+use Rattle.terminal.specs.Failed.{BreaksSession, OpensThen}
 use Rattle.terminal.specs.Findings.{said_all}
 use Rattle.terminal.specs.Layout3.{MakesNewer}
 use Rattle.terminal.specs.Screen.{screen_of}
-use Rattle.terminal.specs.Scripts.{IsLed, RunsScript, load_line}
+use Rattle.terminal.specs.Scripts.{IsLed, RunsScript, StopsScript, load_line}
 use Rattle.terminal.specs.Transfer.{as_blocks, exports, spilled_from}
+use Rattle.terminal.specs.declared.failure.Failure.{Failure}
 
 -- these blocks, and in them from the first one on those that some files say
 abbrev pub with_files : List (List ℕ) → (form : Form) (first : ℕ) (files : List (List ℕ)) → List (List ℕ)
@@ -136,6 +138,25 @@ module _ {D : Type 0} (G : Ghosts D) where
       (ran : RunsSession G steps left left' written written' device after) (keeps : IsTrue (suits G device))
       → KeptFrom RunsOver (λ since next. IsFoundAgain since after next) (G.time after)
       (meant_by G device) (ran.runs keeps).made (G.time ran.begun)
+
+  -- `run` that broke off, since the input or the output failed, and then `run`: over the blocks that were saved last, where no fault
+  -- closed the store; and if it was stopped before, the same as of one that came to the end of its input.
+  abbrev pub BrokenRunThenRun : Type 0
+  BrokenRunThenRun = (steps : ℕ) (is_strict : Bool) (left left' written written' : Option (List ℕ)) (failure : Failure) (device after : D)
+      (broke : OpensThen G (BreaksSession G steps is_strict left left' written written' failure) device after) (keeps : IsTrue (suits G device))
+      → ((next : D) → IsFoundAsItEnded after next → (broke.done.breaks keeps).closing.world.maps.closed ≡ false
+      → RunsOver next (broke.done.breaks keeps).closing.world.maps.saved)
+      × KeptFrom RunsOver (λ since next. IsFoundAgain since after next) (G.time after)
+      (meant_by G device) (broke.done.breaks keeps).made (G.time broke.begun)
+
+  -- `run` that a fault ended, since it was strict, and then `run`: the same.
+  abbrev pub FaultThenRun : Type 0
+  FaultThenRun = (steps : ℕ) (script : Script) (left left' written written' : Option (List ℕ)) (device after : D)
+      (ran : StopsScript G steps script left left' written written' device after) (keeps : IsTrue (suits G device))
+      → ((next : D) → IsFoundAsItEnded after next → (ran.stops keeps).closing.world.maps.closed ≡ false
+      → RunsOver next (ran.stops keeps).closing.world.maps.saved)
+      × KeptFrom RunsOver (λ since next. IsFoundAgain since after next) (G.time after)
+      (meant_by G device) (ran.stops keeps).made (G.time ran.begun)
 
   -- `run`, and then `export`: what is printed are the blocks that the session saved last, where no fault closed its store.
   abbrev pub RunThenExport : Type 0
