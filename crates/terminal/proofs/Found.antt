@@ -31,7 +31,7 @@ use Rattle.interpreter.specs.Lines.{new_forth}
 use Rattle.sessions.specs.Devices.{Becomes}
 use Rattle.command_line.specs.declared.orders.Layout.{Layout}
 use Rattle.command_line.specs.declared.orders.Layout.TheVariants.{Two, Three}
-use Rattle.terminal.specs.Again.{BrokenRunThenRun, Chain, EndedIsFound, ExportsFrom, FaultThenRun, GivesBlocks, ImportThenRun, ImportsOver, IsFoundAgain, IsFoundAsItEnded, MakesBy, NewThenImport, PutThenRun, RunThenExport, RunThenRun, RunsOver, StoppedIsFound, StoppedPutThenRun, StoppedRecovery, StoppedRunThenRun, with_files}
+use Rattle.terminal.specs.Again.{BrokenRunThenRun, Chain, EndedIsFound, ExportsFrom, FaultThenRun, GivesBlocks, ImportThenRun, ImportsOver, IsFoundAgain, IsFoundAsItEnded, MakesBy, NewThenImport, PutThenRun, RunThenExport, RunThenRun, RunsOver, StoppedImportThenRun, StoppedIsFound, StoppedPutThenRun, StoppedRecovery, StoppedRunThenRun, with_files}
 use Rattle.terminal.specs.Done.{LeavesBlocks, MeansOn, RunsFrom, maps_on, meant_by}
 use Rattle.terminal.specs.Findings.{said_all}
 use Rattle.terminal.specs.Transfer.{as_blocks, exports as exported, spilled_from}
@@ -238,6 +238,15 @@ module _ {D : Type 0} (G : Ghosts D) (present : (d : D) → IsTrue (G.keeps_mode
       λ next found. one_of t next found map (save ∷ saves) (kept.0 (G.disk next).content (stopped t after next found now)),
       λ returned. let later = kept.1 returned in (later.0, later.1, later.2, kept_runs save.map saves later.0 later.3),
     )
+
+  pub stopped_import_then_run : StoppedImportThenRun G
+  stopped_import_then_run form first count device after next imports found keeps =
+      let now = suits_after device imports.begun after imports.recovers.goes imports.goes keeps in
+      let sized = imports.goes.sectors (suits_begun device imports.begun imports.recovers.goes keeps) in
+      let since = stopped (G.time imports.begun) after next found now in
+      ⊎_elim (λ old. inl (found_runs imports.begun after now sized (G.time imports.begun) next (meant_by G device) found old))
+      (λ new. inr (found_runs imports.begun after now sized (G.time imports.begun) next (with_files (meant_by G device) form first imports.files) found new))
+      ((imports.saves keeps).stops refl (G.disk next).content since)
 
   pub stopped_run_then_run : StoppedRunThenRun G
   stopped_run_then_run steps left left' written written' device after ran keeps =

@@ -113,6 +113,12 @@ module _ {D : Type 0} (G : Ghosts D) where
       → IsFoundAsItEnded after next → IsTrue (suits G device)
       → RunsOver next (with_files (meant_by G device) form first imports.files)
 
+  -- `import` that was stopped at some moment after its recovery, and then `run`: over these blocks, or over those as they were.
+  abbrev pub StoppedImportThenRun : Type 0
+  StoppedImportThenRun = (form : Form) (first count : ℕ) (device after next : D) (imports : ImportsBlocks G form first count device after)
+      → IsFoundAgain (G.time imports.begun) after next → IsTrue (suits G device)
+      → RunsOver next (meant_by G device) ⊎ RunsOver next (with_files (meant_by G device) form first imports.files)
+
   -- `put`, and then `run`: the session is one over the blocks as they were, with the lines of the text in that one.
   abbrev pub PutThenRun : Type 0
   PutThenRun = (b : ℕ) (device after next : D) → PutsBlock G b device after → IsFoundAsItEnded after next → IsTrue (suits G device)

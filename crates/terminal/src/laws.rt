@@ -4,7 +4,7 @@ ghost use Rattle.std.specs.Prelude.{◌≡◌, ℕ, List};
 ghost use Rattle.sector_disk.specs.MemoryFiles.{IsReopened, file_in};
 ghost use Rattle.sector_disk.specs.Opening.{sectors_in};
 ghost use Rattle.sector_disk.specs.SectorFile.{file_of, sectors_of};
-ghost use Rattle.terminal.specs.Again.{BrokenRunThenRun, Chain, EndedIsFound, FaultThenRun, GivesAgain, ImportThenRun, NewThenImport, PutThenRun, PutThenRunOn, RunThenExport, RunThenRun, StoppedIsFound, StoppedPutThenRun, StoppedRecovery, StoppedRunThenRun};
+ghost use Rattle.terminal.specs.Again.{BrokenRunThenRun, Chain, EndedIsFound, FaultThenRun, GivesAgain, ImportThenRun, NewThenImport, PutThenRun, PutThenRunOn, RunThenExport, RunThenRun, StoppedImportThenRun, StoppedIsFound, StoppedPutThenRun, StoppedRecovery, StoppedRunThenRun};
 ghost use Rattle.terminal.specs.Files.{IsOpened};
 
 use sector_disk::{HostFile, HostFiles, MemoryFile, MemoryFiles, SectorDevice, SectorFile};
@@ -17,6 +17,7 @@ pub fn again<D: SectorDevice>()
     ensures stopped_recovery { StoppedRecovery D.SectorDevice }
     ensures new_then_import { NewThenImport D.SectorDevice }
     ensures import_then_run { ImportThenRun D.SectorDevice }
+    ensures stopped_import_then_run { StoppedImportThenRun D.SectorDevice }
     ensures put_then_run { PutThenRun D.SectorDevice }
     ensures stopped_put_then_run { StoppedPutThenRun D.SectorDevice }
     ensures run_then_run { RunThenRun D.SectorDevice }

@@ -1,4 +1,4 @@
-use Rattle.terminal.proofs.Found.{broken_then_run, chain, ended, fault_then_run, import_then_run, new_then_import, put_then_run, run_then_export, run_then_run, stopped, stopped_put_then_run, stopped_recovery, stopped_run_then_run}
+use Rattle.terminal.proofs.Found.{broken_then_run, chain, ended, fault_then_run, import_then_run, new_then_import, put_then_run, run_then_export, run_then_run, stopped, stopped_import_then_run, stopped_put_then_run, stopped_recovery, stopped_run_then_run}
 use Rattle.terminal.proofs.laws.again.Goals as goal
 
 pub returns-clause-stopped : goal.returns-clause-stopped
@@ -20,6 +20,10 @@ returns-clause-new_then_import g c =
 pub returns-clause-import_then_run : goal.returns-clause-import_then_run
 returns-clause-import_then_run g c =
     let D = g.met.D.SectorDevice in import_then_run g.D.SectorDevice D.present D.keeps_both D.only_now
+
+pub returns-clause-stopped_import_then_run : goal.returns-clause-stopped_import_then_run
+returns-clause-stopped_import_then_run g c =
+    let D = g.met.D.SectorDevice in stopped_import_then_run g.D.SectorDevice D.present D.keeps_both D.only_now
 
 pub returns-clause-put_then_run : goal.returns-clause-put_then_run
 returns-clause-put_then_run g c =
