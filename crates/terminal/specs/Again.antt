@@ -190,12 +190,26 @@ module _ {D : Type 0} (G : Ghosts D) where
 
   -- ---- orders on what an opening gave
 
-  -- `put` was done on a device that an opening gave, it is given again as it was left, and then `run` was done on what an opening gave: a
-  -- session over the blocks as they were, with the lines of a text in that one.
+  -- `run` of what a script asks for was a session over these blocks.
+  abbrev pub RanOver : (steps : ℕ) (script : Script) (left left' written written' : Option (List ℕ)) → List (List ℕ) → (after : D) → Type 0
+  RanOver steps script left left' written written' blocks after = (led : Option (List ℕ)) × (begun : D)
+      × IsLed (load_line script.load) script.files.items left led
+      × RunsFrom G (new_forth steps (fresh blocks)) led left' written written' begun after
+
+  -- `put` was done on a device that an opening gave, it is given again as it was left, and then `run` was done on what an opening gave:
+  -- over the blocks as they were, with the lines of a text in that one.
   abbrev pub PutThenRunOn : (opened opened' : D → Type 0) → Type 0
   PutThenRunOn opened opened' = (b steps : ℕ) (script : Script) (left left' written written' : Option (List ℕ)) (after last : D)
       (put : Comes G opened (PutsBlock G b) after) → GivesAgain opened' (G.time after) after
       → Comes G opened' (RunsScript G steps script left left' written written') last → IsTrue (suits G put.0)
-      → (text : List ℕ) × (bytes : List ℕ) × (screen_of text ≡ Some bytes) × (led : Option (List ℕ)) × (begun : D)
-      × IsLed (load_line script.load) script.files.items left led
-      × RunsFrom G (new_forth steps (fresh (latest (spilled (maps_on G put.0) b bytes)))) led left' written written' begun last
+      → (text : List ℕ) × (bytes : List ℕ) × (screen_of text ≡ Some bytes)
+      × RanOver steps script left left' written written' (latest (spilled (maps_on G put.0) b bytes)) last
+
+  -- The same of `run`, and then `run`: over the blocks that the first session saved last, where no fault closed its store.
+  abbrev pub RunThenRunOn : (opened opened' : D → Type 0) → Type 0
+  RunThenRunOn opened opened' = (first_steps steps : ℕ) (first_script script : Script)
+      (unread unread' shown shown' left left' written written' : Option (List ℕ)) (after last : D)
+      (ran : Comes G opened (RunsScript G first_steps first_script unread unread' shown shown') after) → GivesAgain opened' (G.time after) after
+      → Comes G opened' (RunsScript G steps script left left' written written') last → (keeps : IsTrue (suits G ran.0))
+      → (ran.2.session.runs keeps).closing.world.maps.closed ≡ false
+      → RanOver steps script left left' written written' (ran.2.session.runs keeps).closing.world.maps.saved last

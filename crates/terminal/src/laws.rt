@@ -4,7 +4,7 @@ ghost use Rattle.std.specs.Prelude.{◌≡◌, ℕ, List};
 ghost use Rattle.sector_disk.specs.MemoryFiles.{IsReopened, file_in};
 ghost use Rattle.sector_disk.specs.Opening.{sectors_in};
 ghost use Rattle.sector_disk.specs.SectorFile.{file_of, sectors_of};
-ghost use Rattle.terminal.specs.Again.{BrokenRunThenRun, Chain, EndedIsFound, FaultThenRun, GivesAgain, ImportThenRun, NewThenImport, PutThenRun, PutThenRunOn, RunThenExport, RunThenRun, StoppedImportThenRun, StoppedIsFound, StoppedPutThenRun, StoppedRecovery, StoppedRunThenRun};
+ghost use Rattle.terminal.specs.Again.{BrokenRunThenRun, Chain, EndedIsFound, FaultThenRun, GivesAgain, ImportThenRun, NewThenImport, PutThenRun, PutThenRunOn, RunThenExport, RunThenRun, RunThenRunOn, StoppedImportThenRun, StoppedIsFound, StoppedPutThenRun, StoppedRecovery, StoppedRunThenRun};
 ghost use Rattle.terminal.specs.Files.{IsOpened};
 
 use sector_disk::{HostFile, HostFiles, MemoryFile, MemoryFiles, SectorDevice, SectorFile};
@@ -28,10 +28,13 @@ pub fn again<D: SectorDevice>()
     ensures chain { Chain D.SectorDevice }
 {}
 
-/// Does nothing. Its contract is a law: of what `command_over` says of `put`, and of a later `run` on the file of that
-/// name, over any system of files that gives the file again, `run` is a session over the blocks that `put` left.
+/// Does nothing. Its contract is a law: of what `command_over` says of `put`, or of `run`, and of a later `run` on the
+/// file of that name, over any system of files that gives the file again, the later one is over the blocks that the
+/// first one left.
 pub fn over_files<H: HostFile, O: HostFiles<H>>()
-    ensures { (files later : O) (path : List ℕ) → PutThenRunOn ⟦<SectorFile<H> as SectorDevice>⟧
+    ensures put_then_run { (files later : O) (path : List ℕ) → PutThenRunOn ⟦<SectorFile<H> as SectorDevice>⟧
+        (IsOpened H.HostFile (O.opens files path)) (IsOpened H.HostFile (O.opens later path)) }
+    ensures run_then_run { (files later : O) (path : List ℕ) → RunThenRunOn ⟦<SectorFile<H> as SectorDevice>⟧
         (IsOpened H.HostFile (O.opens files path)) (IsOpened H.HostFile (O.opens later path)) }
 {
     again::<SectorFile<H>>();
