@@ -31,7 +31,7 @@ use Rattle.interpreter.specs.Lines.{new_forth}
 use Rattle.sessions.specs.Devices.{Becomes}
 use Rattle.command_line.specs.declared.orders.Layout.{Layout}
 use Rattle.command_line.specs.declared.orders.Layout.TheVariants.{Two, Three}
-use Rattle.terminal.specs.Again.{BrokenRunThenRun, Chain, EndedIsFound, ExportsFrom, FaultThenRun, GivesBlocks, ImportThenRun, ImportsOver, IsFoundAgain, IsFoundAsItEnded, MakesBy, NewThenImport, PutThenRun, RunThenExport, RunThenRun, RunsOver, StoppedImportThenRun, StoppedIsFound, StoppedPutThenRun, StoppedRecovery, StoppedRunThenRun, with_files}
+use Rattle.terminal.specs.Again.{AnyMomentThenRun, BrokenRunThenRun, Chain, EndedIsFound, ExportsFrom, FaultThenRun, GivesBlocks, ImportThenRun, ImportsOver, IsFoundAgain, IsFoundAsItEnded, MakesBy, NewThenImport, PutThenRun, RunThenExport, RunThenRun, RunsOver, StoppedImportThenRun, StoppedIsFound, StoppedPutThenRun, StoppedRecovery, StoppedRunThenRun, with_files}
 use Rattle.terminal.specs.Done.{LeavesBlocks, MeansOn, RunsFrom, maps_on, meant_by}
 use Rattle.terminal.specs.Findings.{said_all}
 use Rattle.terminal.specs.Transfer.{as_blocks, exports as exported, spilled_from}
@@ -239,6 +239,16 @@ module _ {D : Type 0} (G : Ghosts D) (present : (d : D) → IsTrue (G.keeps_mode
       λ returned. let later = kept.1 returned in (later.0, later.1, later.2, kept_runs save.map saves later.0 later.3),
     )
 
+    -- What is said of stops since a time holds since an earlier one, if each stop between them leaves the blocks from before the saves.
+    earlier : (map : List (List ℕ)) (saves : List Save) (s t : ℕ) → s ≤ t
+        → ((image : Image) → G.left_since after s image → MeansThen image map ⊎ G.left_since after t image)
+        → KeptFrom MeansThen (G.left_since after) (G.time after) map saves t → KeptFrom MeansThen (G.left_since after) (G.time after) map saves s
+    earlier map [] s t le split kept = λ image since. ⊎_elim (λ means. means) (λ later. kept image later) (split image since)
+    earlier map (save ∷ saves) s t le split kept = (
+      λ image since. ⊎_elim (λ means. inl means) (λ later. kept.0 image later) (split image since),
+      λ returned. let later = kept.1 returned in (later.0, omega (arith, later.1, le), later.2, later.3),
+    )
+
   pub stopped_import_then_run : StoppedImportThenRun G
   stopped_import_then_run form first count device after next imports found keeps =
       let now = suits_after device imports.begun after imports.recovers.goes imports.goes keeps in
@@ -253,6 +263,20 @@ module _ {D : Type 0} (G : Ghosts D) (present : (d : D) → IsTrue (G.keeps_mode
       kept_runs ran.begun after (suits_after device ran.begun after ran.recovers.goes ran.goes keeps)
       (ran.goes.sectors (suits_begun device ran.begun ran.recovers.goes keeps))
       (meant_by G device) (ran.runs keeps).made (G.time ran.begun) (ran.runs keeps).keeps.kept.leaves
+
+  pub any_moment_then_run : AnyMomentThenRun G
+  any_moment_then_run steps left left' written written' device after ran keeps leaves =
+      let now = suits_after device ran.begun after ran.recovers.goes ran.goes keeps in
+      let sized = ran.goes.sectors (suits_begun device ran.begun ran.recovers.goes keeps) in
+      let split : (image : Image) → G.left_since after (G.time device) image
+      → Means (G.sector_count ran.begun) (meant_by G device) image ⊎ G.left_since after (G.time ran.begun) image =
+      λ image since. ⊎_elim
+      (λ past. inl (subst (λ (n : ℕ). Means n (meant_by G device) image) (sym ran.recovers.sectors)
+      (opening_means (G.sector_count device) (G.disk device) (meant_by G device) image leaves (ran.recovers.stops keeps image past))))
+      (λ later. inr later) (ran.goes.time.only (G.time device) image ran.recovers.goes.time.later since) in
+      kept_runs ran.begun after now sized (meant_by G device) (ran.runs keeps).made (G.time device)
+      (earlier ran.begun after now sized (meant_by G device) (ran.runs keeps).made (G.time device) (G.time ran.begun)
+      ran.recovers.goes.time.later split (ran.runs keeps).keeps.kept.leaves)
 
   pub broken_then_run : BrokenRunThenRun G
   broken_then_run steps is_strict left left' written written' failure device after broke keeps =
@@ -277,12 +301,14 @@ module _ {D : Type 0} (G : Ghosts D) (present : (d : D) → IsTrue (G.keeps_mode
       let filled_suits = suits_after image imports.begun filled imports.recovers.goes imports.goes image_suits in
       let saved_suits = suits_after opened one.session.begun saved one.session.recovers.goes one.session.goes keeps in
       let kept = (one.session.runs keeps).closing.world.maps.saved in
-      let same = (ended saved again kept ((one.session.runs keeps).saved live) found_again saved_suits).0 in (
+      let found_kept = ended saved again kept ((one.session.runs keeps).saved live) found_again saved_suits in
+      let same = found_kept.0 (two.session.meant keeps') in
+      let leaves = subst (λ (blocks : List (List ℕ)). LeavesBlocks G again blocks) (sym same) found_kept.1 in (
         then_runs filled opened (with_files (blank_blocks n) form first imports.files) files_in found_opened filled_suits,
         run_then_run one.steps one.input one.input_after one.output one.output_after opened saved again one.session found_again keeps live,
         subst (λ (blocks : List (List ℕ)). KeptFrom (RunsOver G) (λ since next. IsFoundAgain G since stopped_run next) (G.time stopped_run)
-            blocks (two.session.runs keeps').made (G.time two.session.begun))
-            (same (two.session.meant keeps'))
-            (stopped_run_then_run two.steps two.input two.input_after two.output two.output_after again stopped_run two.session keeps'),
+            blocks (two.session.runs keeps').made (G.time again))
+            same
+            (any_moment_then_run two.steps two.input two.input_after two.output two.output_after again stopped_run two.session keeps' leaves),
         run_then_export three.steps three.input three.input_after three.output three.output_after later done last three.session found_last keeps'' live',
       )

@@ -145,6 +145,14 @@ module _ {D : Type 0} (G : Ghosts D) where
       → KeptFrom RunsOver (λ since next. IsFoundAgain since after next) (G.time after)
       (meant_by G device) (ran.runs keeps).made (G.time ran.begun)
 
+  -- The same of one that was stopped at any moment, in its recovery or after it, where a stop before left the blocks of its image.
+  abbrev pub AnyMomentThenRun : Type 0
+  AnyMomentThenRun = (steps : ℕ) (left left' written written' : Option (List ℕ)) (device after : D)
+      (ran : RunsSession G steps left left' written written' device after) (keeps : IsTrue (suits G device))
+      → LeavesBlocks G device (meant_by G device)
+      → KeptFrom RunsOver (λ since next. IsFoundAgain since after next) (G.time after)
+      (meant_by G device) (ran.runs keeps).made (G.time device)
+
   -- `run` that broke off, since the input or the output failed, and then `run`: over the blocks that were saved last, where no fault
   -- closed the store; and if it was stopped before, the same as of one that came to the end of its input.
   abbrev pub BrokenRunThenRun : Type 0
@@ -170,9 +178,10 @@ module _ {D : Type 0} (G : Ghosts D) where
       (ran : RunsSession G steps left left' written written' device after) → IsFoundAsItEnded after next → (keeps : IsTrue (suits G device))
       → (ran.runs keeps).closing.world.maps.closed ≡ false → ExportsFrom next (ran.runs keeps).closing.world.maps.saved
 
-  -- `new`, `import`, `run`, a `run` that was stopped at some moment of its session, `run`, `export`, each of what the one before left: the
-  -- first session is one over blank blocks with those that the files say; the second one is over the blocks that the first one saved
-  -- last, and so is what is found after it, with one of its saves; and what is printed are the blocks that the third one saved last.
+  -- `new`, `import`, `run`, a `run` that was stopped at any moment, `run`, `export`, each of what the one before left: the first session
+  -- is one over blank blocks with those that the files say; the second one is over the blocks that the first one saved last; the third
+  -- one is over these, or over those of a save of the second one, none from before a save that had returned; and what is printed are the
+  -- blocks that the third one saved last.
   abbrev pub Chain : Type 0
   Chain = (layout : Layout) (n first count : ℕ) (form : Form) (file made image filled opened saved again stopped later done last : D)
       → fewest_blocks ≤ n → n ≤ most_blocks → MakesBy layout n file made → IsTrue (suits G file)
@@ -180,12 +189,12 @@ module _ {D : Type 0} (G : Ghosts D) where
       → IsFoundAsItEnded filled opened → (one : Run opened saved) (keeps : IsTrue (suits G opened))
       → (one.session.runs keeps).closing.world.maps.closed ≡ false
       → IsFoundAsItEnded saved again → (two : Run again stopped) (keeps' : IsTrue (suits G again))
-      → IsFoundAgain (G.time two.session.begun) stopped later → (three : Run later done) (keeps'' : IsTrue (suits G later))
+      → IsFoundAgain (G.time again) stopped later → (three : Run later done) (keeps'' : IsTrue (suits G later))
       → (three.session.runs keeps'').closing.world.maps.closed ≡ false → IsFoundAsItEnded done last
       → RunsOver opened (with_files (blank_blocks n) form first imports.files)
       × RunsOver again (one.session.runs keeps).closing.world.maps.saved
       × KeptFrom RunsOver (λ since next. IsFoundAgain since stopped next) (G.time stopped)
-      (one.session.runs keeps).closing.world.maps.saved (two.session.runs keeps').made (G.time two.session.begun)
+      (one.session.runs keeps).closing.world.maps.saved (two.session.runs keeps').made (G.time again)
       × ExportsFrom last (three.session.runs keeps'').closing.world.maps.saved
 
   -- ---- orders on what an opening gave

@@ -4,7 +4,7 @@ ghost use Rattle.std.specs.Prelude.{◌≡◌, ℕ, List};
 ghost use Rattle.sector_disk.specs.MemoryFiles.{IsReopened, file_in};
 ghost use Rattle.sector_disk.specs.Opening.{sectors_in};
 ghost use Rattle.sector_disk.specs.SectorFile.{file_of, sectors_of};
-ghost use Rattle.terminal.specs.Again.{BrokenRunThenRun, Chain, EndedIsFound, FaultThenRun, GivesAgain, ImportThenRun, NewThenImport, PutThenRun, PutThenRunOn, RunThenExport, RunThenRun, RunThenRunOn, StoppedImportThenRun, StoppedIsFound, StoppedPutThenRun, StoppedRecovery, StoppedRunThenRun};
+ghost use Rattle.terminal.specs.Again.{AnyMomentThenRun, BrokenRunThenRun, Chain, EndedIsFound, FaultThenRun, GivesAgain, ImportThenRun, NewThenImport, PutThenRun, PutThenRunOn, RunThenExport, RunThenRun, RunThenRunOn, StoppedImportThenRun, StoppedIsFound, StoppedPutThenRun, StoppedRecovery, StoppedRunThenRun};
 ghost use Rattle.terminal.specs.Files.{IsOpened};
 
 use sector_disk::{HostFile, HostFiles, MemoryFile, MemoryFiles, SectorDevice, SectorFile};
@@ -22,6 +22,7 @@ pub fn again<D: SectorDevice>()
     ensures stopped_put_then_run { StoppedPutThenRun D.SectorDevice }
     ensures run_then_run { RunThenRun D.SectorDevice }
     ensures stopped_run_then_run { StoppedRunThenRun D.SectorDevice }
+    ensures any_moment_then_run { AnyMomentThenRun D.SectorDevice }
     ensures broken_then_run { BrokenRunThenRun D.SectorDevice }
     ensures fault_then_run { FaultThenRun D.SectorDevice }
     ensures run_then_export { RunThenExport D.SectorDevice }

@@ -1,4 +1,4 @@
-use Rattle.terminal.proofs.Found.{broken_then_run, chain, ended, fault_then_run, import_then_run, new_then_import, put_then_run, run_then_export, run_then_run, stopped, stopped_import_then_run, stopped_put_then_run, stopped_recovery, stopped_run_then_run}
+use Rattle.terminal.proofs.Found.{any_moment_then_run, broken_then_run, chain, ended, fault_then_run, import_then_run, new_then_import, put_then_run, run_then_export, run_then_run, stopped, stopped_import_then_run, stopped_put_then_run, stopped_recovery, stopped_run_then_run}
 use Rattle.terminal.proofs.laws.again.Goals as goal
 
 pub returns-clause-stopped : goal.returns-clause-stopped
@@ -40,6 +40,10 @@ returns-clause-run_then_run g c =
 pub returns-clause-stopped_run_then_run : goal.returns-clause-stopped_run_then_run
 returns-clause-stopped_run_then_run g c =
     let D = g.met.D.SectorDevice in stopped_run_then_run g.D.SectorDevice D.present D.keeps_both D.only_now
+
+pub returns-clause-any_moment_then_run : goal.returns-clause-any_moment_then_run
+returns-clause-any_moment_then_run g c =
+    let D = g.met.D.SectorDevice in any_moment_then_run g.D.SectorDevice D.present D.keeps_both D.only_now
 
 pub returns-clause-broken_then_run : goal.returns-clause-broken_then_run
 returns-clause-broken_then_run g c =
