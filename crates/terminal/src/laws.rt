@@ -46,7 +46,6 @@ pub fn over_files<H: HostFile, O: HostFiles<H>>()
 pub fn files_in_memory(files: &MemoryFiles, left: &SectorFile<MemoryFile>)
     ensures { file_in files.now ≡ file_of left.now
         → sectors_of left.now ≡ sectors_in (⟦<MemoryFile as HostFile>⟧.extent (file_of left.now))
-        → GivesAgain ⟦<SectorFile<MemoryFile> as SectorDevice>⟧
-        (IsOpened ⟦<MemoryFile as HostFile>⟧ (IsReopened ⟦<MemoryFile as HostFile>⟧ (file_in files.now)))
-        (⟦<SectorFile<MemoryFile> as SectorDevice>⟧.time left.now) left.now }
+        → (since : ℕ) → GivesAgain ⟦<SectorFile<MemoryFile> as SectorDevice>⟧
+        (IsOpened ⟦<MemoryFile as HostFile>⟧ (IsReopened ⟦<MemoryFile as HostFile>⟧ (file_in files.now))) since left.now }
 {}

@@ -6,7 +6,7 @@ use Rattle.sector_disk.specs.contracts.memory_file.MemoryFileHostFile.TheImpl as
 use Rattle.terminal.proofs.laws.files_in_memory.Goals as goal
 
 pub returns : goal.returns
-returns c = λ same size next opened.
+returns c = λ same size since next opened.
     let file = memory.ghosts in
     record {
       sectors = opened.sectors refl ∙ ap sectors_in (opened.file.extent ∙ ap file.extent same) ∙ sym size;
