@@ -31,8 +31,8 @@ use Rattle.interpreter.specs.Lines.{new_forth}
 use Rattle.sessions.specs.Devices.{Becomes}
 use Rattle.command_line.specs.declared.orders.Layout.{Layout}
 use Rattle.command_line.specs.declared.orders.Layout.TheVariants.{Two, Three}
-use Rattle.terminal.specs.Again.{AnyMomentThenRun, BrokenRunThenRun, Chain, EndedIsFound, ExportsFrom, FaultThenRun, GivesBlocks, ImportThenRun, ImportsOver, IsFoundAgain, IsFoundAsItEnded, MakesBy, NewThenImport, PutThenRun, RunThenExport, RunThenRun, RunsOver, StoppedImportThenRun, StoppedIsFound, StoppedPutThenRun, StoppedRecovery, StoppedRunThenRun, with_files}
-use Rattle.terminal.specs.Done.{LeavesBlocks, MeansOn, RunsFrom, maps_on, meant_by}
+use Rattle.terminal.specs.Again.{AnyMomentImportThenRun, AnyMomentPutThenRun, AnyMomentThenRun, BrokenRunThenRun, Chain, EndedIsFound, ExportsFrom, FaultThenRun, GivesBlocks, ImportThenRun, ImportsOver, IsFoundAgain, IsFoundAsItEnded, MakesBy, NewThenImport, PutThenRun, RunThenExport, RunThenRun, RunsOver, StoppedImportThenRun, StoppedIsFound, StoppedPutThenRun, StoppedRecovery, StoppedRunThenRun, with_files}
+use Rattle.terminal.specs.Done.{LeavesBlocks, MeansOn, Recovers, RunsFrom, maps_on, meant_by}
 use Rattle.terminal.specs.Findings.{said_all}
 use Rattle.terminal.specs.Transfer.{as_blocks, exports as exported, spilled_from}
 
@@ -124,6 +124,16 @@ module _ {D : Type 0} (G : Ghosts D) (present : (d : D) → IsTrue (G.keeps_mode
       let since = stopped (G.time device) begun next found (suits_begun device begun recovers.goes keeps) in
       gives (G.time device) (G.sector_count device) begun next blocks found recovers.sectors
       (opening_means (G.sector_count device) (G.disk device) blocks (G.disk next).content leaves (recovers.stops keeps (G.disk next).content since))
+
+  -- A stop at any moment of a command came in its recovery, which leaves the blocks of an image that was left before, or after that.
+  since_before : (device begun after : D) → Recovers G device begun → Becomes G begun after → IsTrue (suits G device)
+      → (blocks : List (List ℕ)) → LeavesBlocks G device blocks → (image : Image) → G.left_since after (G.time device) image
+      → Means (G.sector_count begun) blocks image ⊎ G.left_since after (G.time begun) image
+  since_before device begun after recovers goes keeps blocks leaves image since =
+      ⊎_elim
+      (λ past. inl (subst (λ (n : ℕ). Means n blocks image) (sym recovers.sectors)
+      (opening_means (G.sector_count device) (G.disk device) blocks image leaves (recovers.stops keeps image past))))
+      (λ later. inr later) (goes.time.only (G.time device) image recovers.goes.time.later since)
 
   -- ---- what a command does over blocks that it finds
 
@@ -268,15 +278,40 @@ module _ {D : Type 0} (G : Ghosts D) (present : (d : D) → IsTrue (G.keeps_mode
   any_moment_then_run steps left left' written written' device after ran keeps leaves =
       let now = suits_after device ran.begun after ran.recovers.goes ran.goes keeps in
       let sized = ran.goes.sectors (suits_begun device ran.begun ran.recovers.goes keeps) in
-      let split : (image : Image) → G.left_since after (G.time device) image
-      → Means (G.sector_count ran.begun) (meant_by G device) image ⊎ G.left_since after (G.time ran.begun) image =
-      λ image since. ⊎_elim
-      (λ past. inl (subst (λ (n : ℕ). Means n (meant_by G device) image) (sym ran.recovers.sectors)
-      (opening_means (G.sector_count device) (G.disk device) (meant_by G device) image leaves (ran.recovers.stops keeps image past))))
-      (λ later. inr later) (ran.goes.time.only (G.time device) image ran.recovers.goes.time.later since) in
       kept_runs ran.begun after now sized (meant_by G device) (ran.runs keeps).made (G.time device)
-      (earlier ran.begun after now sized (meant_by G device) (ran.runs keeps).made (G.time device) (G.time ran.begun)
-      ran.recovers.goes.time.later split (ran.runs keeps).keeps.kept.leaves)
+      (earlier ran.begun after now sized (meant_by G device) (ran.runs keeps).made (G.time device) (G.time ran.begun) ran.recovers.goes.time.later
+      (since_before device ran.begun after ran.recovers ran.goes keeps (meant_by G device) leaves) (ran.runs keeps).keeps.kept.leaves)
+
+  pub any_moment_import_then_run : AnyMomentImportThenRun G
+  any_moment_import_then_run form first count device after next imports leaves found keeps =
+      let now = suits_after device imports.begun after imports.recovers.goes imports.goes keeps in
+      let sized = imports.goes.sectors (suits_begun device imports.begun imports.recovers.goes keeps) in
+      let all = with_files (meant_by G device) form first imports.files in
+      let old : MeansOn G imports.begun (meant_by G device) (G.disk next).content → RunsOver G next (meant_by G device) ⊎ RunsOver G next all =
+      λ means. inl (found_runs imports.begun after now sized (G.time device) next (meant_by G device) found means) in
+      ⊎_elim old
+      (λ later. ⊎_elim old (λ new. inr (found_runs imports.begun after now sized (G.time device) next all found new))
+      ((imports.saves keeps).stops refl (G.disk next).content later))
+      (since_before device imports.begun after imports.recovers imports.goes keeps (meant_by G device) leaves (G.disk next).content
+      (stopped (G.time device) after next found now))
+
+  pub any_moment_put_then_run : AnyMomentPutThenRun G
+  any_moment_put_then_run b device after next put leaves found keeps =
+      let saves = put.saves keeps in
+      let now = suits_after device put.begun after put.recovers.goes put.goes keeps in
+      let sized = put.goes.sectors (suits_begun device put.begun put.recovers.goes keeps) in
+      let with_text = latest (spilled (maps_on G device) b saves.1) in
+      let old : MeansOn G put.begun (meant_by G device) (G.disk next).content → RunsOver G next (meant_by G device) ⊎ RunsOver G next with_text =
+      λ means. inl (found_runs put.begun after now sized (G.time device) next (meant_by G device) found means) in (
+        saves.0,
+        saves.1,
+        saves.2,
+        ⊎_elim old
+            (λ later. ⊎_elim old (λ new. inr (found_runs put.begun after now sized (G.time device) next with_text found new))
+            (saves.3.stops (G.disk next).content later))
+            (since_before device put.begun after put.recovers put.goes keeps (meant_by G device) leaves (G.disk next).content
+            (stopped (G.time device) after next found now)),
+      )
 
   pub broken_then_run : BrokenRunThenRun G
   broken_then_run steps is_strict left left' written written' failure device after broke keeps =

@@ -119,6 +119,12 @@ module _ {D : Type 0} (G : Ghosts D) where
       → IsFoundAgain (G.time imports.begun) after next → IsTrue (suits G device)
       → RunsOver next (meant_by G device) ⊎ RunsOver next (with_files (meant_by G device) form first imports.files)
 
+  -- The same of one that was stopped at any moment, in its recovery or after it, where a stop before left the blocks of its image.
+  abbrev pub AnyMomentImportThenRun : Type 0
+  AnyMomentImportThenRun = (form : Form) (first count : ℕ) (device after next : D) (imports : ImportsBlocks G form first count device after)
+      → LeavesBlocks G device (meant_by G device) → IsFoundAgain (G.time device) after next → IsTrue (suits G device)
+      → RunsOver next (meant_by G device) ⊎ RunsOver next (with_files (meant_by G device) form first imports.files)
+
   -- `put`, and then `run`: the session is one over the blocks as they were, with the lines of the text in that one.
   abbrev pub PutThenRun : Type 0
   PutThenRun = (b : ℕ) (device after next : D) → PutsBlock G b device after → IsFoundAsItEnded after next → IsTrue (suits G device)
@@ -129,6 +135,13 @@ module _ {D : Type 0} (G : Ghosts D) where
   abbrev pub StoppedPutThenRun : Type 0
   StoppedPutThenRun = (b : ℕ) (device after next : D) (put : PutsBlock G b device after) → IsFoundAgain (G.time put.begun) after next
       → IsTrue (suits G device) → (text : List ℕ) × (bytes : List ℕ) × (screen_of text ≡ Some bytes)
+      × (RunsOver next (meant_by G device) ⊎ RunsOver next (latest (spilled (maps_on G device) b bytes)))
+
+  -- The same of one that was stopped at any moment, in its recovery or after it, where a stop before left the blocks of its image.
+  abbrev pub AnyMomentPutThenRun : Type 0
+  AnyMomentPutThenRun = (b : ℕ) (device after next : D) → PutsBlock G b device after → LeavesBlocks G device (meant_by G device)
+      → IsFoundAgain (G.time device) after next → IsTrue (suits G device)
+      → (text : List ℕ) × (bytes : List ℕ) × (screen_of text ≡ Some bytes)
       × (RunsOver next (meant_by G device) ⊎ RunsOver next (latest (spilled (maps_on G device) b bytes)))
 
   -- `run`, and then `run`: the second session is one over the blocks that the first one saved last, where no fault closed its store.

@@ -4,7 +4,7 @@ ghost use Rattle.std.specs.Prelude.{◌≡◌, ℕ, List};
 ghost use Rattle.sector_disk.specs.MemoryFiles.{IsReopened, file_in};
 ghost use Rattle.sector_disk.specs.Opening.{sectors_in};
 ghost use Rattle.sector_disk.specs.SectorFile.{file_of, sectors_of};
-ghost use Rattle.terminal.specs.Again.{AnyMomentThenRun, BrokenRunThenRun, Chain, EndedIsFound, FaultThenRun, GivesAgain, ImportThenRun, NewThenImport, PutThenRun, PutThenRunOn, RunThenExport, RunThenRun, RunThenRunOn, StoppedImportThenRun, StoppedIsFound, StoppedPutThenRun, StoppedRecovery, StoppedRunThenRun};
+ghost use Rattle.terminal.specs.Again.{AnyMomentImportThenRun, AnyMomentPutThenRun, AnyMomentThenRun, BrokenRunThenRun, Chain, EndedIsFound, FaultThenRun, GivesAgain, ImportThenRun, NewThenImport, PutThenRun, PutThenRunOn, RunThenExport, RunThenRun, RunThenRunOn, StoppedImportThenRun, StoppedIsFound, StoppedPutThenRun, StoppedRecovery, StoppedRunThenRun};
 ghost use Rattle.terminal.specs.Files.{IsOpened};
 
 use sector_disk::{HostFile, HostFiles, MemoryFile, MemoryFiles, SectorDevice, SectorFile};
@@ -18,8 +18,10 @@ pub fn again<D: SectorDevice>()
     ensures new_then_import { NewThenImport D.SectorDevice }
     ensures import_then_run { ImportThenRun D.SectorDevice }
     ensures stopped_import_then_run { StoppedImportThenRun D.SectorDevice }
+    ensures any_moment_import_then_run { AnyMomentImportThenRun D.SectorDevice }
     ensures put_then_run { PutThenRun D.SectorDevice }
     ensures stopped_put_then_run { StoppedPutThenRun D.SectorDevice }
+    ensures any_moment_put_then_run { AnyMomentPutThenRun D.SectorDevice }
     ensures run_then_run { RunThenRun D.SectorDevice }
     ensures stopped_run_then_run { StoppedRunThenRun D.SectorDevice }
     ensures any_moment_then_run { AnyMomentThenRun D.SectorDevice }

@@ -1,4 +1,4 @@
-use Rattle.terminal.proofs.Found.{any_moment_then_run, broken_then_run, chain, ended, fault_then_run, import_then_run, new_then_import, put_then_run, run_then_export, run_then_run, stopped, stopped_import_then_run, stopped_put_then_run, stopped_recovery, stopped_run_then_run}
+use Rattle.terminal.proofs.Found.{any_moment_import_then_run, any_moment_put_then_run, any_moment_then_run, broken_then_run, chain, ended, fault_then_run, import_then_run, new_then_import, put_then_run, run_then_export, run_then_run, stopped, stopped_import_then_run, stopped_put_then_run, stopped_recovery, stopped_run_then_run}
 use Rattle.terminal.proofs.laws.again.Goals as goal
 
 pub returns-clause-stopped : goal.returns-clause-stopped
@@ -25,6 +25,10 @@ pub returns-clause-stopped_import_then_run : goal.returns-clause-stopped_import_
 returns-clause-stopped_import_then_run g c =
     let D = g.met.D.SectorDevice in stopped_import_then_run g.D.SectorDevice D.present D.keeps_both D.only_now
 
+pub returns-clause-any_moment_import_then_run : goal.returns-clause-any_moment_import_then_run
+returns-clause-any_moment_import_then_run g c =
+    let D = g.met.D.SectorDevice in any_moment_import_then_run g.D.SectorDevice D.present D.keeps_both D.only_now
+
 pub returns-clause-put_then_run : goal.returns-clause-put_then_run
 returns-clause-put_then_run g c =
     let D = g.met.D.SectorDevice in put_then_run g.D.SectorDevice D.present D.keeps_both D.only_now
@@ -32,6 +36,10 @@ returns-clause-put_then_run g c =
 pub returns-clause-stopped_put_then_run : goal.returns-clause-stopped_put_then_run
 returns-clause-stopped_put_then_run g c =
     let D = g.met.D.SectorDevice in stopped_put_then_run g.D.SectorDevice D.present D.keeps_both D.only_now
+
+pub returns-clause-any_moment_put_then_run : goal.returns-clause-any_moment_put_then_run
+returns-clause-any_moment_put_then_run g c =
+    let D = g.met.D.SectorDevice in any_moment_put_then_run g.D.SectorDevice D.present D.keeps_both D.only_now
 
 pub returns-clause-run_then_run : goal.returns-clause-run_then_run
 returns-clause-run_then_run g c =
