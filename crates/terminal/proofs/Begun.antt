@@ -1,7 +1,7 @@
--- A file that was made and not finished, and the commands that were to make an image on it.
-use Rattle.std.proofs.Common.{◌≡◌, ◌⊎◌, ◌∙◌, Option, None, Some, ap, inl, inr, refl}
-use Rattle.std.specs.Prelude.{IfSome, MatchOption}
-use Rattle.sector_disk.specs.Opening.{WentOn}
+-- A file that was opened, or made and not finished, and the commands that were to make an image on it.
+use Rattle.std.proofs.Common.{◌≡◌, ◌⊎◌, ◌∙◌, IsTrue, Option, None, Some, Result, Ok, Err, ap, inl, inr, refl}
+use Rattle.std.specs.Prelude.{IfOk, IfSome, MatchOption}
+use Rattle.sector_disk.specs.Opening.{WentOn, sectors_in}
 use Rattle.sector_disk.specs.SectorFile.{file_of, sectors_of}
 use Rattle.sector_disk.specs.declared.sector_file.SectorFile.{SectorFile}
 use Rattle.sector_disk.specs.declared.host_file.HostFile.{Ghosts}
@@ -9,11 +9,17 @@ use Rattle.sector_disk.specs.declared.host_files.FileFault.{FileFault}
 use Rattle.sector_disk.specs.declared.host_files.FileFault.TheVariants as file
 use Rattle.terminal.specs.Failed.{IsUnmade, IsUnopened}
 use Rattle.terminal.specs.Failures.{of_file}
-use Rattle.terminal.specs.Files.{IsUnfinished}
+use Rattle.terminal.specs.Files.{IsOpened, IsUnfinished}
 use Rattle.terminal.specs.declared.failure.Failure.{Failure}
 use Rattle.terminal.specs.declared.failure.Failure.TheVariants.{CannotOpen}
 use Rattle.terminal.specs.declared.left.Left.{Left}
 use Rattle.terminal.specs.declared.left.Left.TheVariants.{Made, Nothing, Opened, Upgraded}
+
+pub opened_are : {H E : Type 0} (G : Ghosts H) (opens : H → Type 0) (r : Result (SectorFile H G) E) → IfOk r (λ d. opens (file_of d))
+    → IfOk r (λ d. IsTrue (G.keeps_model (file_of d)) → sectors_of d ≡ sectors_in (G.extent (file_of d)))
+    → IfOk r (λ d. d.counts ≡ record { reads = 0; writes = 0; syncs = 0 }) → IfOk r (λ d. d.failures ≡ 0) → IfOk r (IsOpened G opens)
+opened_are G opens (Ok d) file sectors counts failures = record { file = file; sectors = sectors; counts = counts; failures = failures }
+opened_are G opens (Err e) file sectors counts failures = tt
 
 pub unfinished_are : {H : Type 0} (G : Ghosts H) (makes : H → Type 0) (o : Option (SectorFile H G))
     → IfSome o (λ d. (file : H) × makes file × WentOn G file (file_of d)) → IfSome o (λ d. sectors_of d ≡ 0) → IfSome o (IsUnfinished G makes)

@@ -20,10 +20,10 @@ use Rattle.image_care.specs.Looked.{reads_to_look}
 use Rattle.command_line.specs.declared.orders.Form.{Form}
 use Rattle.terminal.specs.Care.{ExportDone, ListDone}
 use Rattle.terminal.specs.Done.{DoneOn, Exports, ListsBlock, blocks_on, meant_by}
-use Rattle.terminal.specs.Failed.{ExportFailed, ExportFails, FailsAfter, FailsOn, ListFailed, ListFails, ReadingFails}
+use Rattle.terminal.specs.Failed.{ExportFailed, ExportFails, FailsAfter, FailsOn, ListFailed, ListFails, ShowingFails}
 use Rattle.terminal.specs.Failures.{of_file, of_image}
 use Rattle.terminal.specs.Screen.{listing}
-use Rattle.terminal.specs.Shown.{ShowsBlocks, ShowsImage, block_refusal}
+use Rattle.terminal.specs.Shown.{ShowsBlocks, ShowsImage, block_refusal, blocks_refusal}
 use Rattle.terminal.specs.declared.failure.Failure.{Failure}
 use Rattle.terminal.specs.declared.failure.Failure.TheVariants.{CannotWrite, Device, NoBlock}
 use Rattle.terminal.specs.declared.left.Left.{Left}
@@ -48,7 +48,7 @@ module _ {D : Type 0} (G : Ghosts D) where
       → (is_size (G.sector_count device) ≡ false → ReadsAtMost G device after (3 * blocks_in (G.sector_count device) + 5))
       → Appends written written' (listing bytes) → ShowsImage G b written written' device after
   shown device after b bytes written written' passes below read meant same stops begins reads few printed = record {
-    goes = record { model = stays G device after passes.sectors passes.model passes.units; time = passes.time; failures = passes.failures };
+    goes = record { model = stays G device after passes.sectors passes.model passes.units; sectors = λ keeps. passes.sectors; time = passes.time; failures = passes.failures };
     meant = meant;
     there = below;
     listed = λ keeps.
@@ -71,10 +71,6 @@ pub printed_or_not : {T P : Type 0} (r : Result T Failure) (Q : Failure → Type
     → MatchResult r (λ t. P) (λ e. (e ≡ Device) ⊎ (e ≡ CannotWrite) ⊎ Q e)
 printed_or_not (Ok t) Q p only = p
 printed_or_not (Err e) Q p only = inr (inl only)
-
-pub both_ok : {T E : Type 0} (r : Result T E) (A B C : T → Type 0) → ((t : T) → A t → B t → C t) → IfOk r A → IfOk r B → IfOk r C
-both_ok (Ok t) A B C f a b = f t a b
-both_ok (Err e) A B C f a b = tt
 
 -- What P says was done on the file that was opened for writing, or on the one that was opened for reading what Shown says.
 module _ {D E T : Type 0} (G : Ghosts D) (L : Ghosts E) (file : Result D FileFault) (r : Result T Failure) (left : Left D E) (opened : D → Type 0) (looked : E → Type 0) where
@@ -105,16 +101,16 @@ module _ {D E T : Type 0} (G : Ghosts D) (L : Ghosts E) (file : Result D FileFau
       either_done (DoneOn L (λ d. Looked d) looked (ShowsBlocks L form first last written written') left) (Exports G form first last written written')
 
   -- It wasn't done: the same.
-  either_failed : (P : Failure → (device begun after : D) → Type 0) → IfOk file opened
+  either_failed : (P : Failure → (device begun after : D) → Type 0) (Q : Failure → E → E → Type 0) → IfOk file opened
       → IfOk file (λ disk. IfErr r (λ failure. DoneOn G (λ d. Opened d) (λ device. device ≡ disk) (FailsAfter G P failure) left))
-      → IfErr file (λ fault. IfErr r (λ failure. FailsOn L (λ d. Looked d) looked (ReadingFails L) failure left))
-      → IfErr r (λ failure. FailsOn G (λ d. Opened d) opened (FailsAfter G P) failure left ⊎ DoneOn L (λ d. Looked d) looked (ReadingFails L failure) left)
-  either_failed P = go file r
+      → IfErr file (λ fault. IfErr r (λ failure. FailsOn L (λ d. Looked d) looked Q failure left))
+      → IfErr r (λ failure. FailsOn G (λ d. Opened d) opened (FailsAfter G P) failure left ⊎ DoneOn L (λ d. Looked d) looked (Q failure) left)
+  either_failed P Q = go file r
     where
       go : (file : Result D FileFault) (r : Result T Failure) → IfOk file opened
           → IfOk file (λ disk. IfErr r (λ failure. DoneOn G (λ d. Opened d) (λ device. device ≡ disk) (FailsAfter G P failure) left))
-          → IfErr file (λ fault. IfErr r (λ failure. FailsOn L (λ d. Looked d) looked (ReadingFails L) failure left))
-          → IfErr r (λ failure. FailsOn G (λ d. Opened d) opened (FailsAfter G P) failure left ⊎ DoneOn L (λ d. Looked d) looked (ReadingFails L failure) left)
+          → IfErr file (λ fault. IfErr r (λ failure. FailsOn L (λ d. Looked d) looked Q failure left))
+          → IfErr r (λ failure. FailsOn G (λ d. Opened d) opened (FailsAfter G P) failure left ⊎ DoneOn L (λ d. Looked d) looked (Q failure) left)
       go file (Ok t) is undone unshown = tt
       go (Ok disk) (Err e) is undone unshown =
           inl (inr (undone.0, undone.1, (disk, is, subst (λ device. FailsAfter G P e device undone.0) undone.2.1 undone.2.2)))
@@ -122,15 +118,15 @@ module _ {D E T : Type 0} (G : Ghosts D) (L : Ghosts E) (file : Result D FileFau
 
   pub list_failed : (b : ℕ) → IfOk file opened
       → IfOk file (λ disk. IfErr r (λ failure. DoneOn G (λ d. Opened d) (λ device. device ≡ disk) (FailsAfter G (ListFails G b) failure) left))
-      → IfErr file (λ fault. IfErr r (λ failure. FailsOn L (λ d. Looked d) looked (ReadingFails L) failure left))
+      → IfErr file (λ fault. IfErr r (λ failure. FailsOn L (λ d. Looked d) looked (ShowingFails L (block_refusal b)) failure left))
       → IfErr r (λ failure. ListFailed G L opened looked b failure left)
-  list_failed b = either_failed (ListFails G b)
+  list_failed b = either_failed (ListFails G b) (ShowingFails L (block_refusal b))
 
   pub export_failed : (first last : ℕ) → IfOk file opened
       → IfOk file (λ disk. IfErr r (λ failure. DoneOn G (λ d. Opened d) (λ device. device ≡ disk) (FailsAfter G (ExportFails G first last) failure) left))
-      → IfErr file (λ fault. IfErr r (λ failure. FailsOn L (λ d. Looked d) looked (ReadingFails L) failure left))
+      → IfErr file (λ fault. IfErr r (λ failure. FailsOn L (λ d. Looked d) looked (ShowingFails L (blocks_refusal first last)) failure left))
       → IfErr r (λ failure. ExportFailed G L opened looked first last failure left)
-  export_failed first last = either_failed (ExportFails G first last)
+  export_failed first last = either_failed (ExportFails G first last) (ShowingFails L (blocks_refusal first last))
 
 -- A block was shown, or blocks, of a file that was opened.
 module _ {D E T : Type 0} (L : Ghosts E) (file : Result E FileFault) (r : Result T Failure) (left : Left D E) (opened : E → Type 0) where
@@ -157,17 +153,17 @@ module _ {D E T : Type 0} (L : Ghosts E) (file : Result E FileFault) (r : Result
       → IfErr file (λ fault. r ≡ Err (of_file fault)) → OnOk r (DoneOn L (λ d. Looked d) opened (ShowsBlocks L form first last written written') left)
   blocks_shown_of form first last written written' = looked_done (ShowsBlocks L form first last written written')
 
-  pub unshown_of : IfOk file opened → IfErr file (λ fault. fault ≢ Exists)
-      → IfOk file (λ disk. IfErr r (λ failure. DoneOn L (λ d. Looked d) (λ device. device ≡ disk) (ReadingFails L failure) left))
+  pub unshown_of : (P : Failure → E → E → Type 0) → IfOk file opened → IfErr file (λ fault. fault ≢ Exists)
+      → IfOk file (λ disk. IfErr r (λ failure. DoneOn L (λ d. Looked d) (λ device. device ≡ disk) (P failure) left))
       → IfErr file (λ fault. r ≡ Err (of_file fault)) → IfErr file (λ fault. left ≡ Nothing)
-      → IfErr r (λ failure. FailsOn L (λ d. Looked d) opened (ReadingFails L) failure left)
-  unshown_of = go file r
+      → IfErr r (λ failure. FailsOn L (λ d. Looked d) opened P failure left)
+  unshown_of P = go file r
     where
       go : (file : Result E FileFault) (r : Result T Failure) → IfOk file opened → IfErr file (λ fault. fault ≢ Exists)
-          → IfOk file (λ disk. IfErr r (λ failure. DoneOn L (λ d. Looked d) (λ device. device ≡ disk) (ReadingFails L failure) left))
+          → IfOk file (λ disk. IfErr r (λ failure. DoneOn L (λ d. Looked d) (λ device. device ≡ disk) (P failure) left))
           → IfErr file (λ fault. r ≡ Err (of_file fault)) → IfErr file (λ fault. left ≡ Nothing)
-          → IfErr r (λ failure. FailsOn L (λ d. Looked d) opened (ReadingFails L) failure left)
+          → IfErr r (λ failure. FailsOn L (λ d. Looked d) opened P failure left)
       go file (Ok t) is isnt unshown refused nothing = tt
       go (Ok disk) (Err e) is isnt unshown refused nothing =
-          inr (unshown.0, unshown.1, (disk, is, subst (λ device. ReadingFails L e device unshown.0) unshown.2.1 unshown.2.2))
+          inr (unshown.0, unshown.1, (disk, is, subst (λ device. P e device unshown.0) unshown.2.1 unshown.2.2))
       go (Err fault) (Err e) is isnt unshown refused nothing = let same : e ≡ of_file fault = cc in inl (nothing, unopened fault e isnt same)

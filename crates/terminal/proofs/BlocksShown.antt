@@ -48,7 +48,7 @@ module _ {D : Type 0} (G : Ghosts D) where
       → ReadsAtMost G device after (3 * blocks_in (G.sector_count device) + 3 + 2 * (last + 1 - first)))
       → ShowsBlocks G form first last written written' device after
   shows_blocks device after form first last written written' read ordered below printed meant reads few = record {
-    goes = record { model = stays G device after read.passes.sectors read.passes.model read.passes.units; time = read.passes.time; failures = read.passes.failures };
+    goes = record { model = stays G device after read.passes.sectors read.passes.model read.passes.units; sectors = λ keeps. read.passes.sectors; time = read.passes.time; failures = read.passes.failures };
     meant = meant;
     ordered = ordered;
     there = below;

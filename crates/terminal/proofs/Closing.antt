@@ -1,6 +1,6 @@
--- How a command ended, by less than what is known of it, and once what it gave back was closed.
+-- How a command ended, once what it gave back was closed.
 use Rattle.std.proofs.Common.{◌≡◌, Result, Ok, Err, sym, subst}
-use Rattle.std.specs.Prelude.{IsOk, IfErr, IfOk, MatchResult, OnErr, OnOk}
+use Rattle.std.specs.Prelude.{IsOk, IfErr, IfOk, MatchResult, OnOk}
 
 module _ {T U E : Type 0} where
   pub done_of : (outcome : Result T E) (r : Result U E) → MatchResult outcome (λ _. IsOk r) (λ e. r ≡ Err e)
@@ -14,8 +14,3 @@ module _ {T U E : Type 0} where
   failed_of (Ok t) (Ok u) is P Q f p = tt
   failed_of (Ok t) (Err e) is P Q f p = absurd (cc)
   failed_of (Err e) r is P Q f p = subst (λ (r : Result U E). IfErr r Q) (sym is) (f e p)
-
-module _ {T E : Type 0} where
-  pub on_err_weaker : {P : Type 0} (r : Result T E) (Q : E → Type 0) → ((e : E) → P → Q e) → OnErr r P → IfErr r Q
-  on_err_weaker (Ok t) Q f p = tt
-  on_err_weaker (Err e) Q f p = f e p

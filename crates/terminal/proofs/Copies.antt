@@ -1,5 +1,5 @@
 -- What a copy and a salvage of image_care promise is what the commands do.
-use Rattle.std.proofs.Common.{◌≡◌, ◌≢◌, ◌⊎◌, ◌∙◌, ◌&&◌, ◌<◌, ◌++◌, ℕ, zero, suc, [], Bool, true, false, not, List, Option, None, Some, inl, inr, refl, sym, subst, ap, arith}
+use Rattle.std.proofs.Common.{◌≡◌, ◌≢◌, ◌⊎◌, ◌∙◌, ◌&&◌, ◌<◌, ◌++◌, ℕ, zero, suc, [], Bool, true, false, not, List, Option, None, Some, IsTrue, inl, inr, refl, sym, subst, ap, arith}
 use Rattle.std.specs.Prelude.{if◌then◌else◌, option_and_then, option_map}
 use Rattle.sector_disk.specs.Disk.{Image, MayLeave}
 use Rattle.sector_disk.specs.declared.device.SectorDevice.{Ghosts}
@@ -31,6 +31,7 @@ use Rattle.sessions.specs.Devices.{Becomes}
 use Rattle.terminal.specs.Copying.{count_on, no_recovery, pages_no_recovery, salvage_told, sectors_like, standing_by}
 use Rattle.terminal.specs.Damage.{damage_line, damage_lines, damage_told}
 use Rattle.terminal.specs.Done.{LeavesBlocks}
+use Rattle.terminal.specs.Failed.{CallFailed, IsUntold, TellsRefusal}
 use Rattle.terminal.specs.Failures.{of_upgrade}
 use Rattle.terminal.specs.declared.failure.Failure.{Failure}
 use Rattle.terminal.specs.declared.failure.Failure.TheVariants.{CannotWrite, Device, NoMemory, Stopped}
@@ -99,6 +100,19 @@ pub told_first_or_untold : (e : Failure) (fault : UpgradeFault) (o : Option Upgr
 told_first_or_untold e fault o is (inl old) = inl (is ∙ ap of_upgrade old)
 told_first_or_untold e fault o is (inr (inl new)) = inl (is ∙ ap of_upgrade new)
 told_first_or_untold e fault o is (inr (inr first)) = inr (inr (inr (ap Some is ∙ ap (option_map of_upgrade) (sym first))))
+
+-- The same, told of a salvage.
+pub told_or_untold : (e : Failure) (fault : UpgradeFault) (o : Option UpgradeFault) → e ≡ of_upgrade fault
+    → (fault ≡ Old image.Device) ⊎ (fault ≡ New image.Device) ⊎ (o ≡ Some fault)
+    → (e ≡ Device) ⊎ IsUntold e ⊎ (Some e ≡ option_map of_upgrade o)
+told_or_untold e fault o is (inl old) = inl (is ∙ ap of_upgrade old)
+told_or_untold e fault o is (inr (inl new)) = inl (is ∙ ap of_upgrade new)
+told_or_untold e fault o is (inr (inr first)) = inr (inr (ap Some is ∙ ap (option_map of_upgrade) (sym first)))
+
+-- What couldn't be told is no fault of a device.
+pub untold_only : {P : Type 0} (e : Failure) → IsUntold e → e ≡ Device → P
+untold_only e (inl memory) is = absurd (let no : NoMemory ≡ Device = sym memory ∙ is in cc)
+untold_only e (inr write) is = absurd (let no : CannotWrite ≡ Device = sym write ∙ is in cc)
 
 -- No refusal of an image is for want of memory.
 pub never_memory : (fault : UpgradeFault) → of_upgrade fault ≢ NoMemory
@@ -212,4 +226,18 @@ module _ {A B : Type 0} (G : Ghosts A) (H : Ghosts B) where
   left_after device after blocks same left image may = subst (λ s. Means s blocks image) (sym same) (left image may)
 
   pub becomes : (device after : B) → Proceeds H device after → Becomes H device after
-  becomes device after goes = record { model = stays H device after goes.sectors goes.model goes.units; time = goes.time; failures = goes.failures }
+  becomes device after goes = record { model = stays H device after goes.sectors goes.model goes.units; sectors = λ keeps. goes.sectors; time = goes.time; failures = goes.failures }
+
+  -- What is told where an image wasn't made of another one.
+  pub tells : (keeps : Bool) (refusal : Option UpgradeFault) (failure : Failure) (fault : UpgradeFault) (source source' : A) (device after : B)
+      → failure ≡ of_upgrade fault → (fault ≡ Old image.Device → CallFailed G source source') → (fault ≡ New image.Device → CallFailed H device after)
+      → (fault ≢ Old image.Device → G.failures source' ≡ G.failures source) → (fault ≢ New image.Device → H.failures after ≡ H.failures device)
+      → (fault ≢ Old image.Device → fault ≢ New image.Device → after ≡ device)
+      → (IsTrue keeps → (fault ≡ Old image.Device) ⊎ (fault ≡ New image.Device) ⊎ (refusal ≡ Some fault))
+      → TellsRefusal G H keeps refusal failure source source' device after
+  tells keeps refusal failure fault source source' device after is old new old_well new_well same exact = record {
+    failed = λ device_is. either_failed fault (told_device fault (sym is ∙ device_is)) old new;
+    well = λ other. (old_well (no_old_device failure fault is other), new_well (no_new_device failure fault is other));
+    unasked = λ other. same (no_old_device failure fault is other) (no_new_device failure fault is other);
+    told = λ keeps. told_first failure fault refusal is (exact keeps);
+  }

@@ -27,6 +27,15 @@ bad_size_of fault.WrongCount is = absurd cc
 bad_size_of fault.Damaged is = absurd cc
 bad_size_of fault.Device is = absurd cc
 
+-- and one that is told as a fault of the device
+pub device_of : (e : OpenFault) → of_image e ≡ Device → e ≡ fault.Device
+device_of fault.BadSize is = absurd cc
+device_of fault.NoLabel is = absurd cc
+device_of fault.OtherVersion is = absurd cc
+device_of fault.WrongCount is = absurd cc
+device_of fault.Damaged is = absurd cc
+device_of fault.Device is = refl
+
 pub told_image : (failure : Failure) (e : OpenFault) (refusal : Option OpenFault) → failure ≡ of_image e → (e ≡ fault.Device) ⊎ (refusal ≡ Some e)
     → (failure ≡ Device) ⊎ (Some failure ≡ option_map of_image refusal)
 told_image failure e refusal is (inl device) = inl (is ∙ ap of_image device)

@@ -90,6 +90,8 @@ module _ {D T : Type 0} (G : Ghosts D) (hears : (old new : T) → LineEnd → Op
     ends_session device old new (Ok ended) opens meant runs strict goes = record {
       begun = device_of old;
       recovers = opens.recovers;
+      well = opens.well;
+      meant = opens.meant;
       same = meant;
       goes = goes;
       strict = strict;
@@ -108,6 +110,7 @@ module _ {D T : Type 0} (G : Ghosts D) (hears : (old new : T) → LineEnd → Op
     unbegun device old new (Err e) opens meant goes memory unread unwritten same = inr (record {
       begun = device_of old;
       recovers = opens.recovers;
+      well = opens.well;
       same = meant;
       goes = goes;
       done = record { memory = memory; same = ap device_of same; unread = unread; unwritten = unwritten };
@@ -125,7 +128,7 @@ module _ {D T : Type 0} (G : Ghosts D) (hears : (old new : T) → LineEnd → Op
           record {
             led = ended.led;
             leads = ended.leads;
-            session = record { begun = session.begun; recovers = session.recovers; goes = session.goes; runs = λ keeps. (ran keeps).0 };
+            session = record { begun = session.begun; recovers = session.recovers; well = session.well; meant = session.meant; goes = session.goes; runs = λ keeps. (ran keeps).0 };
             faultless = λ strict keeps. (ran keeps).1 strict;
           }
 
@@ -144,6 +147,8 @@ module _ {D T : Type 0} (G : Ghosts D) (hears : (old new : T) → LineEnd → Op
         leads = ended.leads;
         begun = ended.session.begun;
         recovers = ended.session.recovers;
+        well = ended.session.well;
+        meant = ended.session.meant;
         goes = ended.session.goes;
         stops = stopped is;
       }
@@ -155,6 +160,7 @@ module _ {D T : Type 0} (G : Ghosts D) (hears : (old new : T) → LineEnd → Op
       after_opening failure fails = inr (record {
         begun = ended.session.begun;
         recovers = ended.session.recovers;
+        well = ended.session.well;
         same = ended.session.same;
         goes = ended.session.goes;
         done = fails;
@@ -203,7 +209,7 @@ module _ {D T : Type 0} (G : Ghosts D) (hears : (old new : T) → LineEnd → Op
           → FailsAfter G (RunFails G steps script.is_strict led left' written written') failure device after
       unbegun_after led failure device after (inl refuses) = inl refuses
       unbegun_after led failure device after (inr opens) =
-          inr (record { begun = opens.begun; recovers = opens.recovers; same = opens.same; goes = opens.goes; done = inl opens.done })
+          inr (record { begun = opens.begun; recovers = opens.recovers; well = opens.well; same = opens.same; goes = opens.goes; done = inl opens.done })
 
       unbegun_fails : (failure : Failure) (ends : Left D E) → ScriptUnbegun G opened script left left' written written' failure ends
           → ScriptFailed G opened steps script left left' written written' failure ends

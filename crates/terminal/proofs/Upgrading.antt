@@ -6,11 +6,11 @@ use Rattle.journal.specs.Calls.{Proceeds, StopsLeave}
 use Rattle.journal.specs.Images.{meaning}
 use Rattle.journal.specs.Layout.{sectors_for}
 use Rattle.recovery.specs.Formatted.{MakingLeaves}
-use Rattle.recovery.specs.Upgraded.{OldLeaves}
+use Rattle.recovery.specs.Upgraded.{OldLeaves, upgrade_refusal}
 use Rattle.command_line.specs.declared.orders.Layout.{Layout}
 use Rattle.command_line.specs.declared.orders.Layout.TheVariants.{Two, Three}
 use Rattle.terminal.specs.Done.{EachLeft}
-use Rattle.terminal.specs.Failed.{NotUpgraded, UpgradeFailed, UpgradeFails}
+use Rattle.terminal.specs.Failed.{NotUpgraded, TellsRefusal, UpgradeFailed, UpgradeFails}
 use Rattle.terminal.specs.Layout3.{UpgradeDone}
 use Rattle.terminal.specs.Layout2 as older
 use Rattle.terminal.specs.declared.failure.Failure.{Failure}
@@ -45,15 +45,17 @@ module _ {D E T : Type 0} (G : Ghosts D) where
       inr (both.0, subst opened (sym both.1) is, both.2, both.3, both.4, both.5, both.6, both.7)
 
 module _ {D : Type 0} (G : Ghosts D) where
-  -- What an upgrade to layout 2 leaves whatever its answer is.
-  pub in_part : (source source' device after : D) (n : ℕ) → n ≡ older.blocks_on G source → G.sector_count source ≡ sectors_for n
+  -- What an upgrade to layout 2 leaves where it failed.
+  pub in_part : (failure : Failure) (source source' device after : D) (n : ℕ) → n ≡ older.blocks_on G source → G.sector_count source ≡ sectors_for n
       → G.sector_count device ≡ G.sector_count source → Proceeds G source source' → Proceeds G device after
       → (IsTrue (G.keeps_sectors source) → (n : ℕ) → G.sector_count source ≡ sectors_for n
       → StopsLeave G source source' (OldLeaves n (G.disk source)))
       → (IsTrue (G.keeps_sectors source) → IsTrue (G.keeps_sectors device) → (n : ℕ) → G.sector_count device ≡ sectors_for n
       → StopsLeave G device after (MakingLeaves n (meaning n (G.disk source).content) (G.disk device)))
-      → UpgradeFails G source source' device after
-  in_part source source' device after n are size same reads goes old stops =
+      → TellsRefusal G G (G.keeps_sectors source)
+      (upgrade_refusal (G.sector_count source) (G.sector_count device) ((G.disk source).content 0)) failure source source' device after
+      → UpgradeFails G failure source source' device after
+  in_part failure source source' device after n are size same reads goes old stops tells =
       let sized : G.sector_count source ≡ sectors_for (older.blocks_on G source) =
       subst (λ (m : ℕ). G.sector_count source ≡ sectors_for m) are size in
       record {
@@ -61,4 +63,5 @@ module _ {D : Type 0} (G : Ghosts D) where
         old = λ keeps. old keeps (older.blocks_on G source) sized;
         goes = proceeded G device after goes;
         stops = λ keeps keeps'. stops keeps keeps' (older.blocks_on G source) (same ∙ sized);
+        tells = tells;
       }

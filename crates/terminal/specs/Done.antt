@@ -10,7 +10,7 @@ use Rattle.recovery.specs.Formatted.{FormatLeaves, MakingLeaves, blank_blocks}
 use Rattle.recovery.specs.Upgraded.{OldLeaves}
 use Rattle.shadow.specs.Upgraded.{known_blocks}
 use Rattle.journal.specs.BySize.{Means}
-use Rattle.stores.specs.Images.{meaning}
+use Rattle.stores.specs.Images.{HasMeaning, meaning}
 use Rattle.stores.specs.Opened.{OpeningLeaves, reads_for, syncs_for, writes_for}
 use Rattle.journal.specs.Suits.{suits}
 use Rattle.interpreter.specs.State.{Forth}
@@ -89,6 +89,8 @@ module _ {D : Type 0} (G : Ghosts D) where
   pub record RunsSession (steps : ℕ) (left left' written written' : Option (List ℕ)) (device after : D) : Type 0 where
     pub begun : D
     pub recovers : Recovers device begun
+    pub well : G.failures begun ≡ G.failures device
+    pub meant : IsTrue (suits G device) → HasMeaning (G.sector_count device) (G.disk device).content
     pub goes : Becomes G begun after
     pub runs : IsTrue (suits G device)
         → RunsFrom (new_forth steps (maps_on device)) left left' written written' begun after
@@ -98,6 +100,8 @@ module _ {D : Type 0} (G : Ghosts D) where
   pub record ListsBlock (b : ℕ) (written written' : Option (List ℕ)) (device after : D) : Type 0 where
     pub begun : D
     pub recovers : Recovers device begun
+    pub well : G.failures begun ≡ G.failures device
+    pub meant : IsTrue (suits G device) → HasMeaning (G.sector_count device) (G.disk device).content
     pub goes : Becomes G begun after
     pub there : b < blocks_on device
     pub listed : IsTrue (suits G device) → Appends written written' (listing (contents (maps_on device) b))
@@ -126,6 +130,8 @@ module _ {D : Type 0} (G : Ghosts D) where
   pub record PutsBlock (b : ℕ) (device after : D) : Type 0 where
     pub begun : D
     pub recovers : Recovers device begun
+    pub well : G.failures begun ≡ G.failures device
+    pub meant : IsTrue (suits G device) → HasMeaning (G.sector_count device) (G.disk device).content
     pub goes : Becomes G begun after
     pub there : b < blocks_on device
     pub saves : IsTrue (suits G device) → SavesText (maps_on device) b begun after
@@ -138,6 +144,8 @@ module _ {D : Type 0} (G : Ghosts D) where
   pub record Exports (form : Form) (first last : ℕ) (written written' : Option (List ℕ)) (device after : D) : Type 0 where
     pub begun : D
     pub recovers : Recovers device begun
+    pub well : G.failures begun ≡ G.failures device
+    pub meant : IsTrue (suits G device) → HasMeaning (G.sector_count device) (G.disk device).content
     pub goes : Becomes G begun after
     pub ordered : first ≤ last
     pub there : last < blocks_on device
@@ -152,6 +160,8 @@ module _ {D : Type 0} (G : Ghosts D) where
   pub record ImportsBlocks (form : Form) (first count : ℕ) (device after : D) : Type 0 where
     pub begun : D
     pub recovers : Recovers device begun
+    pub well : G.failures begun ≡ G.failures device
+    pub meant : IsTrue (suits G device) → HasMeaning (G.sector_count device) (G.disk device).content
     pub goes : Becomes G begun after
     pub files : List (List ℕ)
     pub each : length files ≡ count

@@ -7,6 +7,7 @@ use Rattle.std.specs.Io.KnownBytes.{prepend_known}
 use Rattle.std.specs.List.{flat_map}
 use Rattle.sector_disk.specs.declared.device.SectorDevice.{Ghosts}
 use Rattle.journal.specs.Suits.{suits}
+use Rattle.stores.specs.Images.{HasMeaning}
 use Rattle.block_words.specs.Words.{Save, has_unsaved}
 use Rattle.interpreter.specs.State.{Forth}
 use Rattle.interpreter.specs.Lines.{LineEnd, new_forth}
@@ -70,6 +71,8 @@ module _ {D : Type 0} (G : Ghosts D) where
     pub leads : IsLed (load_line script.load) script.files.items left led
     pub begun : D
     pub recovers : Recovers G device begun
+    pub well : G.failures begun ≡ G.failures device
+    pub meant : IsTrue (suits G device) → HasMeaning (G.sector_count device) (G.disk device).content
     pub goes : Becomes G begun after
     pub stops : IsTrue (suits G device) → StopsFrom (new_forth steps (maps_on G device)) led left' written written' begun after
 
@@ -91,6 +94,8 @@ module _ {D : Type 0} (G : Ghosts D) where
       (left left' written written' : Option (List ℕ)) (tracer tracer' : T) (device after : D) : Type 0 where
     pub begun : D
     pub recovers : Recovers G device begun
+    pub well : G.failures begun ≡ G.failures device
+    pub meant : IsTrue (suits G device) → HasMeaning (G.sector_count device) (G.disk device).content
     pub same : IsTrue (suits G device) → LeavesBlocks G begun (meant_by G device)
     pub goes : Becomes G begun after
     pub strict : IfOk end (λ end. end ≡ by.Fault → is_strict ≡ true)

@@ -11,7 +11,7 @@ ghost use Rattle.stores.specs.Opened.{image_refusal};
 ghost use Rattle.terminal.specs.Checked.{ChecksImage, layout_by_size, report, save_text, version_of};
 ghost use Rattle.terminal.specs.Damage.{damage_report};
 ghost use Rattle.terminal.specs.Done.{DoneOn};
-ghost use Rattle.terminal.specs.Failed.{FailsOn, ReadingFails};
+ghost use Rattle.terminal.specs.Failed.{CheckFails, FailsOn};
 ghost use Rattle.recovery.specs.Steps.{OnlyRead};
 ghost use Rattle.terminal.specs.Failures.{of_image};
 ghost use Rattle.terminal.specs.Files.{IsOpened};
@@ -41,7 +41,10 @@ pub fn check_image<H: HostFile, O: HostFiles<H>, W: Write, D>(
         (IsOpened H.HostFile (O.opens files.now path.now))
         (ChecksImage ⟦<SectorFile<H> as SectorDevice>⟧ (W.contents output.old) (W.contents output.new)) result.0) }
     ensures failed { IfErr result.1 (λ failure. FailsOn ⟦<SectorFile<H> as SectorDevice>⟧ Left.Looked
-        (IsOpened H.HostFile (O.opens files.now path.now)) (ReadingFails ⟦<SectorFile<H> as SectorDevice>⟧) failure result.0) }
+        (IsOpened H.HostFile (O.opens files.now path.now)) (CheckFails ⟦<SectorFile<H> as SectorDevice>⟧
+        (W.contents output.old) (W.contents output.new)) failure result.0) }
+    // Nothing was printed, but where the image is damaged or the output failed.
+    ensures unprinted { IfErr result.1 (λ e. e ≢ Failure.Damaged → e ≢ Failure.CannotWrite → output.new ≡ output.old) }
     // No session has begun that could stop.
     ensures unstopped { IfErr result.1 (λ e. e ≢ Failure.Stopped) }
 {

@@ -35,6 +35,7 @@ pub fn compare_images<H: HostFile, O: HostFiles<H>, W: Write, D>(
         (W.contents output.old) (W.contents output.new) result.0) }
     ensures failed { IfErr result.1 (λ failure. DiffFailed ⟦<SectorFile<H> as SectorDevice>⟧
         (IsOpened H.HostFile (O.opens files.now old.now)) (IsOpened H.HostFile (O.opens files.now new.now)) failure result.0) }
+    ensures unprinted { IfErr result.1 (λ e. e ≢ Failure.CannotWrite → output.new ≡ output.old) }
     ensures unstopped { IfErr result.1 (λ e. e ≢ Failure.Stopped) }
 {
     match open_disk(files, old) {
@@ -56,6 +57,7 @@ fn compare_opened<H: HostFile, O: HostFiles<H>, W: Write, D>(
         (W.contents output.old) (W.contents output.new) result.0) }
     ensures failed { IfErr result.1 (λ failure. DiffFailed ⟦<SectorFile<H> as SectorDevice>⟧
         (λ device. device ≡ before) (IsOpened H.HostFile (O.opens files.now new.now)) failure result.0) }
+    ensures unprinted { IfErr result.1 (λ e. e ≢ Failure.CannotWrite → output.new ≡ output.old) }
     ensures unstopped { IfErr result.1 (λ e. e ≢ Failure.Stopped) }
 {
     match open_disk(files, new) {

@@ -1,6 +1,6 @@
 //! An image is copied into a new file. The old one is opened for reading alone.
 //! Rule: MANUAL, forth83 copy OLD NEW [--blocks N].
-ghost use Rattle.std.specs.Prelude.{◌≡◌, ◌≢◌, ◌⊎◌, Some, None, IsTrue, IfErr, IfOk, IfSome, MatchOption, MatchResult, OnErr, OnOk, option_map};
+ghost use Rattle.std.specs.Prelude.{◌≡◌, ◌≢◌, ◌⊎◌, Some, None, IsTrue, IfErr, IfOk, IfSome, MatchOption, MatchResult, OnOk, option_map};
 ghost use Rattle.sector_disk.specs.Counting.{count_up};
 ghost use Rattle.journal.specs.Calls.{StopsLeave};
 ghost use Rattle.journal.specs.Suits.{suits};
@@ -171,7 +171,7 @@ pub fn copy_over<A: SectorDevice, B: SectorDevice>(old: &mut A, new: &mut B) -> 
         → StopsLeave B.SectorDevice new.old new.new (MakingLeaves (B.sector_count new.old)
         (copied_blocks (A.sector_count old.old) (B.sector_count new.old) (A.disk old.old).content) (B.disk new.old)) }
     // Where it failed, an image of these blocks is made in part.
-    ensures failed { OnErr result (CopyFails A.SectorDevice B.SectorDevice old.old old.new new.old new.new) }
+    ensures failed { IfErr result (λ failure. CopyFails A.SectorDevice B.SectorDevice failure old.old old.new new.old new.new) }
     ensures unstopped { IfErr result (λ e. e ≢ Failure.Stopped) }
 {
     match copy(old, new) {

@@ -8,7 +8,7 @@ ghost use Rattle.recovery.specs.Steps.{OnlyRead};
 ghost use Rattle.stores.specs.Opened.{image_refusal};
 ghost use Rattle.terminal.specs.Compared.{TellsEach, digest_line, digest_report};
 ghost use Rattle.terminal.specs.Done.{DoneOn};
-ghost use Rattle.terminal.specs.Failed.{FailsOn, ReadingFails};
+ghost use Rattle.terminal.specs.Failed.{FailsOn, LookingFails};
 ghost use Rattle.terminal.specs.Failures.{of_image};
 ghost use Rattle.terminal.specs.Files.{IsOpened};
 
@@ -35,7 +35,8 @@ pub fn digest_image<H: HostFile, O: HostFiles<H>, W: Write, D>(
         (IsOpened H.HostFile (O.opens files.now path.now))
         (TellsEach ⟦<SectorFile<H> as SectorDevice>⟧ (W.contents output.old) (W.contents output.new)) result.0) }
     ensures failed { IfErr result.1 (λ failure. FailsOn ⟦<SectorFile<H> as SectorDevice>⟧ Left.Looked
-        (IsOpened H.HostFile (O.opens files.now path.now)) (ReadingFails ⟦<SectorFile<H> as SectorDevice>⟧) failure result.0) }
+        (IsOpened H.HostFile (O.opens files.now path.now)) (LookingFails ⟦<SectorFile<H> as SectorDevice>⟧) failure result.0) }
+    ensures unprinted { IfErr result.1 (λ e. e ≢ Failure.CannotWrite → output.new ≡ output.old) }
     ensures unstopped { IfErr result.1 (λ e. e ≢ Failure.Stopped) }
 {
     match open_disk(files, path) {

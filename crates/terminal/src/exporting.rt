@@ -35,6 +35,7 @@ pub fn export_blocks<D: SectorDevice, W: Write>(
     ensures there { OnOk result (last < blocks_of store.old) }
     ensures device { IsErrOf result Failure.Device → (closed_of store.old ≡ true) ⊎ DeviceFailed store.old store.new }
     ensures unwritten { IsErrOf result Failure.NoBlock → output.new ≡ output.old }
+    ensures unprinted { IfErr result (λ e. e ≢ Failure.Device → e ≢ Failure.CannotWrite → output.new ≡ output.old) }
     ensures store { ReadsStore store.old store.new (2 * (last + 1 - first)) }
     ensures unstopped { IfErr result (λ e. e ≢ Failure.Stopped) }
 {
@@ -44,8 +45,10 @@ pub fn export_blocks<D: SectorDevice, W: Write>(
     if last >= store.blocks() {
         return Err(Failure::NoBlock);
     }
-    print_blocks(store, first, last + 1, form, output)?;
-    flush(output).map_err(|_| Failure::CannotWrite)
+    match print_blocks(store, first, last + 1, form, output) {
+        Ok(()) => flush(output).map_err(|_| Failure::CannotWrite),
+        Err(failure) => Err(failure),
+    }
 }
 
 /// Prints the blocks from `first` on that stand before `past`.

@@ -10,7 +10,7 @@ ghost use Rattle.shadow.specs.Upgraded.{known_blocks};
 ghost use Rattle.image_care.specs.View.{found_by, sectors_of};
 ghost use Rattle.terminal.specs.Care.{ExportDone};
 ghost use Rattle.terminal.specs.Done.{DoneOn, Exports};
-ghost use Rattle.terminal.specs.Failed.{ExportFailed, ExportFails, FailsAfter, FailsOn, ReadingFails};
+ghost use Rattle.terminal.specs.Failed.{ExportFailed, ExportFails, FailsAfter, FailsOn, ShowingFails};
 ghost use Rattle.terminal.specs.Failures.{of_file};
 ghost use Rattle.terminal.specs.Files.{IsOpened};
 ghost use Rattle.terminal.specs.Shown.{ShowsBlocks, blocks_refusal};
@@ -44,6 +44,8 @@ pub fn export_image<H: HostFile, O: HostFiles<H>, K: HostFile, P: HostFiles<K>, 
     ensures failed { IfErr result.1 (λ failure. ExportFailed ⟦<SectorFile<H> as SectorDevice>⟧ ⟦<SectorFile<K> as SectorDevice>⟧
         (IsOpened H.HostFile (O.opens files.now path.now)) (IsOpened K.HostFile (P.opens looking.now path.now))
         first last failure result.0) }
+    // Some blocks may be printed only where a read or the output failed.
+    ensures unprinted { IfErr result.1 (λ e. e ≢ Failure.Device → e ≢ Failure.CannotWrite → output.new ≡ output.old) }
     // No session has begun that could stop.
     ensures unstopped { IfErr result.1 (λ e. e ≢ Failure.Stopped) }
 {
@@ -81,7 +83,8 @@ pub fn export_opened<H: HostFile, K: HostFile, P: HostFiles<K>, W: Write>(
         Left.Looked (IsOpened K.HostFile (P.opens looking.now path.now))
         (ShowsBlocks ⟦<SectorFile<K> as SectorDevice>⟧ form first last (W.contents output.old) (W.contents output.new)) result.0)) }
     ensures unshown { IfErr opened (λ _. IfErr result.1 (λ failure. FailsOn ⟦<SectorFile<K> as SectorDevice>⟧ Left.Looked
-        (IsOpened K.HostFile (P.opens looking.now path.now)) (ReadingFails ⟦<SectorFile<K> as SectorDevice>⟧) failure result.0)) }
+        (IsOpened K.HostFile (P.opens looking.now path.now)) (ShowingFails ⟦<SectorFile<K> as SectorDevice>⟧ (blocks_refusal first last)) failure result.0)) }
+    ensures unprinted { IfErr result.1 (λ e. e ≢ Failure.Device → e ≢ Failure.CannotWrite → output.new ≡ output.old) }
     ensures unstopped { IfErr result.1 (λ e. e ≢ Failure.Stopped) }
 {
     match opened {
@@ -107,7 +110,8 @@ pub fn show_blocks<H: HostFile, O: HostFiles<H>, W: Write, D>(
         (IsOpened H.HostFile (O.opens files.now path.now))
         (ShowsBlocks ⟦<SectorFile<H> as SectorDevice>⟧ form first last (W.contents output.old) (W.contents output.new)) result.0) }
     ensures unshown { IfErr result.1 (λ failure. FailsOn ⟦<SectorFile<H> as SectorDevice>⟧ Left.Looked
-        (IsOpened H.HostFile (O.opens files.now path.now)) (ReadingFails ⟦<SectorFile<H> as SectorDevice>⟧) failure result.0) }
+        (IsOpened H.HostFile (O.opens files.now path.now)) (ShowingFails ⟦<SectorFile<H> as SectorDevice>⟧ (blocks_refusal first last)) failure result.0) }
+    ensures unprinted { IfErr result.1 (λ e. e ≢ Failure.Device → e ≢ Failure.CannotWrite → output.new ≡ output.old) }
     ensures unstopped { IfErr result.1 (λ e. e ≢ Failure.Stopped) }
 {
     show_opened_blocks(open_disk(files, path), first, last, form, output)
@@ -124,11 +128,12 @@ pub fn show_opened_blocks<H: HostFile, W: Write, D>(
     ensures shown { IfOk opened (λ disk. OnOk result.1 (DoneOn ⟦<SectorFile<H> as SectorDevice>⟧ Left.Looked (λ device. device ≡ disk)
         (ShowsBlocks ⟦<SectorFile<H> as SectorDevice>⟧ form first last (W.contents output.old) (W.contents output.new)) result.0)) }
     ensures unshown { IfOk opened (λ disk. IfErr result.1 (λ failure. DoneOn ⟦<SectorFile<H> as SectorDevice>⟧ Left.Looked
-        (λ device. device ≡ disk) (ReadingFails ⟦<SectorFile<H> as SectorDevice>⟧ failure) result.0)) }
+        (λ device. device ≡ disk) (ShowingFails ⟦<SectorFile<H> as SectorDevice>⟧ (blocks_refusal first last) failure) result.0)) }
     // Of a file that couldn't be opened nothing is printed.
     ensures refused { IfErr opened (λ fault. result.1 ≡ Err (of_file fault)) }
     ensures unopened { IfErr opened (λ _. result.0 ≡ Left.Nothing) }
     ensures silent { IfErr opened (λ _. output.new ≡ output.old) }
+    ensures unprinted { IfErr result.1 (λ e. e ≢ Failure.Device → e ≢ Failure.CannotWrite → output.new ≡ output.old) }
     ensures unstopped { IfErr result.1 (λ e. e ≢ Failure.Stopped) }
 {
     match opened {

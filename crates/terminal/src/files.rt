@@ -1,6 +1,6 @@
 //! The commands over images that are files of a system: each gives back what it has opened or made.
 //! Rule: MANUAL, Commands.
-ghost use Rattle.std.specs.Prelude.{◌≡◌, ◌≢◌, ◌⊎◌, ℕ, ◌<◌, ◌≤◌, ◌+◌, ◌*◌, ◌↔◌, length, true, ⊤, Err, IsOk, OnErr, OnOk, IfOk, IfErr, IfSome, MatchOption, IsErrOf};
+ghost use Rattle.std.specs.Prelude.{◌≡◌, ◌≢◌, ◌⊎◌, ℕ, ◌<◌, ◌≤◌, ◌+◌, ◌*◌, ◌↔◌, length, true, ⊤, Err, IsOk, OnOk, IfOk, IfErr, IfSome, MatchOption, IsErrOf};
 ghost use Rattle.journal.specs.Layout.{sectors_for};
 ghost use Rattle.journal.specs.PageLayout as newer_layout;
 ghost use Rattle.journal.specs.Store.{Continues, DeviceBegins, DeviceFailed, DeviceReads, blocks_of, closed_of, device_of, pending_count};
@@ -305,7 +305,7 @@ fn upgrade_older<D: SectorDevice>(old: &mut D, new: &mut D) -> Result<(), Failur
         → OnOk result (Upgrades D.SectorDevice old.old old.new new.old new.new) }
     // Where it failed, a stop leaves of the old image one that means the same, and of the new one no image, or the whole one.
     ensures failed { (n : ℕ) → D.sector_count old.old ≡ sectors_for n → D.sector_count new.old ≡ D.sector_count old.old
-        → OnErr result (UpgradeFails D.SectorDevice old.old old.new new.old new.new) }
+        → IfErr result (λ failure. UpgradeFails D.SectorDevice failure old.old old.new new.old new.new) }
     ensures well { OnOk result (WentWell D.SectorDevice D.SectorDevice old.old old.new new.old new.new) }
     ensures unstopped { IfErr result (λ e. e ≢ Failure.Stopped) }
 {

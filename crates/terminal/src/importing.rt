@@ -42,6 +42,9 @@ pub fn import_files<D: SectorDevice, E: Write>(
     ensures unread { IfErr result (λ e. e ≢ Failure.Device → store.new ≡ store.old) }
     ensures device { IfErr result (λ e. e ≡ Failure.Device
         → (closed_of store.old ≡ true) ⊎ DeviceFailed store.old store.new) }
+    // Whatever the answer is, no more is written and read than for all blocks from `first` on.
+    ensures begins { DeviceBegins store.old store.new (2 * pending_count store.old + 4 * (blocks_of store.old - first) + 3) 4 }
+    ensures reads { DeviceReads store.old store.new (4 * pending_count store.old + 4 * (blocks_of store.old - first)) }
     ensures continues { Continues store.old store.new }
     ensures unstopped { IfErr result (λ e. e ≢ Failure.Stopped) }
 {
@@ -219,6 +222,8 @@ fn import_bytes<D: SectorDevice>(
         ⊎ MeansBy store.old (latest (spilled_from m first (as_blocks bytes.now))) image) }
     ensures only { IfErr result (λ e. e ≡ Failure.Device) }
     ensures device { IfErr result (λ e. (closed_of store.old ≡ true) ⊎ DeviceFailed store.old store.new) }
+    ensures begins { DeviceBegins store.old store.new (2 * pending_count store.old + 4 * blocks_for (length bytes.now) + 3) 4 }
+    ensures reads { DeviceReads store.old store.new (4 * pending_count store.old + 4 * blocks_for (length bytes.now)) }
     ensures continues { Continues store.old store.new }
 {
     spill_blocks(store, first, bytes)?;
@@ -239,6 +244,8 @@ fn spill_blocks<D: SectorDevice>(
     ensures stops { KeepsSaved store.old store.new }
     ensures only { IfErr result (λ e. e ≡ Failure.Device) }
     ensures device { IfErr result (λ e. (closed_of store.old ≡ true) ⊎ DeviceFailed store.old store.new) }
+    ensures begins { DeviceBegins store.old store.new (2 * blocks_for (length bytes.now)) 0 }
+    ensures reads { DeviceReads store.old store.new 0 }
     ensures continues { Continues store.old store.new }
 {
     let mut left = bytes;

@@ -1,6 +1,6 @@
 //! An image of layout 1 or 2 is upgraded to layout 3, in a new file.
 //! Rule: IMAGE, Layout 3, An upgrade.
-ghost use Rattle.std.specs.Prelude.{◌≡◌, ◌≢◌, ◌⊎◌, ⊤, ℕ, Some, None, IsTrue, IfErr, IfOk, MatchResult, OnErr, OnOk, option_map};
+ghost use Rattle.std.specs.Prelude.{◌≡◌, ◌≢◌, ◌⊎◌, ⊤, ℕ, Some, None, IsTrue, IfErr, IfOk, MatchResult, OnOk, option_map};
 ghost use Rattle.sector_disk.specs.Counting.{count_up};
 ghost use Rattle.sector_disk.specs.Disk.{MayLeave};
 ghost use Rattle.journal.specs.Calls.{BeginsAtMost, StopsLeave};
@@ -102,7 +102,7 @@ pub fn upgrade_over<A: SectorDevice, B: SectorDevice>(
     ensures unasked { IfErr result (λ e. e ≢ Failure.Device → new.new ≡ new.old) }
     // Whatever the answer is, a stop leaves of the other device no image, or the whole one, or what could be left before.
     ensures failed { B.sector_count new.old ≡ sectors_for (blocks_on A.SectorDevice old.old)
-        → OnErr result (NewerUpgradeFails A.SectorDevice B.SectorDevice old.old old.new new.old new.new) }
+        → IfErr result (λ failure. NewerUpgradeFails A.SectorDevice B.SectorDevice failure old.old old.new new.old new.new) }
     ensures newer_stops { IsTrue (A.keeps_model old.old) → IsTrue (B.keeps_model new.old) → (n : ℕ)
         → B.sector_count new.old ≡ sectors_for n → StopsLeave B.SectorDevice new.old new.new
         (MakingLeaves n (meaning n (A.disk old.old).content) (B.disk new.old)) }

@@ -66,6 +66,8 @@ pub fn list_over<D: SectorDevice, W: Write>(
     ensures listed { OnOk result.1 (ListsBlock D.SectorDevice block (W.contents output.old) (W.contents output.new)
         device result.0) }
     ensures failed { IfErr result.1 (λ failure. FailsAfter D.SectorDevice (ListFails D.SectorDevice block) failure device result.0) }
+    // Nothing was printed, but where the output failed.
+    ensures unprinted { IfErr result.1 (λ e. e ≢ Failure.CannotWrite → output.new ≡ output.old) }
     ensures unstopped { IfErr result.1 (λ e. e ≢ Failure.Stopped) }
 {
     match open_over(device) {
@@ -91,6 +93,8 @@ pub fn export_over<D: SectorDevice, W: Write>(
         device result.0) }
     ensures failed { IfErr result.1 (λ failure.
         FailsAfter D.SectorDevice (ExportFails D.SectorDevice first last) failure device result.0) }
+    // Some blocks may be printed only where a read or the output failed.
+    ensures unprinted { IfErr result.1 (λ e. e ≢ Failure.Device → e ≢ Failure.CannotWrite → output.new ≡ output.old) }
     ensures unstopped { IfErr result.1 (λ e. e ≢ Failure.Stopped) }
 {
     match open_over(device) {

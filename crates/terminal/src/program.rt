@@ -9,7 +9,7 @@ ghost use Rattle.interpreter.specs.State.{Forth as Abstract};
 ghost use Rattle.interpreter.specs.Lines.{new_forth};
 ghost use Rattle.sessions.specs.declared.run_fault.RunFault.{RunFault as AbstractFault};
 ghost use Rattle.command_line.specs.Commands.{IsInRange, forth83};
-ghost use Rattle.terminal.specs.OrderDone.{IsDone, IsFailed, IsStopped, OrderIsDone, OrderIsFailed, OrderIsStopped};
+ghost use Rattle.terminal.specs.OrderDone.{IsDone, IsFailed, IsStopped, KeepsStreams, NotOrdered, OrderIsDone, OrderIsFailed, OrderIsStopped};
 ghost use Rattle.terminal.specs.Done.{DoneOn, RunsFrom};
 ghost use Rattle.terminal.specs.Failed.{NewFailed, ScriptFailed, UpgradeFailed};
 ghost use Rattle.sessions.specs.Devices.{Becomes};
@@ -17,7 +17,7 @@ ghost use Rattle.terminal.specs.Failures.{status_of};
 ghost use Rattle.terminal.specs.Files.{IsMade, IsOpened, IsUnfinished};
 ghost use Rattle.terminal.specs.Layout3.{NewDone, UpgradeDone};
 ghost use Rattle.terminal.specs.Scripts.{RunsScript, StopsScript, is_plain};
-ghost use Rattle.terminal.specs.InMemory.{AsksForNothing, IsForMemory, CompletesInMemory, BreaksInMemory, IsHelp};
+ghost use Rattle.terminal.specs.InMemory.{AsksForHelp, AsksForNothing, BreaksInMemory, CompletesInMemory, EndsHelp, IsForMemory, IsHelp};
 ghost use Rattle.sessions.specs.Sessions.{BreaksOff};
 
 use super::checking::check_image;
@@ -126,8 +126,9 @@ pub fn command_over<
         → OrderIsStopped ⟦<SectorFile<H> as SectorDevice>⟧ (map S.text words.now)
         (λ path. IsOpened H.HostFile (O.opens files.now path))
         (R.remaining input.old) (R.remaining input.new) (W.contents output.old) (W.contents output.new) result.0 }
-    // At any status but 0 no file is given back, or what is told of the files is what the order leaves where it failed so.
-    ensures failed { result.1 ≢ 0 → (result.0 ≡ Left.Nothing)
+    // At any other status what is told of the files is what the order leaves where it failed so, or there was no memory for it.
+    ensures failed { fault_of forth83 (map S.text words.now) ≡ [] → result.1 ≢ 0 → NotOrdered
+        (R.remaining input.old) (R.remaining input.new) (W.contents output.old) (W.contents output.new) result.1 result.0
         ⊎ OrderIsFailed ⟦<SectorFile<H> as SectorDevice>⟧ ⟦<SectorFile<K> as SectorDevice>⟧ (map S.text words.now)
         (λ path. IsOpened H.HostFile (O.opens files.now path)) (λ path. IsMade H.HostFile (O.makes files.now path))
         (λ path. IsUnfinished H.HostFile (O.makes files.now path))
@@ -135,6 +136,13 @@ pub fn command_over<
         (R.remaining input.old) (R.remaining input.new) (W.contents output.old) (W.contents output.new) result.1 result.0 }
     // Words that are refused open and make nothing.
     ensures unasked { fault_of forth83 (map S.text words.now) ≢ [] → result.0 ≡ Left.Nothing }
+    // Their status is 2, or 5 where there was no memory; or help was asked for, and it was shown or couldn't be.
+    ensures refused { fault_of forth83 (map S.text words.now) ≢ [] → (result.1 ≡ 2) ⊎ (result.1 ≡ 5)
+        ⊎ (AsksForHelp (fault_of forth83 (map S.text words.now)) × EndsHelp result.1) }
+    // They read nothing, and print nothing where help wasn't asked for.
+    ensures unread { fault_of forth83 (map S.text words.now) ≢ [] → R.remaining input.new ≡ R.remaining input.old }
+    ensures unwritten { fault_of forth83 (map S.text words.now) ≢ []
+        → AsksForHelp (fault_of forth83 (map S.text words.now)) ⊎ (W.contents output.new ≡ W.contents output.old) }
 {
     match order(rt.alloc(), words) {
         Ok(asked) => {
@@ -187,6 +195,8 @@ fn perform<
         (λ path. IsUnfinished H.HostFile (O.makes files.now path))
         (λ path. IsOpened K.HostFile (P.opens looking.now path)) (λ path. IsOpened K.HostFile (P.opens alone.now path)) asked.entry
         (R.remaining input.old) (R.remaining input.new) (W.contents output.old) (W.contents output.new) failure result.0) }
+    ensures streams { KeepsStreams asked.entry
+        (R.remaining input.old) (R.remaining input.new) (W.contents output.old) (W.contents output.new) }
 {
     match asked {
         Order::Memory => (
@@ -428,7 +438,9 @@ fn told<E: Write>(outcome: Result<(), Failure>, errors: &mut E) -> u8
 fn explain<W: Write, E: Write>(error: &Error, output: &mut W, errors: &mut E) -> u8
     ensures shown { result ≡ 0 → IsHelp (kind_of error.now) }
     ensures unshown { result ≡ 4 → IsHelp (kind_of error.now) }
-    ensures refused { (result ≡ 2) ⊎ (result ≡ 5) ⊎ IsHelp (kind_of error.now) }
+    ensures refused { (result ≡ 2) ⊎ (result ≡ 5) ⊎ (IsHelp (kind_of error.now) × EndsHelp result) }
+    ensures memory { kind_of error.now ≡ ErrorKind.OutOfMemory → result ≡ 5 }
+    ensures unwritten { IsHelp (kind_of error.now) ⊎ (output.new ≡ output.old) }
     ensures unstopped { result ≢ 1 }
 {
     match error.kind() {

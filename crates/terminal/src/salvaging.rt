@@ -59,6 +59,8 @@ pub fn salvage_image<K: HostFile, P: HostFiles<K>, H: HostFile, O: HostFiles<H>,
     ensures failed { IfErr result.1 (λ failure. SalvageFailed ⟦<SectorFile<K> as SectorDevice>⟧ ⟦<SectorFile<H> as SectorDevice>⟧
         (IsOpened K.HostFile (P.opens looking.now old.now)) (IsMade H.HostFile (O.makes files.now new.now))
         (IsUnfinished H.HostFile (O.makes files.now new.now)) asked failure result.0) }
+    // Nothing was printed, but where the output failed.
+    ensures unprinted { IfErr result.1 (λ e. e ≢ Failure.CannotWrite → output.new ≡ output.old) }
     // No session has begun that could stop.
     ensures unstopped { IfErr result.1 (λ e. e ≢ Failure.Stopped) }
 {
@@ -92,6 +94,7 @@ fn salvage_into<A: SectorDevice, H: HostFile, O: HostFiles<H>, W: Write>(
         (IsMade H.HostFile (O.makes files.now new.now)) (IsUnfinished H.HostFile (O.makes files.now new.now)) asked failure
         source.old source.new target)) }
     ensures unmade { result.0 ≡ None → source.new ≡ source.old }
+    ensures unprinted { IfErr result.1 (λ e. e ≢ Failure.CannotWrite → output.new ≡ output.old) }
     ensures unstopped { IfErr result.1 (λ e. e ≢ Failure.Stopped) }
 {
     let Some(sectors) = sectors_for_salvage(source.sectors(), asked) else {

@@ -8,7 +8,7 @@ ghost use Rattle.shadow.specs.Label.{is_known_size};
 ghost use Rattle.shadow.specs.Upgraded.{known_blocks};
 ghost use Rattle.terminal.specs.Care.{ListDone};
 ghost use Rattle.terminal.specs.Done.{DoneOn, ListsBlock};
-ghost use Rattle.terminal.specs.Failed.{FailsAfter, FailsOn, ListFailed, ListFails, ReadingFails};
+ghost use Rattle.terminal.specs.Failed.{FailsAfter, FailsOn, ListFailed, ListFails, ShowingFails};
 ghost use Rattle.recovery.specs.Steps.{OnlyRead};
 ghost use Rattle.terminal.specs.Failures.{of_file};
 ghost use Rattle.terminal.specs.Files.{IsOpened};
@@ -39,6 +39,8 @@ pub fn list_image<H: HostFile, O: HostFiles<H>, K: HostFile, P: HostFiles<K>, W:
     ensures failed { IfErr result.1 (λ failure. ListFailed ⟦<SectorFile<H> as SectorDevice>⟧ ⟦<SectorFile<K> as SectorDevice>⟧
         (IsOpened H.HostFile (O.opens files.now path.now)) (IsOpened K.HostFile (P.opens looking.now path.now))
         block failure result.0) }
+    // Nothing was printed, but where the output failed.
+    ensures unprinted { IfErr result.1 (λ e. e ≢ Failure.CannotWrite → output.new ≡ output.old) }
     // No session has begun that could stop.
     ensures unstopped { IfErr result.1 (λ e. e ≢ Failure.Stopped) }
 {
@@ -66,7 +68,8 @@ pub fn list_opened<H: HostFile, K: HostFile, P: HostFiles<K>, W: Write>(
         Left.Looked (IsOpened K.HostFile (P.opens looking.now path.now))
         (ShowsImage ⟦<SectorFile<K> as SectorDevice>⟧ block (W.contents output.old) (W.contents output.new)) result.0)) }
     ensures unshown { IfErr opened (λ _. IfErr result.1 (λ failure. FailsOn ⟦<SectorFile<K> as SectorDevice>⟧ Left.Looked
-        (IsOpened K.HostFile (P.opens looking.now path.now)) (ReadingFails ⟦<SectorFile<K> as SectorDevice>⟧) failure result.0)) }
+        (IsOpened K.HostFile (P.opens looking.now path.now)) (ShowingFails ⟦<SectorFile<K> as SectorDevice>⟧ (block_refusal block)) failure result.0)) }
+    ensures unprinted { IfErr result.1 (λ e. e ≢ Failure.CannotWrite → output.new ≡ output.old) }
     ensures unstopped { IfErr result.1 (λ e. e ≢ Failure.Stopped) }
 {
     match opened {
@@ -90,7 +93,8 @@ pub fn show_image<H: HostFile, O: HostFiles<H>, W: Write, D>(
         (IsOpened H.HostFile (O.opens files.now path.now))
         (ShowsImage ⟦<SectorFile<H> as SectorDevice>⟧ block (W.contents output.old) (W.contents output.new)) result.0) }
     ensures unshown { IfErr result.1 (λ failure. FailsOn ⟦<SectorFile<H> as SectorDevice>⟧ Left.Looked
-        (IsOpened H.HostFile (O.opens files.now path.now)) (ReadingFails ⟦<SectorFile<H> as SectorDevice>⟧) failure result.0) }
+        (IsOpened H.HostFile (O.opens files.now path.now)) (ShowingFails ⟦<SectorFile<H> as SectorDevice>⟧ (block_refusal block)) failure result.0) }
+    ensures unprinted { IfErr result.1 (λ e. e ≢ Failure.CannotWrite → output.new ≡ output.old) }
     ensures unstopped { IfErr result.1 (λ e. e ≢ Failure.Stopped) }
 {
     show_opened(open_disk(files, path), block, output)
@@ -105,11 +109,12 @@ pub fn show_opened<H: HostFile, W: Write, D>(
     ensures shown { IfOk opened (λ disk. OnOk result.1 (DoneOn ⟦<SectorFile<H> as SectorDevice>⟧ Left.Looked (λ device. device ≡ disk)
         (ShowsImage ⟦<SectorFile<H> as SectorDevice>⟧ block (W.contents output.old) (W.contents output.new)) result.0)) }
     ensures unshown { IfOk opened (λ disk. IfErr result.1 (λ failure. DoneOn ⟦<SectorFile<H> as SectorDevice>⟧ Left.Looked
-        (λ device. device ≡ disk) (ReadingFails ⟦<SectorFile<H> as SectorDevice>⟧ failure) result.0)) }
+        (λ device. device ≡ disk) (ShowingFails ⟦<SectorFile<H> as SectorDevice>⟧ (block_refusal block) failure) result.0)) }
     // Of a file that couldn't be opened nothing is listed.
     ensures refused { IfErr opened (λ fault. result.1 ≡ Err (of_file fault)) }
     ensures unopened { IfErr opened (λ _. result.0 ≡ Left.Nothing) }
     ensures silent { IfErr opened (λ _. output.new ≡ output.old) }
+    ensures unprinted { IfErr result.1 (λ e. e ≢ Failure.CannotWrite → output.new ≡ output.old) }
     ensures unstopped { IfErr result.1 (λ e. e ≢ Failure.Stopped) }
 {
     match opened {

@@ -1,7 +1,6 @@
 use Rattle.std.proofs.Common.{◌∙◌, ap, inr, refl, sym}
-use Rattle.std.proofs.lemmas.Result.{on_ok_weaker}
+use Rattle.std.proofs.lemmas.Result.{IfErr-weaker, on_ok_weaker}
 use Rattle.terminal.proofs.Begun.{begun_in_part}
-use Rattle.terminal.proofs.Closing.{on_err_weaker}
 use Rattle.terminal.specs.Copying.{sectors_for_copy}
 use Rattle.terminal.proofs.copying.copy_into.Goals as goal
 
@@ -18,7 +17,7 @@ returns-in-Ok-clause-made g c =
 pub returns-in-Ok-clause-failed : goal.returns-in-Ok-clause-failed
 returns-in-Ok-clause-failed g c =
     let done = c.copy_over-outcome in
-    on_err_weaker done.result _
+    IfErr-weaker done.result _ _
     (λ e did. inr (
       c.in-Some.sectors,
       sym (c.in-Some.ensures ∙ ap (λ s. sectors_for_copy s c.args.asked) c.sectors.ensures),

@@ -1,5 +1,5 @@
 use Rattle.std.proofs.Common.{◌∙◌, sym}
-use Rattle.terminal.proofs.Copies.{becomes, either_failed, left_after, never_stopped, no_new_device, no_old_device, not_refused, told_device, told_first}
+use Rattle.terminal.proofs.Copies.{becomes, either_failed, left_after, never_stopped, no_new_device, no_old_device, not_refused, tells, told_device, told_first}
 use Rattle.terminal.proofs.copying.copy_over.Goals as goal
 
 pub returns-in-Ok-clause-copies : goal.returns-in-Ok-clause-copies
@@ -42,11 +42,15 @@ pub returns-in-Err-clause-failed : goal.returns-in-Err-clause-failed
 returns-in-Err-clause-failed g c =
     let did = c.in-Err.ensures in
     record {
-      old = did.old_stops;
-      goes = becomes g.A.SectorDevice g.B.SectorDevice c.args.new.now c.copy.new.new did.new_passes;
-      stops = did.new_stops;
-      begins = did.new_begins;
-      looks = did.new_reads;
+      made = record {
+        old = did.old_stops;
+        goes = becomes g.A.SectorDevice g.B.SectorDevice c.args.new.now c.copy.new.new did.new_passes;
+        stops = did.new_stops;
+        begins = did.new_begins;
+        looks = did.new_reads;
+      };
+      tells = tells g.A.SectorDevice g.B.SectorDevice _ _ c.from.result c.in-Err.fault c.args.old.now c.copy.new.old c.args.new.now c.copy.new.new
+          c.from.ensures did.old_device did.new_device did.old_well did.new_well did.new_same did.exact;
     }
 
 pub returns-in-Err-clause-unstopped : goal.returns-in-Err-clause-unstopped

@@ -6,12 +6,12 @@ use Rattle.terminal.proofs.files.check_import.Goals as goal
 pub returns-in-Ok-clause-looked : goal.returns-in-Ok-clause-looked
 returns-in-Ok-clause-looked g c =
     done_on (λ d. Opened d) _ _ c.in-Ok.disk c.in-Ok.disk c.check_files-outcome.result c.check_files-outcome.result _
-    (record { file = c.in-Ok.ensures.file; sectors = c.in-Ok.ensures.sectors }) refl refl c.check_files-outcome.ensures.looked
+    (record { file = c.in-Ok.ensures.file; sectors = c.in-Ok.ensures.sectors; counts = c.in-Ok.ensures.counts; failures = c.in-Ok.ensures.failures }) refl refl c.check_files-outcome.ensures.looked
 
 pub returns-in-Ok-clause-failed : goal.returns-in-Ok-clause-failed
 returns-in-Ok-clause-failed g c =
     failed_on (λ d. Opened d) _ _ c.in-Ok.disk c.in-Ok.disk c.check_files-outcome.result c.check_files-outcome.result _
-    (record { file = c.in-Ok.ensures.file; sectors = c.in-Ok.ensures.sectors }) refl refl (just_read c.check_files-outcome.result refl)
+    (record { file = c.in-Ok.ensures.file; sectors = c.in-Ok.ensures.sectors; counts = c.in-Ok.ensures.counts; failures = c.in-Ok.ensures.failures }) refl refl (just_read c.check_files-outcome.result refl)
 
 pub returns-in-Err-clause-failed : goal.returns-in-Err-clause-failed
 returns-in-Err-clause-failed g c = inl (refl, unopened c.in-Err.fault c.from.result c.in-Err.ensures.refusal c.from.ensures)

@@ -7,13 +7,13 @@ use Rattle.terminal.proofs.files.make_image.Goals as goal
 pub returns-in-Ok-clause-made : goal.returns-in-Ok-clause-made
 returns-in-Ok-clause-made g c =
     let made = c.in-Ok.ensures.made in
-    let is = record { file = made.0; made = made.1; goes = made.2; sectors_are = c.in-Ok.ensures.sectors; zeros = c.in-Ok.ensures.zeros } in
+    let is = record { file = made.0; made = made.1; goes = made.2; sectors_are = c.in-Ok.ensures.sectors; zeros = c.in-Ok.ensures.zeros; counts = c.in-Ok.ensures.counts; failures = c.in-Ok.ensures.failures } in
     made_done _ _ _ c.in-Ok.disk c.make_over.result c.made.result.0 c.made.result.1 is c.made.ensures.made c.made.ensures.failed c.make_over.ensures.made
 
 pub returns-in-Ok-clause-failed : goal.returns-in-Ok-clause-failed
 returns-in-Ok-clause-failed g c =
     let made = c.in-Ok.ensures.made in
-    let is = record { file = made.0; made = made.1; goes = made.2; sectors_are = c.in-Ok.ensures.sectors; zeros = c.in-Ok.ensures.zeros } in
+    let is = record { file = made.0; made = made.1; goes = made.2; sectors_are = c.in-Ok.ensures.sectors; zeros = c.in-Ok.ensures.zeros; counts = c.in-Ok.ensures.counts; failures = c.in-Ok.ensures.failures } in
     made_failed _ _ _ _ c.in-Ok.disk c.make_over.result c.made.result.0 c.made.result.1 is c.made.ensures.unmade c.made.ensures.well c.made.ensures.failed
     (c.make_over.ensures.failed (older_size c.args.blocks c.in-Ok.disk.sectors c.requires.many c.requires.few c.in-Ok.ensures.sectors))
 

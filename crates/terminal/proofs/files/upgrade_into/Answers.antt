@@ -1,8 +1,7 @@
 use Rattle.std.proofs.Common.{◌≡◌, ◌∙◌, ℕ, inl, inr, refl, subst, sym}
-use Rattle.std.proofs.lemmas.Result.{on_ok_weaker}
+use Rattle.std.proofs.lemmas.Result.{IfErr-weaker, on_ok_weaker}
 use Rattle.journal.specs.Layout.{sectors_for}
 use Rattle.sector_disk.specs.Opening.{AreZeros}
-use Rattle.terminal.proofs.Closing.{on_err_weaker}
 use Rattle.terminal.proofs.Begun.{not_upgraded, told_cannot, unfinished_are}
 use Rattle.terminal.proofs.files.upgrade_into.Goals as goal
 
@@ -19,6 +18,8 @@ returns-in-Ok-clause-made g c =
       goes = made.2;
       sectors_are = same;
       zeros = λ keeps. subst (λ (k : ℕ). AreZeros k (g.H.HostFile.bytes c.in-Ok.target.file)) counted (c.in-Ok.ensures.zeros keeps);
+      counts = c.in-Ok.ensures.counts;
+      failures = c.in-Ok.ensures.failures;
     } in
     on_ok_weaker done.result (λ did. (done.new.old, done.new.new, refl, (c.args.source, refl, c.in-Ok.target, is, did))) (done.ensures.made c.in-Some.field-0 size same)
 
@@ -35,12 +36,14 @@ returns-in-Ok-clause-failed g c =
       goes = made.2;
       sectors_are = same;
       zeros = λ keeps. subst (λ (k : ℕ). AreZeros k (g.H.HostFile.bytes c.in-Ok.target.file)) counted (c.in-Ok.ensures.zeros keeps);
+      counts = c.in-Ok.ensures.counts;
+      failures = c.in-Ok.ensures.failures;
     } in
-    on_err_weaker done.result _ (λ e did. inr (c.args.source, refl, c.in-Ok.target, is, done.new.old, done.new.new, refl, did))
+    IfErr-weaker done.result _ _ (λ e did. inr (c.args.source, refl, c.in-Ok.target, is, done.new.old, done.new.new, refl, did))
     (done.ensures.failed c.in-Some.field-0 size same)
 
 pub returns-in-None-clause-failed : goal.returns-in-None-clause-failed
-returns-in-None-clause-failed g c = inl (inl (inr (c.args.source, refl, c.args.source, refl, refl)))
+returns-in-None-clause-failed g c = inl (inl (inr (c.args.source, refl, (c.args.source, refl, refl))))
 
 pub returns-in-Err-clause-failed : goal.returns-in-Err-clause-failed
 returns-in-Err-clause-failed g c =

@@ -6,12 +6,12 @@ use Rattle.terminal.proofs.layout_3_upgrading.upgrade_to_newer.Goals as goal
 
 pub returns-in-Ok-clause-made : goal.returns-in-Ok-clause-made
 returns-in-Ok-clause-made g c =
-    upgrade_done _ Three c.upgrade_newer_into.result.1 c.upgrade_newer_into.result.0 c.in-Ok.source _ _ (record { file = c.in-Ok.ensures.file; sectors = c.in-Ok.ensures.sectors })
+    upgrade_done _ Three c.upgrade_newer_into.result.1 c.upgrade_newer_into.result.0 c.in-Ok.source _ _ (record { file = c.in-Ok.ensures.file; sectors = c.in-Ok.ensures.sectors; counts = c.in-Ok.ensures.counts; failures = c.in-Ok.ensures.failures })
     c.upgrade_newer_into.ensures.made
 
 pub returns-in-Ok-clause-failed : goal.returns-in-Ok-clause-failed
 returns-in-Ok-clause-failed g c =
-    upgrade_failed _ Three c.upgrade_newer_into.result.1 c.upgrade_newer_into.result.0 c.in-Ok.source _ _ _ (record { file = c.in-Ok.ensures.file; sectors = c.in-Ok.ensures.sectors })
+    upgrade_failed _ Three c.upgrade_newer_into.result.1 c.upgrade_newer_into.result.0 c.in-Ok.source _ _ _ (record { file = c.in-Ok.ensures.file; sectors = c.in-Ok.ensures.sectors; counts = c.in-Ok.ensures.counts; failures = c.in-Ok.ensures.failures })
     c.upgrade_newer_into.ensures.failed
 
 pub returns-in-Ok-clause-well : goal.returns-in-Ok-clause-well

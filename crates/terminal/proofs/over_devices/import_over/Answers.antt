@@ -19,7 +19,7 @@ returns-in-Ok-clause-failed g c =
     let done = c.import_files-outcome in
     subst (λ d. IfErr done.result (λ failure. FailsAfter G (ImportFails G c.args.form c.args.first (length c.args.sources.now)) failure c.args.device d)) (sym c.into_device.ensures.device)
     (import_failed G done.result c.args.device c.in-Ok.store done.new.store c.args.form c.args.first (length c.args.sources.now) c.in-Ok.ensures.opened c.in-Ok.ensures.same
-    done.ensures.continues done.ensures.unread done.ensures.kept)
+    done.ensures.continues done.ensures.unread done.ensures.device done.ensures.kept done.ensures.begins done.ensures.reads)
 
 pub returns-in-Err-clause-failed : goal.returns-in-Err-clause-failed
 returns-in-Err-clause-failed g c = inl c.in-Err.ensures.kept

@@ -19,7 +19,7 @@ returns-in-Ok-clause-failed g c =
     let done = c.put_file-outcome in
     subst (λ d. IfErr done.result (λ failure. FailsAfter G (PutFails G c.args.block) failure c.args.device d)) (sym c.into_device.ensures.device)
     (put_failed G g.met.D.SectorDevice.only_now done.result c.args.device c.in-Ok.store done.new.store c.args.block c.in-Ok.ensures.opened c.in-Ok.ensures.same
-    done.ensures.continues done.ensures.no_block done.ensures.unread done.ensures.kept done.ensures.begins done.ensures.reads)
+    done.ensures.continues done.ensures.no_block done.ensures.unread done.ensures.device done.ensures.kept done.ensures.begins done.ensures.reads)
 
 pub returns-in-Err-clause-failed : goal.returns-in-Err-clause-failed
 returns-in-Err-clause-failed g c = inl c.in-Err.ensures.kept

@@ -3,7 +3,7 @@ use Rattle.std.proofs.lemmas.Result.{IfErr-weaker, on_ok_weaker}
 use Rattle.std.specs.Io.KnownBytes.{Appends}
 use Rattle.recovery.specs.Label.{is_size}
 use Rattle.terminal.specs.Copying.{salvage_told, standing_by}
-use Rattle.terminal.proofs.Copies.{becomes, either_failed, left_after, never_memory, never_stopped, never_untold, no_new_device, no_old_device, told_device, told_first_or_untold, told_plain, told_same}
+use Rattle.terminal.proofs.Copies.{becomes, either_failed, left_after, never_memory, never_stopped, never_untold, no_new_device, no_old_device, told_device, told_first_or_untold, told_or_untold, told_plain, told_same, untold_only}
 use Rattle.terminal.proofs.salvaging.salvage_over.Goals as goal
 
 pub returns-in-Ok-clause-salvages : goal.returns-in-Ok-clause-salvages
@@ -82,6 +82,9 @@ returns-in-Ok-clause-failed g c =
         looks = did.new_reads;
       };
       whole = λ keeps keeps' untold. left_after A B c.args.new.now c.salvage.new.new _ did.new_passes.sectors (did.after keeps keeps');
+      failed = untold_only e only;
+      well = λ other. did.well;
+      told = inr (inl only);
     })
     c.tell_salvage.ensures.only
 
@@ -97,6 +100,9 @@ returns-in-Err-clause-failed g c =
         looks = did.new_reads;
       };
       whole = λ keeps keeps' untold. absurd (never_untold c.in-Err.fault (⊎_elim (λ is. inl (sym c.from.ensures ∙ is)) (λ is. inr (sym c.from.ensures ∙ is)) untold));
+      failed = λ is. either_failed c.in-Err.fault (told_device c.in-Err.fault (sym c.from.ensures ∙ is)) did.old_device did.new_device;
+      well = λ other. (did.old_well (no_old_device c.from.result c.in-Err.fault c.from.ensures other), did.new_well (no_new_device c.from.result c.in-Err.fault c.from.ensures other));
+      told = told_or_untold c.from.result c.in-Err.fault _ c.from.ensures did.exact;
     }
 
 pub returns-in-Err-clause-unstopped : goal.returns-in-Err-clause-unstopped
