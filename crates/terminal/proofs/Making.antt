@@ -28,8 +28,7 @@ pub newer_sectors : (n sectors : ℕ) → newer_label.is_size_for n sectors ≡ 
 newer_sectors n sectors is = grind (arith, nat_tests, is)
 
 pub first_case : {A B : Type 0} (t : Bool) → t ≡ true → MatchBool t A B → A
-first_case true is a = a
-first_case false is b = absurd cc
+first_case {A} {B} t is holds = subst (λ (b : Bool). MatchBool b A B) is holds
 
 on_any : {T E : Type 0} {P : Type 0} (r : Result T E) → P → OnOk r P
 on_any (Ok t) p = p
