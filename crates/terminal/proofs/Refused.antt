@@ -7,6 +7,7 @@ use Rattle.sector_disk.proofs.Moments.{elapses_refl}
 use Rattle.journal.specs.Calls.{BeginsAtMost, ReadsAtMost, StopsLeave}
 use Rattle.journal.specs.Suits.{suits}
 use Rattle.recovery.specs.Label as older_label
+use Rattle.recovery.specs.Opened.{RecoveryLeaves}
 use Rattle.recovery.specs.declared.fault.OpenFault.{OpenFault}
 use Rattle.recovery.specs.declared.fault.OpenFault.TheVariants as fault
 use Rattle.shadow.specs.Label.{is_known_size}
@@ -76,7 +77,7 @@ module _ {D : Type 0} (G : Ghosts D) (only_now : (d : D) (c : Image) → G.left_
           record {
             goes = goes;
             sectors = sectors;
-            stops = λ keeps image since. subst (λ (t : Bool). MatchBool t _ (MayLeave (G.disk device) image)) (sym (not_older (G.sector_count device) unknown))
+            stops = λ keeps image since. subst (λ (t : Bool). MatchBool t (RecoveryLeaves (older_label.blocks_in (G.sector_count device)) (G.disk device) image) (MayLeave (G.disk device) image)) (sym (not_older (G.sector_count device) unknown))
                 (only_now device image (subst (λ (d : D). G.left_since d (G.time device) image) same since));
             begins = λ keeps. record {
               few_writes = subst (λ (d : D). (G.counts d).writes ≤ (G.counts device).writes + writes_for (G.sector_count device) (G.disk device).content) (sym same) (omega arith);
