@@ -1,6 +1,6 @@
 -- An image that was refused: what an opening of it may have left, and what is told.
 use Rattle.std.proofs.Common.{◌≡◌, ◌≢◌, ◌⊎◌, ◌∙◌, ◌+◌, ◌≤◌, ℕ, Bool, true, false, Option, Some, None, IsTrue, ap, inl, inr, refl, subst, sym, arith}
-use Rattle.std.specs.Prelude.{MatchBool, option_map}
+use Rattle.std.specs.Prelude.{◌||◌, MatchBool, option_map}
 use Rattle.sector_disk.specs.Disk.{Image, MayLeave}
 use Rattle.sector_disk.specs.declared.device.SectorDevice.{Ghosts}
 use Rattle.sector_disk.proofs.Moments.{elapses_refl}
@@ -11,6 +11,7 @@ use Rattle.recovery.specs.Opened.{RecoveryLeaves}
 use Rattle.recovery.specs.declared.fault.OpenFault.{OpenFault}
 use Rattle.recovery.specs.declared.fault.OpenFault.TheVariants as fault
 use Rattle.shadow.specs.Label.{is_known_size}
+use Rattle.shadow.specs.Label as newer_label
 use Rattle.recovery.specs.Steps.{OnlyRead}
 use Rattle.stores.specs.Opened.{OpeningLeaves, reads_for, syncs_for, writes_for}
 use Rattle.sessions.specs.Devices.{Becomes}
@@ -42,13 +43,13 @@ pub told_image : (failure : Failure) (e : OpenFault) (refusal : Option OpenFault
 told_image failure e refusal is (inl device) = inl (is ∙ ap of_image device)
 told_image failure e refusal is (inr told) = inr (ap (λ f. Some f) is ∙ sym (ap (λ r. option_map of_image r) told))
 
+second_false : (a b : Bool) → (a || b) ≡ false → b ≡ false
+second_false true b is = absurd cc
+second_false false b is = is
+
 -- of no known size is of none of layout 2
 not_older : (sectors : ℕ) → is_known_size sectors ≡ false → older_label.is_size sectors ≡ false
-not_older sectors isnt = go (older_label.is_size sectors) refl
-  where
-    go : (t : Bool) → older_label.is_size sectors ≡ t → older_label.is_size sectors ≡ false
-    go false is = is
-    go true is = grind (isnt, is)
+not_older sectors isnt = second_false (newer_label.is_size sectors) (older_label.is_size sectors) isnt
 
 module _ {D : Type 0} (G : Ghosts D) (only_now : (d : D) (c : Image) → G.left_since d (G.time d) c → MayLeave (G.disk d) c) where
   -- An opening that was refused is a recovery as far as it went: of no known size no call was made.
