@@ -49,7 +49,7 @@ flag_given {E} G m id r only none value = go (one_text (found_of m) id) refl r n
         → IfSome r (λ is_given. HasFlag (rows_of (found_of m)) id is_given)
     go o e None none value = tt
     go None e (Some v) none value = let bad : Some v ≡ None = none e in cc
-    go (Some t) e (Some v) none value = flag_named m id t v e (only t (Ok v) (value t e))
+    go (Some t) e (Some v) none value = flag_named {E = E} m id t v e (only t (Ok v) (value t e))
 
 pub text_given : (m : ArgMatches) (id text : Text) → Some text ≡ first_value (found_of m) id → HasText (rows_of (found_of m)) id text
 text_given m id text given = sym (given ∙ first_value-rows (found_of m) id)
