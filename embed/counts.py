@@ -4,7 +4,7 @@
     counts.py blocks|opened|sessions
     counts.py flash|trial LAYOUT
 
-It shares no code with the library. The disk, the store and the block words are those of crates/stop_texts/totals.py, which are written by docs/IMAGE.md.
+It shares no code with the library. The disk, the store and the block words are those of crates/test_stop_texts/totals.py, which are written by docs/IMAGE.md.
 """
 import hashlib
 import importlib.util
@@ -18,7 +18,7 @@ TORN = bytes(range(255, 127, -1)) * 4
 
 
 def read_model():
-    spec = importlib.util.spec_from_file_location("totals", f"{ROOT}/crates/stop_texts/totals.py")
+    spec = importlib.util.spec_from_file_location("totals", f"{ROOT}/crates/test_stop_texts/totals.py")
     model = importlib.util.module_from_spec(spec)
     sys.dont_write_bytecode = True
     spec.loader.exec_module(model)

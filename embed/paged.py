@@ -3,7 +3,7 @@
 
     paged.py blocks|opened|sessions
 
-It shares no code with the library. The disk, the store and the block words are those of crates/stop_texts/totals.py, which are written by docs/IMAGE.md.
+It shares no code with the library. The disk, the store and the block words are those of crates/test_stop_texts/totals.py, which are written by docs/IMAGE.md.
 """
 import itertools
 import sys

@@ -75,7 +75,7 @@ def crates():
         if colon:
             uses[name.split()[0]] = below.split()
     does = {row[0]: row for row in rows_below(text_of("docs/ARCHITECTURE.md"), "| Crate | Does |") if row[0] in uses}
-    product = [it for it in does if it not in ("transcripts", "rows")]
+    product = [*does]
     below = {it: {low for low in uses[it] if low in product} for it in product}
     direct = {it: {low for low in below[it] if not any(low in below[other] for other in below[it])} for it in product}
     depth = {}

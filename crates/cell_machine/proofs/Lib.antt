@@ -25,13 +25,12 @@ pub mod Calling
 pub mod Served
 pub mod Deeds
 pub mod Shapes
-pub mod Trims
 pub mod Floors
 pub mod Wides
-pub mod Stores
+pub mod OnSpace
 pub mod Standing
 pub mod Called
-pub mod Fusing
+pub mod InARow
 pub mod Executing
 pub mod Due
 pub mod Closing

@@ -5,7 +5,7 @@ pub mod Cells
 pub mod Division
 pub mod Effects
 pub mod Frames
-pub mod Fusing
+pub mod Superinstructions
 pub mod Begun
 pub mod Value
 pub mod Events

@@ -1,7 +1,7 @@
 -- What the getters of a parse give is what the words say.
-use Rattle.std.proofs.Common.{◌≡◌, ◌∙◌, ℕ, List, Option, Some, None, Result, Ok, Err, IfSome, refl, sym, subst}
+use Rattle.std.proofs.Common.{◌≡◌, ◌∙◌, ℕ, Bool, false, List, Option, Some, None, Result, Ok, Err, IfSome, ap, refl, sym, subst}
 use Rattle.std.specs.Prelude.{IsErrAnd, MatchResult}
-use Rattle.std.specs.Str.Parse.{ParsesUnsigned}
+use Rattle.std.specs.Str.Parse.{ParsesBool, ParsesUnsigned}
 use Rattle.std.specs.Prelude.{option_map, true, Box}
 use Rattle.std.specs.Box.{box_value}
 use Rattle.clap.specs.declared.parser.matches.ArgMatches.TheViews.{out-ArgMatches, out-SubCommand}
@@ -11,7 +11,7 @@ use Rattle.command_line.specs.declared.orders.Order.{Order}
 use Rattle.command_line.specs.declared.orders.Order.TheVariants.{Memory}
 use Rattle.clap.specs.declared.parser.matches.ArgMatches.{ArgMatches}
 use Rattle.clap.proofs.WalkLemmas.{first_value-rows, one_text-rows}
-use Rattle.command_line.specs.Commands.{HasNumber, HasText, Orders}
+use Rattle.command_line.specs.Commands.{HasFlag, HasNumber, HasText, Orders}
 
 pub number_given : {E : Type 0} (G : List ℕ → Result ℕ E → Type 0) (k : ℕ) (m : ArgMatches) (id : Text) (r : Option ℕ)
     → ((u : List ℕ) (x : Result ℕ E) → G u x → ParsesUnsigned k 10 u x)
@@ -29,6 +29,27 @@ number_given {E} G k m id r only none value = go (one_text (found_of m) id) refl
     go (Some t) e (Some v) none value =
         let parsed = only t (Ok v) (value t e) in
         (t, sym (one_text-rows (found_of m) id) ∙ e, parsed.0.0, parsed.1)
+
+-- the flag of a text that names it
+flag_named : {E : Type 0} (m : ArgMatches) (id t : Text) (is_given : Bool) → one_text (found_of m) id ≡ Some t → ParsesBool {E = E} t (Ok is_given)
+    → HasFlag (rows_of (found_of m)) id is_given
+flag_named m id t true e named = sym (one_text-rows (found_of m) id) ∙ e ∙ ap (λ (t : Text). Some t) named
+flag_named m id t false e named = sym (one_text-rows (found_of m) id) ∙ e ∙ ap (λ (t : Text). Some t) named
+
+pub flag_given : {E : Type 0} (G : List ℕ → Result Bool E → Type 0) (m : ArgMatches) (id : Text) (r : Option Bool)
+    → ((u : List ℕ) (x : Result Bool E) → G u x → ParsesBool u x)
+    → (one_text (found_of m) id ≡ None → r ≡ None)
+    → ((t : List ℕ) → one_text (found_of m) id ≡ Some t → ReadsOne G t r)
+    → IfSome r (λ is_given. HasFlag (rows_of (found_of m)) id is_given)
+flag_given {E} G m id r only none value = go (one_text (found_of m) id) refl r none value
+  where
+    go : (o : Option Text) → one_text (found_of m) id ≡ o → (r : Option Bool)
+        → (one_text (found_of m) id ≡ None → r ≡ None)
+        → ((t : List ℕ) → one_text (found_of m) id ≡ Some t → ReadsOne G t r)
+        → IfSome r (λ is_given. HasFlag (rows_of (found_of m)) id is_given)
+    go o e None none value = tt
+    go None e (Some v) none value = let bad : Some v ≡ None = none e in cc
+    go (Some t) e (Some v) none value = flag_named {E = E} m id t v e (only t (Ok v) (value t e))
 
 pub text_given : (m : ArgMatches) (id text : Text) → Some text ≡ first_value (found_of m) id → HasText (rows_of (found_of m)) id text
 text_given m id text given = sym (given ∙ first_value-rows (found_of m) id)

@@ -1,5 +1,5 @@
 -- What the words of a command line may be, and the order that they give.
-use Rattle.std.specs.Prelude.{◌≡◌, ◌≢◌, ◌≤◌, ℕ, pos, Bool, true, false, List, [], ◌∷◌, map, Option, Some, None, unwrap_or, codes, ⊤}
+use Rattle.std.specs.Prelude.{◌≡◌, ◌≤◌, ℕ, pos, Bool, true, false, List, [], ◌∷◌, map, Option, Some, None, unwrap_or, codes, ⊤}
 use Rattle.std.specs.Borrow.{Bor}
 use Rattle.std.specs.Str.Parse.{IsNumeral, digits_value, without_leading_plus}
 use Rattle.clap.specs.Lexer.{usize_max}
@@ -225,21 +225,26 @@ layout_number Three = 3
 abbrev pub HasLayout : List Row → Layout → Type 0
 HasLayout rows layout = HasNumber rows (codes "layout") (layout_number layout)
 
--- the form that the flag `--raw` gives
-abbrev pub HasForm : List Row → Form → Type 0
-HasForm rows form = (one_of (codes "raw") rows ≡ Some (codes "true") → form ≡ Raw)
-    × (one_of (codes "raw") rows ≡ Some (codes "false") → form ≡ Lines)
-
--- the flag isn't given, or is
-abbrev pub IsUnset : List Row → Text → Type 0
-IsUnset rows id = one_of id rows ≢ Some (codes "true")
-
-abbrev pub IsSet : List Row → Text → Type 0
-IsSet rows id = one_of id rows ≢ Some (codes "false")
+-- the text of a flag that is given, and of one that isn't
+abbrev pub flag_text : Bool → Text
+flag_text true = codes "true"
+flag_text false = codes "false"
 
 -- whether the flag is given
 abbrev pub HasFlag : List Row → Text → Bool → Type 0
-HasFlag rows id is_given = (one_of id rows ≡ Some (codes "true") → is_given ≡ true) × (one_of id rows ≡ Some (codes "false") → is_given ≡ false)
+HasFlag rows id is_given = one_of id rows ≡ Some (flag_text is_given)
+
+-- the flag is given, or isn't
+abbrev pub IsSet : List Row → Text → Type 0
+IsSet rows id = HasFlag rows id true
+
+abbrev pub IsUnset : List Row → Text → Type 0
+IsUnset rows id = HasFlag rows id false
+
+-- the form that the flag `--raw` gives
+abbrev pub HasForm : List Row → Form → Type 0
+HasForm rows Raw = IsSet rows (codes "raw")
+HasForm rows Lines = IsUnset rows (codes "raw")
 
 -- how a session is to be run
 pub record HasScript (rows : List Row) (script : Script) : Type 0 where

@@ -104,7 +104,7 @@ fn order_over_image<'a>(alloc: Global, name: &str, given: &ArgMatches<'a>) -> Op
     match name {
         "new" => order_of_new(image, given),
         "run" => order_of_run(alloc, image, given),
-        "check" => Some(order_of_check(image, given)),
+        "check" => order_of_check(image, given),
         "list" => Some(Order::List(image, number_of(given, "BLOCK")?)),
         "put" => Some(Order::Put(image, number_of(given, "BLOCK")?, given.get_str("FILE")?)),
         _ => order_over_blocks(alloc, name, image, given),
@@ -136,12 +136,14 @@ fn script_of<'a>(alloc: Global, given: &ArgMatches<'a>) -> Option<Script<'a>>
     ensures { IfSome result (λ script. HasScript (rows_of (found_of given.now)) script) }
 {
     let load = load_of(given)?;
+    let is_strict = flag_of(given, "strict")?;
+    let is_traced = flag_of(given, "trace")?;
     let files = texts_of(alloc, given, "FILE")?;
     Some(Script {
         load,
         files,
-        is_strict: flag_of(given, "strict"),
-        is_traced: flag_of(given, "trace"),
+        is_strict,
+        is_traced,
     })
 }
 
@@ -169,23 +171,24 @@ fn texts_of<'a>(alloc: Global, given: &ArgMatches<'a>, id: &str) -> Option<Vec<&
     }
 }
 
-/// Whether a flag is given.
-fn flag_of(given: &ArgMatches<'_>, id: &str) -> bool
-    ensures { HasFlag (rows_of (found_of given.now)) id.now result }
+/// Whether a flag is given. After a parse it always has one of its two texts.
+fn flag_of(given: &ArgMatches<'_>, id: &str) -> Option<bool>
+    ensures { IfSome result (λ is_given. HasFlag (rows_of (found_of given.now)) id.now is_given) }
 {
-    given.get_flag(id)
+    given.get_one::<bool>(id)
 }
 
 /// The order of a check, of an image or of each of its blocks.
-fn order_of_check<'a>(image: &'a str, given: &ArgMatches<'a>) -> Order<'a>
+fn order_of_check<'a>(image: &'a str, given: &ArgMatches<'a>) -> Option<Order<'a>>
     requires { HasText (rows_of (found_of given.now)) (codes "IMAGE") image.now }
-    ensures given { Orders (Some (codes "check", rows_of (found_of given.now))) result }
-    ensures ranges { IsInRange result }
+    ensures given { IfSome result (λ o. Orders (Some (codes "check", rows_of (found_of given.now))) o) }
+    ensures ranges { IfSome result (λ o. IsInRange o) }
 {
-    if given.get_flag("blocks") {
-        Order::Digests(image)
+    let is_of_blocks = flag_of(given, "blocks")?;
+    if is_of_blocks {
+        Some(Order::Digests(image))
     } else {
-        Order::Check(image)
+        Some(Order::Check(image))
     }
 }
 
@@ -205,7 +208,7 @@ fn order_over_blocks<'a>(
             image,
             number_of(given, "FIRST")?,
             number_of(given, "LAST")?,
-            form_of(given),
+            form_of(given)?,
         )),
         "import" => order_of_import(alloc, image, number_of(given, "FIRST")?, given),
         _ => None,
@@ -224,9 +227,10 @@ fn order_of_import<'a>(
     ensures given { IfSome result (λ o. Orders (Some (codes "import", rows_of (found_of given.now))) o) }
     ensures ranges { IfSome result (λ o. IsInRange o) }
 {
+    let form = form_of(given)?;
+    let is_checked = flag_of(given, "check")?;
     let files = texts_of(alloc, given, "FILE")?;
-    let form = form_of(given);
-    if given.get_flag("check") {
+    if is_checked {
         Some(Order::CheckImport(image, first, files, form))
     } else {
         Some(Order::Import(image, first, files, form))
@@ -282,13 +286,14 @@ fn number_of(given: &ArgMatches<'_>, id: &str) -> Option<u16>
     given.get_one(id)
 }
 
-fn form_of(given: &ArgMatches<'_>) -> Form
-    ensures { HasForm (rows_of (found_of given.now)) result }
+fn form_of(given: &ArgMatches<'_>) -> Option<Form>
+    ensures { IfSome result (λ form. HasForm (rows_of (found_of given.now)) form) }
 {
-    if given.get_flag("raw") {
-        Form::Raw
+    let is_raw = flag_of(given, "raw")?;
+    if is_raw {
+        Some(Form::Raw)
     } else {
-        Form::Text
+        Some(Form::Text)
     }
 }
 

@@ -13,7 +13,7 @@ use Rattle.compiler.specs.declared.opens.Open.{Open}
 use Rattle.compiler.specs.declared.opens.Open.TheVariants as open_at
 use Rattle.compiler.specs.Definition.{Begun, AfterIf, AfterElse, AfterBegin, AfterWhile, AfterDo, Definition, Adding, Adds, Refuses, tested, unmarked, with_cells, with_tree, add, add_literal, add_word, add_plain, in_loop}
 use Rattle.compiler.specs.Represents.{Waits, Within, Chain, AtDo, Stands, Represents, Holds}
-use Rattle.compiler.specs.declared.definition.Refusal.TheVariants as refusal
+use Rattle.compiler.specs.declared.definition.CompileRefusal.TheVariants as refusal
 use Rattle.compiler.specs.Promise.{SameBelow, Added, Refused, on_open}
 use Rattle.compiler.proofs.Grows.{fewer, stands_le, Leaving, unmoved, Lies, stands_adds, stands_kept, ended_kept}
 

@@ -6,7 +6,7 @@ use Rattle.cell_machine.specs.Fault.{CodeFull, Unbalanced}
 use Rattle.cell_machine.specs.Layout.{Cell, IsIn, leave_cell, most_cells}
 use Rattle.cell_machine.proofs.Laid.{at_once, stays}
 use Rattle.compiler.specs.declared.definition.Compiler.{Compiler}
-use Rattle.compiler.specs.declared.definition.Refusal.TheVariants as refusal
+use Rattle.compiler.specs.declared.definition.CompileRefusal.TheVariants as refusal
 use Rattle.compiler.specs.Definition.{Definition, Adds, Refuses, tested, with_tree, add, add_leave, in_loop}
 use Rattle.compiler.specs.Represents.{Within, Chain, Holds}
 use Rattle.compiler.specs.Promise.{SameBelow, Added, Refused, on_open}

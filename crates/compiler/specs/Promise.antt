@@ -3,8 +3,8 @@ use Rattle.std.specs.Prelude.{◌≡◌, ℕ, ◌+◌, ◌<◌, List, [], slice_
 use Rattle.cell_machine.specs.Fault.{Fault, NoDefinition, DefinitionOpen, Unbalanced, CodeFull}
 use Rattle.cell_machine.specs.Tree.{TextKind as Kind, Prints, AbortsWith, LoopKind, ByOne, ByTop}
 use Rattle.cell_machine.specs.Layout.{Cell, Body}
-use Rattle.compiler.specs.declared.definition.Refusal.{Refusal}
-use Rattle.compiler.specs.declared.definition.Refusal.TheVariants as refusal
+use Rattle.compiler.specs.declared.definition.CompileRefusal.{CompileRefusal}
+use Rattle.compiler.specs.declared.definition.CompileRefusal.TheVariants as refusal
 use Rattle.compiler.specs.declared.structures.LoopEnd.{LoopEnd}
 use Rattle.compiler.specs.declared.structures.LoopEnd.TheVariants as loop_end
 use Rattle.compiler.specs.declared.definition.TextKind.{TextKind}
@@ -13,7 +13,7 @@ use Rattle.compiler.specs.declared.definition.Compiler.{Compiler}
 use Rattle.compiler.specs.Definition.{Definition, Adding, Adds, Refuses, opened, end_definition, body_of}
 use Rattle.compiler.specs.Represents.{IsClosed, Holds, used}
 
-abbrev pub fault_of : Refusal → Fault
+abbrev pub fault_of : CompileRefusal → Fault
 fault_of refusal.NoDefinition = NoDefinition
 fault_of refusal.DefinitionOpen = DefinitionOpen
 fault_of refusal.Unbalanced = Unbalanced
@@ -44,7 +44,7 @@ Added old before new after add =
     (d : Definition) × ((on_open o (add (used old)) ≡ Adds d) × Holds new after (Some d))
 
 -- the definition refuses this with the same fault, and nothing was changed
-abbrev pub Refused : (old : Compiler) (before : List ℕ) (new : Compiler) (after : List ℕ) → (ℕ → Definition → Adding Definition) → Refusal → Type 0
+abbrev pub Refused : (old : Compiler) (before : List ℕ) (new : Compiler) (after : List ℕ) → (ℕ → Definition → Adding Definition) → CompileRefusal → Type 0
 Refused old before new after add e =
     ((o : Option Definition) → Holds old before o → on_open o (add (used old)) ≡ Refuses (fault_of e)) × (new ≡ old) × (after ≡ before)
 
@@ -64,7 +64,7 @@ Opened old new name =
     (on_closed o (opened name here) ≡ Adds (opened name here)) × Holds new code (Some (opened name here))
 
 -- one is open, and nothing was changed
-abbrev pub NotOpened : (old new : Compiler) → Refusal → Type 0
+abbrev pub NotOpened : (old new : Compiler) → CompileRefusal → Type 0
 NotOpened old new e =
     ((code : List ℕ) (o : Option Definition) (d : Definition) → Holds old code o → on_closed o d ≡ Refuses (fault_of e)) × (new ≡ old)
 

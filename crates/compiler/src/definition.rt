@@ -17,7 +17,7 @@ pub type NoMemory = AllocError;
 
 /// What a call answers where it adds nothing. Nothing is changed then.
 #[derive(Clone, Copy, Debug, PartialEq, Eq)]
-pub enum Refusal {
+pub enum CompileRefusal {
     /// No definition is open.
     NoDefinition,
     /// A definition is open.
@@ -107,14 +107,14 @@ impl Compiler {
 
     /// `:` opens a definition. The name has at most 31 bytes. `DefinitionOpen` where one is open.
     /// Rule: Forth-83 Standard, :.
-    pub fn begin(&mut self, name: &[u8]) -> Result<(), Refusal>
+    pub fn begin(&mut self, name: &[u8]) -> Result<(), CompileRefusal>
         requires { length name.now ≤ 31 }
         ensures opened { OnOk result (Opened self.old self.new name.now) }
         ensures refused { IfErr result (NotOpened self.old self.new) }
         ensures bodies { used self.new ≡ used self.old }
     {
         if self.is_open {
-            return Err(Refusal::DefinitionOpen);
+            return Err(CompileRefusal::DefinitionOpen);
         }
         self.name.clear();
         // At most 31 bytes: they fit.
@@ -131,7 +131,7 @@ impl Compiler {
     /// `;` ends the definition with 1 cell, and answers the place of its body's first cell. Refused as any addition,
     /// and as `Unbalanced` where a structure is open.
     /// Rule: Forth-83 Standard, ;.
-    pub fn finish(&mut self, code: &mut Code) -> Result<u16, Refusal>
+    pub fn finish(&mut self, code: &mut Code) -> Result<u16, CompileRefusal>
         requires { IsSound self.old code.old }
         ensures finished { IfOk result (Finished self.old code.old self.new code.new) }
         ensures refused { IfErr result (Refused self.old code.old self.new code.new end_definition) }
@@ -172,7 +172,7 @@ impl Compiler {
 
     /// Adds a literal, which takes 2 cells. Refused as any addition.
     /// Rule: Forth-83 Standard, LITERAL; LANGUAGE, Limits.
-    pub fn literal(&mut self, code: &mut Code, v: u16) -> Result<(), Refusal>
+    pub fn literal(&mut self, code: &mut Code, v: u16) -> Result<(), CompileRefusal>
         requires { IsSound self.old code.old }
         ensures added { OnOk result (Added self.old code.old self.new code.new (λ used. add_literal used v)) }
         ensures refused { IfErr result (Refused self.old code.old self.new code.new (λ used. add_literal used v)) }
@@ -188,7 +188,7 @@ impl Compiler {
     /// Adds a word, with a token of 1 to 4,096, or after `COMPILE` one that the body adds when it runs. It takes 1
     /// cell. Refused as any addition, and as `Unbalanced` for an `EXIT` within a counted loop, but not after `COMPILE`.
     /// Rule: LANGUAGE, Definitions and structures; Forth-83 Standard, COMPILE.
-    pub fn call(&mut self, code: &mut Code, token: u16) -> Result<(), Refusal>
+    pub fn call(&mut self, code: &mut Code, token: u16) -> Result<(), CompileRefusal>
         requires sound { IsSound self.old code.old }
         requires from { 0 < token }
         requires most { token ≤ most_tokens }
@@ -215,7 +215,12 @@ impl Compiler {
     /// Adds a text of at most 1,024 bytes, which takes 2 cells, and 1 for each two of its bytes, the last one's half
     /// filled up. Refused as any addition.
     /// Rule: LANGUAGE, Limits; Forth-83 Standard, ."; Forth-83 Standard, ABORT".
-    pub fn text(&mut self, code: &mut Code, kind: TextKind, bytes: &[u8]) -> Result<(), Refusal>
+    pub fn text(
+        &mut self,
+        code: &mut Code,
+        kind: TextKind,
+        bytes: &[u8],
+    ) -> Result<(), CompileRefusal>
         requires sound { IsSound self.old code.old }
         requires most { length bytes.now ≤ 1024 }
         ensures added { OnOk result (Added self.old code.old self.new code.new (λ used. add_text used (kind_of kind) bytes.now)) }
@@ -244,27 +249,27 @@ impl Compiler {
 
     /// A definition is open.
     #[inline]
-    pub(crate) fn opened(&self) -> Result<(), Refusal>
+    pub(crate) fn opened(&self) -> Result<(), CompileRefusal>
         ensures ok { OnOk result (self.now.is_open ≡ true) }
-        ensures told { IfErr result (λ e. e ≡ Refusal.NoDefinition) }
+        ensures told { IfErr result (λ e. e ≡ CompileRefusal.NoDefinition) }
         ensures closed { OnErr result (self.now.is_open ≡ false) }
     {
         if self.is_open {
             Ok(())
         } else {
-            Err(Refusal::NoDefinition)
+            Err(CompileRefusal::NoDefinition)
         }
     }
 
     /// No mark waits for its word.
     #[inline]
-    pub(crate) fn unmarked(&self) -> Result<(), Refusal>
+    pub(crate) fn unmarked(&self) -> Result<(), CompileRefusal>
         ensures ok { OnOk result (self.now.marked ≡ false) }
-        ensures told { IfErr result (λ e. e ≡ Refusal.Unbalanced) }
+        ensures told { IfErr result (λ e. e ≡ CompileRefusal.Unbalanced) }
         ensures marked { OnErr result (self.now.marked ≡ true) }
     {
         if self.marked {
-            Err(Refusal::Unbalanced)
+            Err(CompileRefusal::Unbalanced)
         } else {
             Ok(())
         }
@@ -272,42 +277,42 @@ impl Compiler {
 
     /// No structure is open.
     #[inline]
-    pub(crate) fn outside(&self) -> Result<(), Refusal>
+    pub(crate) fn outside(&self) -> Result<(), CompileRefusal>
         ensures ok { OnOk result (length self.now.opens ≡ 0) }
-        ensures told { IfErr result (λ e. e ≡ Refusal.Unbalanced) }
+        ensures told { IfErr result (λ e. e ≡ CompileRefusal.Unbalanced) }
         ensures inside { OnErr result (0 < length self.now.opens) }
     {
         if self.opens.len() == 0 {
             Ok(())
         } else {
-            Err(Refusal::Unbalanced)
+            Err(CompileRefusal::Unbalanced)
         }
     }
 
     /// One more structure can be open.
     #[inline]
-    pub(crate) fn few(&self) -> Result<(), Refusal>
+    pub(crate) fn few(&self) -> Result<(), CompileRefusal>
         ensures ok { OnOk result (length self.now.opens < 256) }
-        ensures told { IfErr result (λ e. e ≡ Refusal.CodeFull) }
+        ensures told { IfErr result (λ e. e ≡ CompileRefusal.CodeFull) }
         ensures many { OnErr result (256 ≤ length self.now.opens) }
     {
         if self.opens.len() < 256 {
             Ok(())
         } else {
-            Err(Refusal::CodeFull)
+            Err(CompileRefusal::CodeFull)
         }
     }
 
     /// So many cells are left.
     #[inline]
-    pub(crate) fn room(&self, cells: u16) -> Result<(), Refusal>
+    pub(crate) fn room(&self, cells: u16) -> Result<(), CompileRefusal>
         requires { cells ≤ 32768 }
         ensures ok { OnOk result (self.now.here + cells ≤ 32768) }
-        ensures told { IfErr result (λ e. e ≡ Refusal.CodeFull) }
+        ensures told { IfErr result (λ e. e ≡ CompileRefusal.CodeFull) }
         ensures full { OnErr result (32768 < self.now.here + cells) }
     {
         if self.here > 32768 - cells {
-            Err(Refusal::CodeFull)
+            Err(CompileRefusal::CodeFull)
         } else {
             Ok(())
         }
@@ -315,9 +320,9 @@ impl Compiler {
 
     /// The token isn't that of an `EXIT` within a loop.
     #[inline]
-    fn exits(&self, token: u16) -> Result<(), Refusal>
+    fn exits(&self, token: u16) -> Result<(), CompileRefusal>
         ensures ok { OnOk result (self.now.marked ≡ false → token ≡ 38 → self.now.leaves ≡ None) }
-        ensures told { IfErr result (λ e. e ≡ Refusal.Unbalanced) }
+        ensures told { IfErr result (λ e. e ≡ CompileRefusal.Unbalanced) }
         ensures unmarked { OnErr result (self.now.marked ≡ false) }
         ensures exit { OnErr result (token ≡ 38) }
         ensures inside { OnErr result (self.now.leaves ≢ None) }
@@ -329,7 +334,7 @@ impl Compiler {
             return Ok(());
         }
         match self.leaves {
-            Some(_) => Err(Refusal::Unbalanced),
+            Some(_) => Err(CompileRefusal::Unbalanced),
             None => Ok(()),
         }
     }

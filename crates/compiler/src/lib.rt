@@ -1,7 +1,7 @@
 //! The definition that is open, compiled into code cells.
 #![tactic(auto)]
 
-pub use definition::{Compiler, NoMemory, Refusal, TextKind};
+pub use definition::{CompileRefusal, Compiler, NoMemory, TextKind};
 
 mod definition;
 mod leaves;

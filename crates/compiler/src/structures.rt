@@ -7,7 +7,7 @@ ghost use Rattle.compiler.specs.Definition.{add_if, add_else, add_then, add_begi
 ghost use Rattle.compiler.specs.Represents.{IsSound, used};
 ghost use Rattle.compiler.specs.Promise.{Added, Refused, BodiesStay, loop_kind_of};
 
-use crate::definition::{Compiler, Refusal};
+use crate::definition::{CompileRefusal, Compiler};
 use crate::leaves::patch_leaves;
 use crate::opens::Open;
 use cell_machine::code::Code;
@@ -25,7 +25,7 @@ enum LoopEnd {
 impl Compiler {
     /// `IF` begins a choice, with a test of 2 cells. Refused as any addition.
     /// Rule: Forth-83 Standard, IF.
-    pub fn add_if(&mut self, code: &mut Code) -> Result<(), Refusal>
+    pub fn add_if(&mut self, code: &mut Code) -> Result<(), CompileRefusal>
         requires { IsSound self.old code.old }
         ensures added { OnOk result (Added self.old code.old self.new code.new add_if) }
         ensures refused { IfErr result (Refused self.old code.old self.new code.new add_if) }
@@ -44,7 +44,7 @@ impl Compiler {
     /// `ELSE` begins the second half of a choice, with a jump of 2 cells. Refused as any addition, and as `Unbalanced`
     /// where the innermost structure is no `IF`, or one with its `ELSE`.
     /// Rule: Forth-83 Standard, ELSE.
-    pub fn add_else(&mut self, code: &mut Code) -> Result<(), Refusal>
+    pub fn add_else(&mut self, code: &mut Code) -> Result<(), CompileRefusal>
         requires { IsSound self.old code.old }
         ensures added { OnOk result (Added self.old code.old self.new code.new add_else) }
         ensures refused { IfErr result (Refused self.old code.old self.new code.new add_else) }
@@ -61,14 +61,14 @@ impl Compiler {
                 self.here += 2;
                 Ok(())
             }
-            _ => Err(Refusal::Unbalanced),
+            _ => Err(CompileRefusal::Unbalanced),
         }
     }
 
     /// `THEN` ends a choice, with no cell. Refused as any addition, and as `Unbalanced` where the innermost structure
     /// is no `IF`.
     /// Rule: Forth-83 Standard, THEN.
-    pub fn add_then(&mut self, code: &mut Code) -> Result<(), Refusal>
+    pub fn add_then(&mut self, code: &mut Code) -> Result<(), CompileRefusal>
         requires { IsSound self.old code.old }
         ensures added { OnOk result (Added self.old code.old self.new code.new add_then) }
         ensures refused { IfErr result (Refused self.old code.old self.new code.new add_then) }
@@ -87,13 +87,13 @@ impl Compiler {
                 self.opens.close();
                 Ok(())
             }
-            _ => Err(Refusal::Unbalanced),
+            _ => Err(CompileRefusal::Unbalanced),
         }
     }
 
     /// `BEGIN` begins a loop with a test, with no cell. Refused as any addition.
     /// Rule: Forth-83 Standard, BEGIN.
-    pub fn add_begin(&mut self, code: &mut Code) -> Result<(), Refusal>
+    pub fn add_begin(&mut self, code: &mut Code) -> Result<(), CompileRefusal>
         requires { IsSound self.old code.old }
         ensures added { OnOk result (Added self.old code.old self.new code.new add_begin) }
         ensures refused { IfErr result (Refused self.old code.old self.new code.new add_begin) }
@@ -109,7 +109,7 @@ impl Compiler {
     /// `UNTIL` ends a loop with a test of 2 cells. Refused as any addition, and as `Unbalanced` where the innermost
     /// structure is no `BEGIN`, or one with its `WHILE`.
     /// Rule: Forth-83 Standard, UNTIL.
-    pub fn add_until(&mut self, code: &mut Code) -> Result<(), Refusal>
+    pub fn add_until(&mut self, code: &mut Code) -> Result<(), CompileRefusal>
         requires { IsSound self.old code.old }
         ensures added { OnOk result (Added self.old code.old self.new code.new add_until) }
         ensures refused { IfErr result (Refused self.old code.old self.new code.new add_until) }
@@ -124,14 +124,14 @@ impl Compiler {
                 self.opens.close();
                 Ok(())
             }
-            _ => Err(Refusal::Unbalanced),
+            _ => Err(CompileRefusal::Unbalanced),
         }
     }
 
     /// `WHILE` gives a loop its way out, with a test of 2 cells. Refused as any addition, and as `Unbalanced` where the
     /// innermost structure is no `BEGIN`, or one with its `WHILE`.
     /// Rule: Forth-83 Standard, WHILE.
-    pub fn add_while(&mut self, code: &mut Code) -> Result<(), Refusal>
+    pub fn add_while(&mut self, code: &mut Code) -> Result<(), CompileRefusal>
         requires { IsSound self.old code.old }
         ensures added { OnOk result (Added self.old code.old self.new code.new add_while) }
         ensures refused { IfErr result (Refused self.old code.old self.new code.new add_while) }
@@ -147,14 +147,14 @@ impl Compiler {
                 self.here += 2;
                 Ok(())
             }
-            _ => Err(Refusal::Unbalanced),
+            _ => Err(CompileRefusal::Unbalanced),
         }
     }
 
     /// `REPEAT` ends a loop that has its `WHILE`, with a jump back of 2 cells. Refused as any addition, and as
     /// `Unbalanced` where the innermost structure is none.
     /// Rule: Forth-83 Standard, REPEAT.
-    pub fn add_repeat(&mut self, code: &mut Code) -> Result<(), Refusal>
+    pub fn add_repeat(&mut self, code: &mut Code) -> Result<(), CompileRefusal>
         requires { IsSound self.old code.old }
         ensures added { OnOk result (Added self.old code.old self.new code.new add_repeat) }
         ensures refused { IfErr result (Refused self.old code.old self.new code.new add_repeat) }
@@ -170,13 +170,13 @@ impl Compiler {
                 self.opens.close();
                 Ok(())
             }
-            _ => Err(Refusal::Unbalanced),
+            _ => Err(CompileRefusal::Unbalanced),
         }
     }
 
     /// `DO` begins a counted loop, with 1 cell. Refused as any addition.
     /// Rule: Forth-83 Standard, DO.
-    pub fn add_do(&mut self, code: &mut Code) -> Result<(), Refusal>
+    pub fn add_do(&mut self, code: &mut Code) -> Result<(), CompileRefusal>
         requires { IsSound self.old code.old }
         ensures added { OnOk result (Added self.old code.old self.new code.new add_do) }
         ensures refused { IfErr result (Refused self.old code.old self.new code.new add_do) }
@@ -196,7 +196,7 @@ impl Compiler {
     /// `LOOP` ends a counted loop, whose index grows by 1, with 2 cells; each of its `LEAVE`s goes behind them. Refused
     /// as any addition, and as `Unbalanced` where the innermost structure is no `DO`.
     /// Rule: Forth-83 Standard, LOOP.
-    pub fn add_loop(&mut self, code: &mut Code) -> Result<(), Refusal>
+    pub fn add_loop(&mut self, code: &mut Code) -> Result<(), CompileRefusal>
         requires { IsSound self.old code.old }
         ensures added { OnOk result (Added self.old code.old self.new code.new (λ used. add_loop used ByOne)) }
         ensures refused { IfErr result (Refused self.old code.old self.new code.new (λ used. add_loop used ByOne)) }
@@ -208,7 +208,7 @@ impl Compiler {
     /// `+LOOP` ends a counted loop, whose index grows by the top cell, with 2 cells; each of its `LEAVE`s goes behind
     /// them. Refused as any addition, and as `Unbalanced` where the innermost structure is no `DO`.
     /// Rule: Forth-83 Standard, +LOOP.
-    pub fn add_plus_loop(&mut self, code: &mut Code) -> Result<(), Refusal>
+    pub fn add_plus_loop(&mut self, code: &mut Code) -> Result<(), CompileRefusal>
         requires { IsSound self.old code.old }
         ensures added { OnOk result (Added self.old code.old self.new code.new (λ used. add_loop used ByTop)) }
         ensures refused { IfErr result (Refused self.old code.old self.new code.new (λ used. add_loop used ByTop)) }
@@ -220,7 +220,7 @@ impl Compiler {
     /// `LEAVE` goes behind the end of the innermost counted loop, also from structures within it, with 2 cells. Refused
     /// as any addition, and as `Unbalanced` outside a counted loop.
     /// Rule: Forth-83 Standard, LEAVE.
-    pub fn add_leave(&mut self, code: &mut Code) -> Result<(), Refusal>
+    pub fn add_leave(&mut self, code: &mut Code) -> Result<(), CompileRefusal>
         requires { IsSound self.old code.old }
         ensures added { OnOk result (Added self.old code.old self.new code.new add_leave) }
         ensures refused { IfErr result (Refused self.old code.old self.new code.new add_leave) }
@@ -235,14 +235,14 @@ impl Compiler {
                 self.leaves = Some(self.here - 1);
                 Ok(())
             }
-            None => Err(Refusal::Unbalanced),
+            None => Err(CompileRefusal::Unbalanced),
         }
     }
 
     /// `DOES>` ends the part before it, with 1 cell; what comes next is the next part. Refused as any addition, and as
     /// `Unbalanced` where a structure is open.
     /// Rule: Forth-83 Standard, DOES>.
-    pub fn add_does(&mut self, code: &mut Code) -> Result<(), Refusal>
+    pub fn add_does(&mut self, code: &mut Code) -> Result<(), CompileRefusal>
         requires { IsSound self.old code.old }
         ensures added { OnOk result (Added self.old code.old self.new code.new add_does) }
         ensures refused { IfErr result (Refused self.old code.old self.new code.new add_does) }
@@ -259,7 +259,7 @@ impl Compiler {
     }
 
     /// The end of a turn, and of the loop: each LEAVE of it goes past the end.
-    fn end_loop(&mut self, code: &mut Code, end: LoopEnd) -> Result<(), Refusal>
+    fn end_loop(&mut self, code: &mut Code, end: LoopEnd) -> Result<(), CompileRefusal>
         requires { IsSound self.old code.old }
         ensures added { OnOk result (Added self.old code.old self.new code.new (λ used. add_loop used (loop_kind_of end))) }
         ensures refused { IfErr result (Refused self.old code.old self.new code.new (λ used. add_loop used (loop_kind_of end))) }
@@ -276,7 +276,7 @@ impl Compiler {
                 self.opens.close();
                 Ok(())
             }
-            _ => Err(Refusal::Unbalanced),
+            _ => Err(CompileRefusal::Unbalanced),
         }
     }
 }

@@ -1,3 +1,4 @@
 pub mod Space
 pub mod Lending
 pub mod Apart
+pub mod Blanks

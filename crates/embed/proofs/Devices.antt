@@ -20,11 +20,12 @@ module _ {D : Type 0} (G : Ghosts D) where
   Widens = (d : D) (s t : ℕ) (c : Image) → s ≤ t → G.left_since d t c → G.left_since d s c
 
   pub becomes_same : (d : D) → Becomes G d d
-  becomes_same d = record { model = refl; time = elapses_refl G.time G.left_since d; failures = omega arith }
+  becomes_same d = record { model = refl; sectors = λ keeps. refl; time = elapses_refl G.time G.left_since d; failures = omega arith }
 
   pub becomes_then : (a b d : D) → Widens → Becomes G a b → Becomes G b d → Becomes G a d
   becomes_then a b d widens one two = record {
     model = two.model ∙ one.model;
+    sectors = λ keeps. two.sectors (subst IsTrue (sym one.model) keeps) ∙ one.sectors keeps;
     time = elapses_then G.time G.left_since a b d (widens d) one.time two.time;
     failures = omega (arith, one.failures, two.failures);
   }

@@ -46,7 +46,7 @@ at_number NoMemory = refl
 same_code : (a b : Refusal) → code_of a ≡ code_of b → a ≡ b
 same_code a b is = sym (at_number a) ∙ ap (λ n. slice_index_or by_number n BadSize) is ∙ at_number b
 
--- what is known of a call that was done, of one that told this refusal, and of one that told none of these two
+-- what is known of a call that was done, of one that told this refusal, of one that was refused for anything else, and of one that ran nothing
 module _ {D : Type 0} (outcome : Result D (Refusal × D)) (answer : ℕ) (after : D) (P : D → Type 0) (number : answer ≡ answer_of outcome)
     (device : after ≡ device_after outcome)
   where
@@ -63,6 +63,13 @@ module _ {D : Type 0} (outcome : Result D (Refusal × D)) (answer : ℕ) (after 
         by : (r : Result D (Refusal × D)) → answer ≡ answer_of r → after ≡ device_after r → IfErr r (λ e. e.0 ≡ refusal → P e.1) → P after
         by (Ok d) told left p = absurd (refused_not_done refusal (sym is ∙ told))
         by (Err e) told left p = subst P (sym left) (p (same_code e.0 refusal (sym told ∙ is)))
+
+    pub when_other : (refusal : Refusal) → IfErr outcome (λ e. e.0 ≢ refusal → P e.1) → answer ≢ 0 → answer ≢ code_of refusal → P after
+    when_other refusal known not_done other = by outcome number device known
+      where
+        by : (r : Result D (Refusal × D)) → answer ≡ answer_of r → after ≡ device_after r → IfErr r (λ e. e.0 ≢ refusal → P e.1) → P after
+        by (Ok d) told left p = absurd (not_done told)
+        by (Err e) told left p = subst P (sym left) (p (λ is. other (told ∙ ap code_of is)))
 
     pub when_nothing_ran : IfErr outcome (λ e. e.0 ≢ Input → e.0 ≢ Output → P e.1) → RanNothing answer → P after
     when_nothing_ran known none = by outcome number device known
@@ -118,6 +125,12 @@ pub wrong_told : {D : Type 0} (outcome : Result D (Refusal × D)) (answer : ℕ)
     → IfSome wrong (λ e. (answer ≡ code_of e) × (after ≡ device))
 wrong_told outcome answer device after None is same none = tt
 wrong_told outcome answer device after (Some e) is same some = (is ∙ ap answer_of some, same ∙ ap device_after some)
+
+-- What is known of a call over an opening that stays, which was refused for anything but this.
+pub kept_other : {D : Type 0} (outcome : Result (D × Bool) (Refusal × D)) (answer : ℕ) (after : D) (P : D → Type 0) → answer ≡ kept_answer outcome
+    → after ≡ kept_after outcome → (refusal : Refusal) → IfErr outcome (λ e. e.0 ≢ refusal → P e.1) → answer ≢ 0 → answer ≢ code_of refusal → P after
+kept_other (Ok kept) answer after P number device refusal known not_done other = absurd (not_done number)
+kept_other (Err e) answer after P number device refusal known not_done other = subst P (sym device) (known (λ is. other (number ∙ ap code_of is)))
 
 -- Of a call that was done the store stays open, with what is known of it.
 pub opens : {D : Type 0} (Q : D → Bool → List ℕ → Type 0) (outcome : Result (D × Bool) (Refusal × D)) (answer : ℕ) (after : D) (store : OpenStore) (listing : List ℕ)

@@ -124,13 +124,6 @@ module _ {D F A : Type 0} (G : Ghosts D) (stands : F → Forth → Type 0) (soun
     last : at_device after ≡ device_of ends.store
     last = sym ends.same
 
-    goes : Becomes G (device_of begun.store) (device_of ends.store)
-    goes = record {
-      model = rw (first, last) at model;
-      time = rw (first, last) at time;
-      failures = rw (first, last) at failures;
-    }
-
     stood : IsTrue (suits G device) → stands before (system_on G steps device)
     stood keeps = subst (λ f. stands f (system_on G steps device)) (sym at) (begun.over.begins (fresh (meant_by G device)) (begun.opens.stands keeps))
 
@@ -139,6 +132,14 @@ module _ {D F A : Type 0} (G : Ghosts D) (stands : F → Forth → Type 0) (soun
         let well = rw (first, last) at ok in
         let broken = rw (first, last) at err in
         ended_beside outcome _ _ _ _ _ _ _ _ (λ opening closing made it. it) (λ fault opening closing made it. it) ends.means (system_on G steps device) (stood keeps) well broken
+
+    goes : Becomes G (device_of begun.store) (device_of ends.store)
+    goes = record {
+      model = rw (first, last) at model;
+      sectors = λ keeps. (run_ends (subst IsTrue begun.opens.goes.model keeps)).3.kept.sectors;
+      time = rw (first, last) at time;
+      failures = rw (first, last) at failures;
+    }
 
     pub ran : (done : A) → outcome ≡ Ok done → RunsSession G steps left left' written written' device end
     ran done well = has_run G device steps left left' written written' end begun.store ends.store outcome done well ends.left begun.opens begun.opening goes run_ends

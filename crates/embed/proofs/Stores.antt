@@ -17,7 +17,7 @@ use Rattle.embed.proofs.Spills.{closed_same, saved_same}
 
 module _ {D : Type 0} (G : Ghosts D) where
   pub continued : (old new : Store D G) → Continues old new → Becomes G (device_of old) (device_of new)
-  continued old new on = record { model = on.model; time = on.time; failures = on.failures }
+  continued old new on = record { model = on.model; sectors = λ keeps. on.sectors; time = on.time; failures = on.failures }
 
   pub continues_then : (a b d : Store D G) → Widens G → Continues a b → Continues b d → Continues a d
   continues_then a b d widens one two = record {

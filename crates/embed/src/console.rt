@@ -43,6 +43,7 @@ impl Console for Numbered {
 
     ghost taken = { λ c. None };
 
+    // Too few bytes, or those of another number, would meet the clauses all the same: `embed/forth.c` sees it.
     fn key(&mut self, pair: &mut [u8; 2]) -> bool {
         read_full(self.number(), pair) == 2
     }

@@ -46,8 +46,9 @@ fn in_bytes(letter: u8, sector: u32) -> [u8; 8]
 /// The host's end of a device of sectors of 512 bytes, which moves bytes and says whether it did. Each call is one
 /// step, before, within or after which the host may stop, as at a loss of power.
 ///
-/// The clauses with the premise `keeps_model` are what has to be assumed of a host. No device is asked for anything
-/// else.
+/// The clauses are what has to be assumed of a host. Those on what it did have the premise `keeps_model`. Those without
+/// it each host meets of which nothing is said: that a request to read or to write, and a read, leave the disk as it is
+/// (`reading`, `writing`, `disk`), and what a stop leaves (`stops`). No device is asked for anything else.
 pub trait Host {
     /// Whether it keeps the disk model: a write may spoil its unit, which lies in a page of eight sectors.
     ghost keeps_model: { Self → Bool };
@@ -177,6 +178,7 @@ impl Host for Numbered {
 
     ghost widens = { λ h s t c le since. since };
 
+    // Too few bytes, or those of another number, would meet the clauses all the same: `embed/blocks.c` sees it.
     fn ask(&mut self, request: &[u8; 8]) -> bool {
         write_all(self.number, request)
     }

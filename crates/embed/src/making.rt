@@ -4,7 +4,7 @@ ghost use Rattle.std.specs.Prelude.{◌≡◌, ◌+◌, ◌*◌, true, IsTrue, I
 ghost use Rattle.sector_disk.specs.Counting.{count_up};
 ghost use Rattle.journal.specs.Calls.{StopsLeave};
 ghost use Rattle.recovery.specs.Formatted.{FormatLeaves as OlderLeaves, blank_blocks};
-ghost use Rattle.recovery.specs.Label.{is_size, is_size_for as is_older_for};
+ghost use Rattle.recovery.specs.Label.{is_size_for as is_older_for};
 ghost use Rattle.shadow.specs.Formatted.{FormatLeaves as NewerLeaves};
 ghost use Rattle.shadow.specs.Label.{is_size_for as is_newer_for};
 ghost use Rattle.journal.specs.Suits.{suits};
@@ -14,8 +14,8 @@ ghost use Rattle.embed.specs.Costs.{Begins};
 ghost use Rattle.embed.specs.Making.{FormattingLeaves, fits_image, writes_to_format};
 
 use crate::refusal::Refusal;
-use journal::layout::MOST_BLOCKS;
 use sector_disk::SectorDevice;
+use stores::is_older;
 
 /// Makes an image of `blocks` blank blocks, 32 to 3,840: of layout 2 on `3 + 4 * blocks` sectors, of layout 3 on
 /// `32 + 16 * blocks`. A refusal hands the device back: `BadSize` where it has neither, with no call of it, and
@@ -84,11 +84,4 @@ fn make_newer<D: SectorDevice>(device: D, blocks: u16) -> Result<D, (Refusal, D)
         Ok(store) => Ok(store.into_device()),
         Err((fault, device)) => Err((Refusal::from(fault), device)),
     }
-}
-
-/// Whether the device has as many sectors as some image of layout 2.
-fn is_older<D: SectorDevice>(device: &D) -> bool
-    ensures { result ≡ is_size (D.sector_count device.now) }
-{
-    recovery::blocks_of_size(device.sectors(), MOST_BLOCKS).is_some()
 }

@@ -20,11 +20,11 @@ ghost use Rattle.embed.specs.Saving.{with_blocks};
 ghost use Rattle.embed.specs.Sessions.{BreaksSession, RanNothing, RunsSession, TellsSession};
 
 use crate::block_calls::{read_block, recover, save_blocks};
+use crate::image_sessions::run_image;
 use crate::kept_calls::{open_kept, read_kept, save_kept};
 use crate::making::make_image;
 use crate::open_store::{OpenStore, close, gate, told_kept};
 use crate::refusal::{Refusal, told};
-use crate::running::run_image;
 use sector_disk::SectorDevice;
 use std::alloc::Global;
 use std::io::{Read, Write};
@@ -60,6 +60,9 @@ pub fn recover_over<D: SectorDevice>(device: D) -> (u8, D)
         → TellsFirst result.0 (refusal_of (D.sector_count device) (D.disk device).content) }
     ensures size { MatchBool (is_known_size (D.sector_count device)) (result.0 ≢ code_of Refusal.BadSize) (result.0 ≡ code_of Refusal.BadSize) }
     ensures unasked { result.0 ≡ code_of Refusal.BadSize → result.1 ≡ device }
+    // Where it is refused for anything but the device, what the device holds is as it was.
+    ensures content { IsTrue (suits D.SectorDevice device) → result.0 ≢ 0 → result.0 ≢ code_of Refusal.Device
+        → (D.disk result.1).content ≡ (D.disk device).content }
     ensures failures { D.failures result.1 ≡ failures_told result.0 (D.failures device) }
     ensures goes { Becomes D.SectorDevice device result.1 }
     ensures begins { IsTrue (suits D.SectorDevice device) → OpeningBegins D.SectorDevice device result.1 }
@@ -83,6 +86,8 @@ pub fn read_over<D: SectorDevice>(device: D, block: u16, out: &mut [u8]) -> (u8,
     ensures arguments { IfSome (read_refusal (D.sector_count device) block (length out.old))
         (λ e. (result.0 ≡ code_of e) × (result.1 ≡ device)) }
     ensures fits { result.0 ≡ 0 → read_refusal (D.sector_count device) block (length out.old) ≡ None }
+    ensures content { IsTrue (suits D.SectorDevice device) → result.0 ≢ 0 → result.0 ≢ code_of Refusal.Device
+        → (D.disk result.1).content ≡ (D.disk device).content }
     ensures failures { D.failures result.1 ≡ failures_told result.0 (D.failures device) }
     ensures goes { Becomes D.SectorDevice device result.1 }
     ensures begins { IsTrue (suits D.SectorDevice device) → ReadingBegins D.SectorDevice device result.1 }
@@ -104,6 +109,8 @@ pub fn save_over<D: SectorDevice>(device: D, blocks: &[u16], bytes: &[u8]) -> (u
     ensures arguments { IfSome (save_refusal (D.sector_count device) blocks.now (length bytes.now))
         (λ e. (result.0 ≡ code_of e) × (result.1 ≡ device)) }
     ensures fits { result.0 ≡ 0 → save_refusal (D.sector_count device) blocks.now (length bytes.now) ≡ None }
+    ensures content { IsTrue (suits D.SectorDevice device) → result.0 ≢ 0 → result.0 ≢ code_of Refusal.Device
+        → (D.disk result.1).content ≡ (D.disk device).content }
     ensures failures { D.failures result.1 ≡ failures_told result.0 (D.failures device) }
     ensures goes { Becomes D.SectorDevice device result.1 }
     ensures begins { IsTrue (suits D.SectorDevice device) → SavingBegins D.SectorDevice device result.1 (length blocks.now) }
@@ -125,6 +132,8 @@ pub fn open_over<D: SectorDevice>(device: D, store: &mut OpenStore) -> (u8, D)
         → TellsFirst result.0 (refusal_of (D.sector_count device) (D.disk device).content) }
     ensures size { MatchBool (is_known_size (D.sector_count device)) (result.0 ≢ code_of Refusal.BadSize) (result.0 ≡ code_of Refusal.BadSize) }
     ensures unasked { result.0 ≡ code_of Refusal.BadSize → result.1 ≡ device }
+    ensures content { IsTrue (suits D.SectorDevice device) → result.0 ≢ 0 → result.0 ≢ code_of Refusal.Device
+        → (D.disk result.1).content ≡ (D.disk device).content }
     ensures failures { D.failures result.1 ≡ failures_told result.0 (D.failures device) }
     ensures goes { Becomes D.SectorDevice device result.1 }
     ensures begins { IsTrue (suits D.SectorDevice device) → OpeningBegins D.SectorDevice device result.1 }

@@ -1,157 +1,141 @@
--- What a copy holds, and what a stop of its making leaves.
-use Rattle.std.proofs.Common.{◌≡◌, ◌≢◌, ⊎_elim, ℕ, ◌-◌, ◌<◌, ◌≤◌, Bool, true, false, cond, List, [], ◌++◌, length, replicate, Option, Some, None, refl, sym, ◌∙◌, ap, arith, take-append-drop}
-use Rattle.std.specs.Prelude.{◌&&◌, not}
+-- What a copy holds.
+use Rattle.std.proofs.Common.{◌≡◌, ⊎_elim, ℕ, ◌-◌, ◌<◌, ◌≤◌, Bool, true, false, cond, List, [], length, replicate, Some, None, sym, ◌∙◌, ap, subst, arith}
+use Rattle.std.specs.Prelude.{◌&&◌, not, if◌then◌else◌, nat_le}
 use Rattle.std.proofs.lemmas.Bool.{cases_lt}
-use Rattle.std.proofs.lemmas.List.{length-append, length-replicate, get_or_append_left, get_or-append_right, get_or-replicate, append-nil}
-use Rattle.sector_disk.specs.Disk.{Disk, Image, MayLeave}
-use Rattle.journal.specs.Images.{slot_of, home_of, block_of, blocks_below, meaning, is_true_record, is_damaged, Means}
-use Rattle.journal.specs.Layout.{fewest_blocks, most_blocks, sectors_for, label_of, gate_open, listed}
+use Rattle.std.proofs.lemmas.Bool.Decides.{nat_tests}
+use Rattle.std.proofs.lemmas.List.{length-append, length-replicate, get_or_append_left, get_or-append_right, get_or-replicate}
+use Rattle.sector_disk.specs.Disk.{Disk, Image}
+use Rattle.journal.specs.Images as journal_images
+use Rattle.journal.specs.Images.{blocks_below}
+use Rattle.journal.specs.Layout.{fewest_blocks, most_blocks}
 use Rattle.journal.specs.Maps.{block_in}
-use Rattle.journal.proofs.Blocks.{same_below, at_below, length-below}
+use Rattle.journal.specs.PageImages as pages_images
+use Rattle.journal.proofs.Blocks.{at_below, length-below, same_list}
+use Rattle.journal.proofs.Sizes.{size_newer, size_older}
 use Rattle.recovery.specs.Formatted.{blank_blocks}
-use Rattle.recovery.specs.Label.{blocks_in, is_size, label_refusal}
-use Rattle.recovery.specs.Opened.{damage_refusal, first_of, image_refusal}
-use Rattle.recovery.specs.Homes.{HasHomesOf}
-use Rattle.recovery.specs.Making.{IsMade}
-use Rattle.recovery.proofs.HomesMade.{AreBytes, given_below, given_above}
+use Rattle.recovery.specs.Label as journal
+use Rattle.recovery.specs.Opened.{first_of}
 use Rattle.recovery.specs.Upgraded.{of_old}
 use Rattle.recovery.specs.declared.fault.OpenFault.TheVariants.{BadSize}
-use Rattle.recovery.specs.declared.fault.UpgradeFault.{UpgradeFault}
-use Rattle.recovery.specs.declared.fault.UpgradeFault.TheVariants.{Old}
-use Rattle.recovery.proofs.Formats.{filled_means}
-use Rattle.recovery.proofs.Recoveries.{not_damaged}
-use Rattle.image_care.specs.Carried.{carried_blocks, IsWhole, true_record_in}
-use Rattle.image_care.specs.Copied.{grown, HoldsBlocks, copy_size_refusal, copy_refusal, salvaged_block, salvaged_blocks}
-use Rattle.recovery.specs.Found.{found_in, given_in}
-use Rattle.image_care.specs.Examined.{record_in}
-use Rattle.image_care.proofs.Examinations.{found_block}
+use Rattle.recovery.specs.declared.fault.UpgradeFault.TheVariants.{Old, New}
+use Rattle.shadow.specs.Label as pages
+use Rattle.shadow.specs.Label.{is_known_size}
+use Rattle.shadow.specs.Upgraded.{known_blocks}
+use Rattle.stores.specs.Images.{meaning}
+use Rattle.stores.specs.Layouts.{has_size, is_journal, sectors_for}
+use Rattle.stores.specs.Opened.{image_refusal}
+use Rattle.stores.specs.declared.sizes.Layout.{Layout}
+use Rattle.stores.specs.declared.sizes.Layout.TheVariants.{Journal, Pages}
+use Rattle.stores.proofs.KnownSizes.{newer_blocks, older_blocks}
+use Rattle.image_care.specs.Copied.{copied_blocks, copy_refusal, copy_size_refusal, grown, is_size_like}
+use Rattle.image_care.specs.Taken.{given_by}
+use Rattle.image_care.specs.View.{found_by}
+use Rattle.image_care.specs.declared.view.View.{View}
 
--- The grown blocks are as many as the image has, and stand in its homes.
-module _ (n m : ℕ) (within : n ≤ m) (bytes : ℕ → List ℕ) where
-  pub length-grown : length (grown m (blocks_below bytes n)) ≡ m
+-- Blocks grow to as many as are wanted: the lower ones stay, and the upper ones are blank.
+module _ (blocks : List (List ℕ)) (n m : ℕ) (long : length blocks ≡ n) (within : n ≤ m) where
+  pub length-grown : length (grown m blocks) ≡ m
   length-grown =
-      length-append (blocks_below bytes n) (blank_blocks (m - length (blocks_below bytes n)))
-      ∙ omega (arith, within, length-below bytes n, length-replicate (m - length (blocks_below bytes n)) (replicate {A = ℕ} 1024 32))
+      length-append blocks (blank_blocks (m - length blocks))
+      ∙ omega (arith, within, long, length-replicate (m - length blocks) (replicate {A = ℕ} 1024 32))
 
-  pub lower : (b : ℕ) → b < n → block_in (grown m (blocks_below bytes n)) b ≡ bytes b
-  lower b below =
-      get_or_append_left (blocks_below bytes n) (blank_blocks (m - length (blocks_below bytes n))) [] b (omega (arith, below, length-below bytes n))
-      ∙ at_below bytes n b below
+  pub lower : (b : ℕ) → b < n → block_in (grown m blocks) b ≡ block_in blocks b
+  lower b below = get_or_append_left blocks (blank_blocks (m - length blocks)) [] b (omega (arith, below, long))
 
-  pub upper : (b : ℕ) → n ≤ b → b < m → block_in (grown m (blocks_below bytes n)) b ≡ replicate 1024 32
+  pub upper : (b : ℕ) → n ≤ b → b < m → block_in (grown m blocks) b ≡ replicate 1024 32
   upper b above below =
-      get_or-append_right (blocks_below bytes n) (blank_blocks (m - length (blocks_below bytes n))) n b [] (length-below bytes n) above
-      ∙ get_or-replicate (m - length (blocks_below bytes n)) (b - n) (replicate 1024 32) [] (omega (arith, above, below, length-below bytes n))
+      get_or-append_right blocks (blank_blocks (m - length blocks)) n b [] long above
+      ∙ get_or-replicate (m - length blocks) (b - n) (replicate 1024 32) [] (omega (arith, above, below, long))
 
--- An image that holds blocks means them, once it has its label.
-module _ (n : ℕ) (many : fewest_blocks ≤ n) (few : n ≤ most_blocks) (blocks : List (List ℕ)) (long : length blocks ≡ n) where
-  pub held_means : (image : Image) → HoldsBlocks n blocks image → (c : Image) → c 0 ≡ label_of n → ((k : ℕ) → k ≢ 0 → c k ≡ image k) → Means blocks c
-  held_means image held = filled_means n many few image image
-      (record { gate = held.gate; listed = held.listed; homes = λ k high low. refl })
-      blocks (long, λ b below. sym (held.homes b below))
-
-  pub whole_means : (disk : Disk) → MayLeave disk disk.content → IsWhole n blocks disk → (c : Image) → MayLeave disk c → Means blocks c
-  whole_means disk present whole c may =
-      let same : (k : ℕ) → c k ≡ disk.content k = λ k. may k (whole.synced k) ∙ sym (present k (whole.synced k)) in
-      held_means disk.content whole.held c (same 0 ∙ whole.label) (λ k other. same k)
-
--- What is given of an image, and blanks above it, are the grown blocks.
-module _ (n m : ℕ) (within : n ≤ m) (listing : Option (List ℕ)) (image : Image) where
-  abbrev grown_blocks : List (List ℕ)
-  grown_blocks = carried_blocks n m listing image
-
-  pub are_carried : AreBytes m (given_in n listing image) grown_blocks
-  are_carried = (
-    length-grown n m within (found_in n listing image),
-    λ b below. ⊎_elim
-        (λ low. lower n m within (found_in n listing image) b low ∙ sym (given_below n listing image b low))
-        (λ high. upper n m within (found_in n listing image) b high below ∙ sym (given_above n listing image b high))
-        (cases_lt b n),
-  )
-
-  pub whole_of : (disk : Disk) → IsMade (label_of m) (HasHomesOf m (given_in n listing image)) disk → IsWhole m grown_blocks disk
-  whole_of disk made = record {
-    held = record {
-      gate = made.filled.gate;
-      listed = made.filled.listed;
-      homes = λ b below.
-          (λ t. (made.filled.homes b below).first t ++ (made.filled.homes b below).second t)
-          ∙ take-append-drop 512 (given_in n listing image b) ∙ sym (are_carried.1 b below);
-    };
-    label = made.labelled;
-    synced = made.synced;
-  }
-
--- What is found by the record is what the image means.
-pub copied : (n : ℕ) (image : Image) → blocks_below (found_in n (record_in image) image) n ≡ meaning n image
-copied n image = same_below (found_in n (record_in image) image) (block_of n image) n (λ b below. found_block n image b)
-
--- What is found by a true record is what a salvage takes.
-pub salvaged : (n : ℕ) (image : Image) → blocks_below (found_in n (true_record_in n image) image) n ≡ salvaged_blocks n image
-salvaged n image = same_below (found_in n (true_record_in n image) image) (salvaged_block n image) n (λ b below. one b (gate_open (image 1) && is_true_record n (image 2) image) (listed (image 2) b) refl)
+-- An image means as many blocks as its size tells.
+pub length-meaning : (sectors : ℕ) (image : Image) → length (meaning sectors image) ≡ known_blocks sectors
+length-meaning sectors image = long (journal.is_size sectors)
   where
-    by_listed : (b : ℕ) (lists : Bool) → listed (image 2) b ≡ lists
-        → found_in n (Some (image 2)) image b ≡ cond lists (slot_of image b) (home_of n image b)
-    by_listed b true is = cc
-    by_listed b false is = cc
+    long : (b : Bool)
+        → length (if b then journal_images.meaning (journal.blocks_in sectors) image else pages_images.meaning (pages.blocks_in sectors) image)
+        ≡ (if b then journal.blocks_in sectors else pages.blocks_in sectors)
+    long true = length-below (journal_images.block_of (journal.blocks_in sectors) image) (journal.blocks_in sectors)
+    long false = length-below (pages_images.block_of image) (pages.blocks_in sectors)
 
-    one : (b : ℕ) (is_true lists : Bool) → listed (image 2) b ≡ lists
-        → found_in n (cond is_true (Some (image 2)) None) image b ≡ cond (is_true && lists) (slot_of image b) (home_of n image b)
-    one b true lists is = by_listed b lists is
-    one b false lists is = refl
+-- What a view gives, of the blocks that it has and from its last one on.
+module _ (view : View) (image : Image) where
+  given_below : (b : ℕ) → b < view.blocks.number → given_by view image b ≡ found_by view image b
+  given_below b below =
+      let inside : nat_le view.blocks.number b ≡ false = grind (arith, nat_tests) in
+      ap (λ x. cond x (replicate 1024 32) (found_by view image b)) inside
 
--- Blocks that are as many already don't grow.
-all_there : (n : ℕ) (blocks : List (List ℕ)) → length blocks ≡ n → grown n blocks ≡ blocks
-all_there n blocks long =
-    let none : n - length blocks ≡ 0 = omega (arith, long) in
-    ap (λ k. blocks ++ blank_blocks k) none ∙ append-nil blocks
+  given_above : (b : ℕ) → view.blocks.number ≤ b → given_by view image b ≡ replicate 1024 32
+  given_above b above =
+      let outside : nat_le view.blocks.number b ≡ true = grind (arith, nat_tests) in
+      ap (λ x. cond x (replicate 1024 32) (found_by view image b)) outside
 
--- What is carried to the new image, where the old one was only read before.
-pub carried_copy : (a b n : ℕ) (listing : Option (List ℕ)) (old now : Disk) → a ≡ n → now ≡ old → listing ≡ record_in old.content
-    → carried_blocks a b listing now.content ≡ grown b (meaning n old.content)
-carried_copy a b n listing old now one same is =
-    (λ t. carried_blocks (one t) b (is t) (same t).content) ∙ ap (grown b) (copied n old.content)
+-- Where a view finds what an image means, it gives the blocks that grow from those.
+given_copied : (view : View) (sectors m : ℕ) (image : Image) → view.blocks.number ≡ known_blocks sectors → known_blocks sectors ≤ m
+    → ((b : ℕ) → b < view.blocks.number → found_by view image b ≡ block_in (meaning sectors image) b)
+    → blocks_below (given_by view image) m ≡ grown m (meaning sectors image)
+given_copied view sectors m image count within found =
+    let blocks = meaning sectors image in
+    let n = known_blocks sectors in
+    let long = length-meaning sectors image in
+    let grows = length-grown blocks n m long within in
+    same_list (blocks_below (given_by view image) m) (grown m blocks) (length-below (given_by view image) m ∙ sym grows)
+    (λ b below.
+    let here : b < m = subst (λ k. b < k) grows below in
+    at_below (given_by view image) m b here
+    ∙ ⊎_elim
+    (λ low. given_below view image b low ∙ found b low ∙ sym (lower blocks n m long within b (omega (arith, low, count))))
+    (λ high. given_above view image b high ∙ sym (upper blocks n m long within b (omega (arith, high, count)) here))
+    (cases_lt b view.blocks.number))
 
-pub carried_salvage : (a n : ℕ) (listing : Option (List ℕ)) (old now : Disk) → a ≡ n → now ≡ old → listing ≡ true_record_in a old.content
-    → carried_blocks a a listing now.content ≡ salvaged_blocks n old.content
-carried_salvage a n listing old now one same is =
-    (λ t. carried_blocks a a (is t) (same t).content)
-    ∙ ap (grown a) (salvaged a old.content)
-    ∙ all_there a (salvaged_blocks a old.content) (length-below (salvaged_block a old.content) a)
-    ∙ ap (λ k. salvaged_blocks k old.content) one
+-- Where a view finds what an image means, it gives the blocks of a copy, after as before it.
+pub copy_blocks : (view : View) (from to n : ℕ) (old now : Disk) → view.blocks.number ≡ known_blocks from → n ≡ known_blocks to
+    → known_blocks from ≤ known_blocks to → now ≡ old
+    → ((b : ℕ) → b < view.blocks.number → found_by view old.content b ≡ block_in (meaning from old.content) b)
+    → blocks_below (given_by view now.content) n ≡ copied_blocks from to old.content
+copy_blocks view from to n old now count is within same found =
+    (λ t. blocks_below (given_by view (same t).content) (is t)) ∙ given_copied view from (known_blocks to) old.content count within found
 
--- Of an image that isn't damaged a salvage takes what it means.
-pub salvaged_meaning : (n : ℕ) (image : Image) → is_damaged n image ≡ false → salvaged_blocks n image ≡ meaning n image
-salvaged_meaning n image whole =
-    same_below (salvaged_block n image) (block_of n image) n (λ b below. one (gate_open (image 1)) (is_true_record n (image 2) image) (listed (image 2) b) _ _ whole)
-  where
-    one : (is_open holds lists : Bool) (slot home : List ℕ) → (is_open && not holds) ≡ false
-        → cond ((is_open && holds) && lists) slot home ≡ cond (is_open && lists) slot home
-    one true true lists slot home clear = refl
-    one true false lists slot home clear = cc
-    one false holds lists slot home clear = refl
+-- An image has as many blocks as the number of its sectors tells, by whichever layout.
+pub number_known : (layout : Layout) (n sectors : ℕ) → fewest_blocks ≤ n → n ≤ most_blocks → sectors ≡ sectors_for layout n → n ≡ known_blocks sectors
+number_known Journal n sectors many few size = older_blocks n sectors (size_older n sectors many few size) size
+number_known Pages n sectors many few size = newer_blocks n sectors (size_newer n sectors size) size
 
--- The record of an image that isn't damaged is a true one.
-pub true_record : (n : ℕ) (image : Image) → damage_refusal n image ≡ None → record_in image ≡ true_record_in n image
-true_record n image none = one (gate_open (image 1)) (is_true_record n (image 2) image) (not_damaged n image none)
-  where
-    one : (is_open holds : Bool) → (is_open && not holds) ≡ false → cond is_open (Some (image 2)) None ≡ cond (is_open && holds) (Some (image 2)) None
-    one true true clear = refl
-    one true false clear = cc
-    one false holds clear = refl
+-- Of one layout a device of more sectors has an image of more blocks.
+pub grows : (layout : Layout) (n m old new : ℕ) → old ≡ sectors_for layout n → new ≡ sectors_for layout m → old ≤ new → n ≤ m
+grows Journal n m old new from to larger = omega (arith, from, to, larger)
+grows Pages n m old new from to larger = omega (arith, from, to, larger)
 
--- The sizes are good, so label and record decide.
-pub copy_refused : (old new n : ℕ) (image : Image) → old ≡ sectors_for n → copy_size_refusal old new ≡ None
-    → copy_refusal old new image ≡ of_old (first_of (label_refusal n (image 0)) (damage_refusal n image))
-copy_refused old new n image size none =
-    ap (λ r. first_of r (of_old (image_refusal old image))) none
-    ∙ ap (λ b. of_old (first_of (cond (not b) (Some BadSize) (label_refusal (blocks_in old) (image 0))) (damage_refusal (blocks_in old) image)))
-    (sized (is_size old) _ none)
-    ∙ ap (λ k. of_old (first_of (label_refusal k (image 0)) (damage_refusal k image))) count_is
-  where
-    sized : (b : Bool) (rest : Option UpgradeFault) → cond (not b) (Some (Old BadSize)) rest ≡ None → b ≡ true
-    sized true rest is = refl
-    sized false rest is = cc
+-- Which size the new image has to have, the layout of the old one tells.
+pub like_layout : (layout : Layout) (old new : ℕ) → is_journal layout ≡ journal.is_size old → has_size layout new ≡ is_size_like old new
+like_layout Journal old new is = ap (λ b. if b then journal.is_size new else pages.is_size new) is
+like_layout Pages old new is = ap (λ b. if b then journal.is_size new else pages.is_size new) is
 
-    count_is : blocks_in old ≡ n
-    count_is = omega (arith, size)
+-- What the sizes alone decide.
+module _ (old new : ℕ) where
+  pub old_unknown : is_known_size old ≡ false → copy_size_refusal old new ≡ Some (Old BadSize)
+  old_unknown none = ap (λ b. cond (not b) (Some (Old BadSize)) (cond (not (is_size_like old new && nat_le old new)) (Some (New BadSize)) None)) none
+
+  module _ (known : is_known_size old ≡ true) where
+    known_then : copy_size_refusal old new ≡ cond (not (is_size_like old new && nat_le old new)) (Some (New BadSize)) None
+    known_then = ap (λ b. cond (not b) (Some (Old BadSize)) (cond (not (is_size_like old new && nat_le old new)) (Some (New BadSize)) None)) known
+
+    pub new_unlike : is_size_like old new ≡ false → copy_size_refusal old new ≡ Some (New BadSize)
+    new_unlike unlike = known_then ∙ ap (λ b. cond (not (b && nat_le old new)) (Some (New BadSize)) None) unlike
+
+    module _ (like : is_size_like old new ≡ true) where
+      like_then : copy_size_refusal old new ≡ cond (not (nat_le old new)) (Some (New BadSize)) None
+      like_then = known_then ∙ ap (λ b. cond (not (b && nat_le old new)) (Some (New BadSize)) None) like
+
+      pub new_smaller : new < old → copy_size_refusal old new ≡ Some (New BadSize)
+      new_smaller smaller =
+          let short : nat_le old new ≡ false = grind (arith, nat_tests) in
+          like_then ∙ ap (λ b. cond (not b) (Some (New BadSize)) None) short
+
+      pub sizes_good : old ≤ new → copy_size_refusal old new ≡ None
+      sizes_good larger =
+          let long : nat_le old new ≡ true = grind (arith, nat_tests) in
+          like_then ∙ ap (λ b. cond (not b) (Some (New BadSize)) None) long
+
+-- The sizes are good, so the old image decides.
+pub copy_refused : (old new : ℕ) (image : Image) → copy_size_refusal old new ≡ None → copy_refusal old new image ≡ of_old (image_refusal old image)
+copy_refused old new image none = ap (λ r. first_of r (of_old (image_refusal old image))) none

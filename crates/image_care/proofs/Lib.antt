@@ -2,5 +2,6 @@ pub mod Copies
 pub mod Examinations
 pub mod Findings
 pub mod Looks
-pub mod PageCarryings
-pub mod PageCopies
+pub mod Makings
+pub mod Salvages
+pub mod Takings

@@ -1,10 +1,10 @@
-pub mod Carried
 pub mod Copied
 pub mod Examined
 pub mod Looked
+pub mod Made
 pub mod Overtaken
-pub mod PageCarried
-pub mod PageCopied
+pub mod Salvaged
 pub mod Seen
 pub mod Standing
+pub mod Taken
 pub mod View

@@ -3,10 +3,9 @@ use Rattle.std.specs.Prelude.{◌≡◌, ℕ, Bool, true, false, List, Option, N
 use Rattle.sector_disk.specs.Disk.{Image}
 use Rattle.journal.specs.Images.{pair_at}
 use Rattle.journal.specs.Layout as journal
-use Rattle.journal.specs.Layout.{gate_open}
 use Rattle.journal.specs.PageImages.{record_of}
 use Rattle.journal.specs.PageLayout as pages
-use Rattle.journal.specs.PageLayout.{current_at, gate_at}
+use Rattle.journal.specs.PageLayout.{current_at, gate_at, gate_open}
 use Rattle.recovery.specs.Found.{place_in}
 use Rattle.image_care.specs.Examined.{count_in, record_in}
 use Rattle.image_care.specs.declared.view.Listing.{Listing}

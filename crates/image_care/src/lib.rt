@@ -3,15 +3,17 @@
 
 mod all_blocks;
 mod blocks;
-mod carrying;
+mod copy_source;
 mod copying;
 mod examining;
 pub mod laws;
+mod laying;
 mod listing;
 mod looking;
 mod one_block;
 pub mod pages;
 mod reading_files;
+mod salvage_source;
 mod salvaging;
 mod view;
 mod whole_copies;
@@ -22,5 +24,6 @@ pub use examining::{Examined, examine};
 pub use looking::look;
 pub use one_block::{read_block, read_found};
 pub use reading_files::{ReadOnlyFile, ReadingFiles};
+pub use salvage_source::Taken;
 pub use salvaging::salvage;
 pub use view::{Listing, View};

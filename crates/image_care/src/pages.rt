@@ -1,11 +1,7 @@
-//! Images of layout 3 are copied by reads alone, and what can be had of a damaged one is salvaged.
-mod carrying;
-mod copying;
+//! Where the blocks of images of layout 3 stand.
 mod finding;
-mod salvaging;
 mod standing;
 
-pub use copying::copy;
 pub(crate) use finding::find;
-pub use salvaging::{Taken, salvage};
+pub(crate) use standing::take_block;
 pub use standing::{Standing, find_standing};

@@ -56,8 +56,8 @@ impl HostFile for Glance<'_> {
 
     ghost widens = { λ f s t c le since. since };
 
-    fn len(&self) -> Result<u64, HostFault> {
-        Ok(self.bytes.len() as u64)
+    fn len(&self) -> u64 {
+        self.bytes.len() as u64
     }
 
     fn read_at(&mut self, position: u64, buffer: &mut [u8]) -> Result<usize, HostFault> {
@@ -104,7 +104,8 @@ fn is_whole(bytes: &[u8], sectors: u32) -> bool
     look(&mut SectorFile::new(Glance { bytes }, sectors)).is_ok()
 }
 
-// Reads a file from its beginning on, as many bytes as there is room for. Whether they are a whole image.
+// Reads a file from its beginning on, as many bytes as there is room for. Whether they are a whole image: bytes from
+// another place would be none, and then a look while a session saves finds none either (`.ci/pty-trial`).
 fn has_read_whole(file: &File, bytes: &mut [u8], sectors: u32) -> bool
     ensures long { length bytes.new ≡ length bytes.old }
     ensures whole { result ≡ true → HasMeaning sectors (disk_of_file (still bytes.new)).content }

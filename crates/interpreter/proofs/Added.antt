@@ -8,7 +8,7 @@ use Rattle.cell_machine.specs.Value.{Outcome, Ends}
 use Rattle.dictionary.specs.Words.{is_name, most_words}
 use Rattle.compiler.specs.Definition.{Definition, Adding, Adds, Refuses}
 use Rattle.lexicon.specs.declared.language.Lexicon.{Lexicon}
-use Rattle.lexicon.specs.declared.language.Refusal.{Refusal}
+use Rattle.lexicon.specs.declared.language.LexiconRefusal.{LexiconRefusal}
 use Rattle.lexicon.specs.Adding.{MayBeAdded}
 use Rattle.lexicon.specs.Stands.{Stands as Means}
 use Rattle.lexicon.specs.Promise.{Goes, Stops, Becomes, fault_of}
@@ -47,7 +47,7 @@ pub new_name-no : (name : List ℕ) (c : Core) (x : World) (go : List ℕ → Co
 new_name-no name c x go f none refused = may_not c x (λ c. go name c x) f x.definition (is_name name) (nat_lt (length x.words) most_words) (language_of x) none refused
 
 -- what comes of a word that may be added
-pub new_word : (result : Result (Unit {0}) Refusal) (old new : Lexicon) (name : List ℕ) (after : Language → Language) (x : Language) → MayBeAdded old name → Means old x
+pub new_word : (result : Result (Unit {0}) LexiconRefusal) (old new : Lexicon) (name : List ℕ) (after : Language → Language) (x : Language) → MayBeAdded old name → Means old x
     → OnOk result (Goes old new (λ x. with_new_name name x (Adds (after x)))) → IfErr result (λ e. Stops old new (λ x. with_new_name name x (Adds (after x))) (fault_of e)) → Becomes old new x (after x)
 new_word (Ok v) old new name after x may means goes stops =
     let g = goes x means in

@@ -33,7 +33,7 @@ use Rattle.interpreter.specs.ServiceContract.{LastsAlone, Hands, Handed, KeepsAn
 use Rattle.interpreter.specs.Promise.{HasRisenBy}
 use Rattle.data_space.specs.Space.{with_cell}
 use Rattle.interpreter.specs.Lexicon.{language_of}
-use Rattle.interpreter.specs.declared.services.looking.Cut.TheVariants.{Word}
+use Rattle.interpreter.specs.declared.services.lookahead.Cut.TheVariants.{Word}
 use Rattle.interpreter.specs.Looking.{Seen, look}
 use Rattle.interpreter.specs.RoundContract.{Entered, IsAtText, RoundComes, RanRound, seen, Decreases, LastsRound}
 use Rattle.interpreter.specs.TextRounds.{PassesTo, Passed, Advanced, after_text, seen_round}

@@ -7,7 +7,7 @@ use Rattle.cell_machine.specs.Value.{Outcome}
 use Rattle.interpreter.specs.State.{World, to_in_cell, blk_cell, block_state, blocks_done}
 use Rattle.interpreter.specs.Streams.{stream_of}
 use Rattle.interpreter.specs.Taken.{line_of}
-use Rattle.interpreter.specs.declared.services.looking.Cut.{Cut}
+use Rattle.interpreter.specs.declared.services.lookahead.Cut.{Cut}
 use Rattle.interpreter.specs.Looking.{Seen, seen_from, look}
 
 module _ (cut : Cut) (d : ℕ) (go : Seen → Core → World → Outcome World) where

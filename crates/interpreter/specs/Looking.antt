@@ -5,8 +5,8 @@ use Rattle.cell_machine.specs.Value.{Outcome}
 use Rattle.interpreter.specs.State.{World, system_cell, to_in_cell, blk_cell}
 use Rattle.interpreter.specs.Streams.{stream_of}
 use Rattle.interpreter.specs.declared.fault.Fault.{Fault}
-use Rattle.interpreter.specs.declared.services.looking.Cut.{Cut}
-use Rattle.interpreter.specs.declared.services.looking.Look.{Look}
+use Rattle.interpreter.specs.declared.services.lookahead.Cut.{Cut}
+use Rattle.interpreter.specs.declared.services.lookahead.Look.{Look}
 use Rattle.interpreter.specs.Taken.{cut_of, after_cut}
 
 -- a word or a text, and where >IN stands behind it

@@ -8,8 +8,8 @@ use Rattle.cell_machine.specs.Value.{Outcome}
 use Rattle.interpreter.specs.State.{World, needing, tib_cell, tib, tib_bytes}
 use Rattle.interpreter.specs.Streams.{from_stream, take_word}
 use Rattle.interpreter.specs.declared.fault.Fault.{Fault}
-use Rattle.interpreter.specs.declared.services.looking.Cut.{Cut}
-use Rattle.interpreter.specs.declared.services.looking.Cut.TheVariants.{Word, Text}
+use Rattle.interpreter.specs.declared.services.lookahead.Cut.{Cut}
+use Rattle.interpreter.specs.declared.services.lookahead.Cut.TheVariants.{Word, Text}
 
 -- what is cut from a text, and what is left after the delimiter behind it
 abbrev pub cut_of : Cut → ℕ → List ℕ → List ℕ

@@ -4,7 +4,7 @@ ghost use Rattle.data_space.specs.Space.{cell_at};
 ghost use Rattle.interpreter.specs.Told.{end_before, first_byte, start_before, text_around, text_of_block, word_before, word_end, word_start};
 
 use crate::forth::Forth;
-use crate::services::looking::line_of;
+use crate::services::lookahead::line_of;
 use arrayvec::ArrayVec;
 use sector_disk::SectorDevice;
 use stacks::{Entry, ReturnStack};

@@ -2,14 +2,14 @@
 mod compiling_words;
 mod entering;
 mod lexicon_words;
-pub(crate) mod looking;
+pub(crate) mod lookahead;
 mod naming_words;
 mod operands;
 mod parse_words;
 mod picture_words;
-mod reading;
 mod reading_words;
 mod serving;
 pub(crate) mod taking;
 mod terminal_words;
+mod text_rounds;
 mod words_on_blocks;

@@ -1,12 +1,12 @@
 -- What an image means by its blocks.
 use Rattle.std.proofs.Common.{◌≡◌, ℕ, ◌<◌, ◌≤◌, Bool, List, length, refl, sym, ◌∙◌, ap, subst, arith}
 use Rattle.sector_disk.specs.Disk.{Image, Disk}
-use Rattle.journal.specs.Layout.{fewest_blocks, most_blocks, gate_open}
+use Rattle.journal.specs.Layout.{fewest_blocks, most_blocks}
 use Rattle.journal.specs.Maps.{block_in}
 use Rattle.journal.proofs.Blocks.{same_below, all_below}
 use Rattle.journal.specs.PageClean.{IsClean}
 use Rattle.journal.specs.PageImages.{current_of, record_of, block_of, Means}
-use Rattle.journal.specs.PageLayout.{gate_at, record_at}
+use Rattle.journal.specs.PageLayout.{gate_at, gate_open, record_at}
 use Rattle.journal.specs.PageSteps.{HasBlocksUnder, HasBlocks, IsSound}
 use Rattle.journal.proofs.Stops.{own_blocks}
 

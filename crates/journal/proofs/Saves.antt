@@ -4,13 +4,14 @@ use Rattle.std.specs.Prelude.{not}
 use Rattle.sector_disk.specs.Disk.{Image, Disk, MayLeave, with_sector, written, settled}
 use Rattle.sector_disk.proofs.Moments.{sector_same, sector_other}
 use Rattle.journal.specs.Images.{pair_at}
-use Rattle.journal.specs.Layout.{gate_open, listed}
-use Rattle.journal.specs.PageLayout.{HasFlipped, gate_at, gate_bytes, record_at, place_at, sum_in, tag_in}
+use Rattle.journal.specs.Layout.{listed}
+use Rattle.journal.specs.PageLayout.{HasFlipped, gate_at, gate_bytes, gate_open, record_at, place_at, sum_in, tag_in}
 use Rattle.journal.specs.PageImages.{current_of, current_tag, free_of}
 use Rattle.sector_disk.specs.Pages.{InPage}
 use Rattle.journal.specs.Steps.{WritesOnly, IsAsSynced}
 use Rattle.journal.specs.PageSteps.{InFree, InSpare, Counts, HasTags, OnlyTags, HasBlocksUnder, HasBlocks, IsSound, HasSaved, merged, merged_tag}
 use Rattle.journal.specs.Tags.{tag_of, sum_below}
+use Rattle.journal.proofs.Gates.{gate_reads}
 use Rattle.journal.proofs.Exchanged.{free_same}
 use Rattle.journal.proofs.Paging.{wider, wider_left, left_then}
 use Rattle.journal.proofs.Stops.{spare_apart, gate_apart, agrees_means, own_blocks, before_gate, at_gate}
@@ -19,10 +20,6 @@ use Rattle.journal.proofs.Sums.{same_sum}
 true_or_false : (b : Bool) → (b ≡ true) ⊎ (b ≡ false)
 true_or_false true = inl refl
 true_or_false false = inr refl
-
-gate_reads : (o : Bool) → gate_open (gate_bytes o) ≡ o
-gate_reads true = refl
-gate_reads false = refl
 
 record_not_place : (o : Bool) (b h : ℕ) (x : Bool) → ¬ (place_at b x + h ≡ record_at o)
 record_not_place true b h true is = absurd (omega arith)

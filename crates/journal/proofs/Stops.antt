@@ -2,8 +2,8 @@
 use Rattle.std.proofs.Common.{◌≡◌, ◌≢◌, ◌⊎◌, inl, inr, ⊎_elim, ℕ, ◌+◌, ◌<◌, Bool, true, false, List, ◌++◌, refl, sym, ◌∙◌, ap, subst, arith}
 use Rattle.std.specs.Prelude.{not}
 use Rattle.sector_disk.specs.Disk.{Image, Disk, MayLeave}
-use Rattle.journal.specs.Layout.{gate_open, listed}
-use Rattle.journal.specs.PageLayout.{gate_at, record_at, place_at, current_at, tag_in}
+use Rattle.journal.specs.Layout.{listed}
+use Rattle.journal.specs.PageLayout.{gate_at, gate_open, record_at, place_at, current_at, tag_in}
 use Rattle.journal.specs.PageImages.{current_of}
 use Rattle.journal.specs.Tags.{tag_of}
 use Rattle.journal.proofs.Sums.{same_sum}

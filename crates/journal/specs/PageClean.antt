@@ -1,8 +1,7 @@
 -- A disk on which a store begins.
 use Rattle.std.specs.Prelude.{◌≡◌, ℕ, false, Bool, List}
 use Rattle.sector_disk.specs.Disk.{Disk}
-use Rattle.journal.specs.Layout.{gate_open}
-use Rattle.journal.specs.PageLayout.{HasGoodLabel, gate_at}
+use Rattle.journal.specs.PageLayout.{HasGoodLabel, gate_at, gate_open}
 use Rattle.journal.specs.PageImages.{record_of, IsWhole}
 
 -- An image of n blocks with a good label that isn't damaged, whose gate names this record, and nothing is unsynced.

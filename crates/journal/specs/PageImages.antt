@@ -2,8 +2,7 @@
 use Rattle.std.specs.Prelude.{◌≡◌, ℕ, ◌+◌, ◌<◌, List, length}
 use Rattle.sector_disk.specs.Disk.{Image}
 use Rattle.journal.specs.Images.{pair_at, blocks_below}
-use Rattle.journal.specs.Layout.{gate_open}
-use Rattle.journal.specs.PageLayout.{HasGoodLabel, gate_at, record_at, current_at, free_at, sum_in, tag_in}
+use Rattle.journal.specs.PageLayout.{HasGoodLabel, gate_at, gate_open, record_at, current_at, free_at, sum_in, tag_in}
 use Rattle.journal.specs.Tags.{tag_of, sum_below}
 
 -- under a record, the bytes in the place of block b that it names, and in the free one

@@ -1,8 +1,8 @@
 -- Within this crate and shadow: the states of a disk of layout 3 between the steps of a save. What a store promises doesn't speak of them.
 use Rattle.std.specs.Prelude.{◌≡◌, ◌≢◌, ◌⊎◌, ℕ, ◌+◌, ◌<◌, Bool, true, false, not, if◌then◌else◌, List}
 use Rattle.sector_disk.specs.Disk.{Disk, Image}
-use Rattle.journal.specs.Layout.{gate_open, listed}
-use Rattle.journal.specs.PageLayout.{label_of, gate_at, gate_bytes, record_at, current_at, free_at, sum_in, HasFlipped}
+use Rattle.journal.specs.Layout.{listed}
+use Rattle.journal.specs.PageLayout.{label_of, gate_at, gate_open, gate_bytes, record_at, current_at, free_at, sum_in, HasFlipped}
 use Rattle.journal.specs.PageImages.{current_of, free_of, current_tag, free_tag, record_of}
 use Rattle.sector_disk.specs.Pages.{InPage}
 use Rattle.journal.specs.Tags.{tag_of, sum_below}

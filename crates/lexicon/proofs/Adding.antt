@@ -11,7 +11,7 @@ use Rattle.system_words.specs.Rows.{Row, rows}
 use Rattle.dictionary.specs.System.{system_word, first_words}
 use Rattle.dictionary.specs.Dictionary.{Dictionary, kind_of, add_refusal, immediate_refusal, with_word as dictionary_with, may_be_vocabulary, is_token, first_dictionary}
 use Rattle.compiler.specs.declared.definition.Compiler.{Compiler}
-use Rattle.compiler.specs.declared.definition.Refusal.{Refusal as CompileRefusal}
+use Rattle.compiler.specs.declared.definition.CompileRefusal.{CompileRefusal}
 use Rattle.compiler.specs.Definition.{Body, Adding, Adds, Refuses, opened}
 use Rattle.compiler.specs.Promise.{on_closed, Opened, NotOpened}
 use Rattle.compiler.specs.Represents.{Holds, used, IsClosed}

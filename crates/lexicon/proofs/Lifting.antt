@@ -6,7 +6,7 @@ use Rattle.cell_machine.specs.Layout.{exit_token, compile_token}
 use Rattle.cell_machine.specs.Layout.{most_cells}
 use Rattle.cell_machine.specs.Tree.{LoopKind, TextKind, Trees, End, Lit, Call, Text, If, Until, While, Loop, Leave, Exit, Compile, append}
 use Rattle.compiler.specs.declared.definition.Compiler.{Compiler}
-use Rattle.compiler.specs.declared.definition.Refusal.{Refusal as CompileRefusal}
+use Rattle.compiler.specs.declared.definition.CompileRefusal.{CompileRefusal}
 use Rattle.compiler.specs.Definition.{Begun, AfterIf, AfterElse, AfterBegin, AfterWhile, AfterDo, Definition, Adding, Adds, Refuses, tested, with_cells, unmarked, with_tree, in_loop, add, add_literal, add_text, add_plain, add_word, begin, closed, else_of, then_of, until_of, while_of, repeat_of, loop_of, outside, end_definition}
 use Rattle.compiler.specs.Promise.{on_open, BodiesStay, Added}
 use Rattle.compiler.specs.Represents.{used}

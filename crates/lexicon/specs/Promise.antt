@@ -8,12 +8,12 @@ use Rattle.cell_machine.specs.Tree.{Trees}
 use Rattle.cell_machine.specs.Frames.{Level, around_of}
 use Rattle.compiler.specs.Definition.{Adding, Adds, Refuses}
 use Rattle.lexicon.specs.declared.language.Lexicon.{Lexicon}
-use Rattle.lexicon.specs.declared.language.Refusal.{Refusal}
-use Rattle.lexicon.specs.declared.language.Refusal.TheVariants as refusal
+use Rattle.lexicon.specs.declared.language.LexiconRefusal.{LexiconRefusal}
+use Rattle.lexicon.specs.declared.language.LexiconRefusal.TheVariants as refusal
 use Rattle.lexicon.specs.Language.{Language, forgetting, giving}
 use Rattle.lexicon.specs.Stands.{Stands, IsLeft, IsPart}
 
-abbrev pub fault_of : Refusal → Fault
+abbrev pub fault_of : LexiconRefusal → Fault
 fault_of refusal.DefinitionOpen = DefinitionOpen
 fault_of refusal.Name = Name
 fault_of refusal.DictionaryFull = DictionaryFull

@@ -7,7 +7,7 @@ ghost use Rattle.lexicon.specs.Adding.{name_fault};
 ghost use Rattle.dictionary.specs.Dictionary.{kind_of as place_kind, body_of as place_body};
 ghost use Rattle.lexicon.specs.Kinds.{data_address, makes_vocabulary, data_field};
 
-use crate::language::Refusal;
+use crate::language::LexiconRefusal;
 use cell_machine::calls::Called;
 use dictionary::{DictionaryFault, Kind};
 
@@ -60,11 +60,11 @@ pub(crate) fn place_of(kind: Kind) -> Option<u16>
 }
 
 /// Why a new word's name or the room for it was refused.
-pub(crate) fn name_refusal(fault: DictionaryFault) -> Refusal
+pub(crate) fn name_refusal(fault: DictionaryFault) -> LexiconRefusal
     ensures { fault_of result ≡ name_fault fault }
 {
     match fault {
-        DictionaryFault::NameLength => Refusal::Name,
-        _ => Refusal::DictionaryFull,
+        DictionaryFault::NameLength => LexiconRefusal::Name,
+        _ => LexiconRefusal::DictionaryFull,
     }
 }

@@ -27,7 +27,7 @@ pub const FIRST_HERE: u16 = 1280;
 
 /// Why a call was refused that is no addition to the open definition. Nothing is changed then.
 #[derive(Clone, Copy, Debug, PartialEq, Eq)]
-pub enum Refusal {
+pub enum LexiconRefusal {
     /// A definition is open.
     DefinitionOpen,
     /// The name of a new word has no byte, or more than 31.
@@ -160,14 +160,14 @@ impl Lexicon {
     /// `DefinitionOpen` where a definition is open, then `Name` where the name has no byte or more than 31, then
     /// `DictionaryFull` where there are 4,096 words.
     /// Rule: LANGUAGE, Limits; Forth-83 Standard, CREATE.
-    pub fn check_new(&self, name: &[u8]) -> Result<(), Refusal>
+    pub fn check_new(&self, name: &[u8]) -> Result<(), LexiconRefusal>
         requires { IsSound self.now }
         ensures fits { OnOk result (MayBeAdded self.now name.now) }
         ensures refused { IfErr result (λ e. MayNotBeAdded self.now name.now (fault_of e)) }
     {
         // An open definition is told first, whatever the name is.
         if self.compiler.is_open() {
-            return Err(Refusal::DefinitionOpen);
+            return Err(LexiconRefusal::DefinitionOpen);
         }
         match self.dictionary.check_name(name) {
             Ok(()) => Ok(()),
@@ -211,7 +211,7 @@ impl Lexicon {
 
     /// `CREATE`: adds a word with a data field at `HERE`. Refused as any new word.
     /// Rule: Forth-83 Standard, CREATE.
-    pub fn create(&mut self, name: &[u8]) -> Result<(), Refusal>
+    pub fn create(&mut self, name: &[u8]) -> Result<(), LexiconRefusal>
         requires { IsSound self.old }
         ensures created { OnOk result (Goes self.old self.new (λ x. adding_word name.now (Created x.here None) x)) }
         ensures refused { IfErr result
@@ -223,7 +223,7 @@ impl Lexicon {
 
     /// `CONSTANT`: adds a word that leaves a cell. Refused as any new word.
     /// Rule: Forth-83 Standard, CONSTANT.
-    pub fn add_constant(&mut self, name: &[u8], cell: u16) -> Result<(), Refusal>
+    pub fn add_constant(&mut self, name: &[u8], cell: u16) -> Result<(), LexiconRefusal>
         requires { IsSound self.old }
         ensures created { OnOk result (Goes self.old self.new (λ x. adding_word name.now (Constant cell) x)) }
         ensures refused { IfErr result (λ e. Stops self.old self.new (λ x. adding_word name.now (Constant cell) x) (fault_of e)) }
@@ -233,7 +233,7 @@ impl Lexicon {
 
     /// `VOCABULARY`: adds a word that makes itself the first vocabulary. Refused as any new word.
     /// Rule: Forth-83 Standard, VOCABULARY.
-    pub fn add_vocabulary(&mut self, name: &[u8]) -> Result<(), Refusal>
+    pub fn add_vocabulary(&mut self, name: &[u8]) -> Result<(), LexiconRefusal>
         requires { IsSound self.old }
         ensures created { OnOk result (Goes self.old self.new (λ x. adding_word name.now Vocabulary x)) }
         ensures refused { IfErr result (λ e. Stops self.old self.new (λ x. adding_word name.now Vocabulary x) (fault_of e)) }
@@ -244,36 +244,36 @@ impl Lexicon {
     /// `IMMEDIATE`: the text interpreter runs the most recent word even while it compiles. `DefinitionOpen` where a
     /// definition is open, then `Protected` for a system word.
     /// Rule: Forth-83 Standard, IMMEDIATE.
-    pub fn set_immediate(&mut self) -> Result<(), Refusal>
+    pub fn set_immediate(&mut self) -> Result<(), LexiconRefusal>
         requires { IsSound self.old }
         ensures marked { OnOk result (Goes self.old self.new marking) }
         ensures refused { IfErr result (λ e. Stops self.old self.new marking (fault_of e)) }
     {
         // An open definition is told first, also after a system word.
         if self.compiler.is_open() {
-            return Err(Refusal::DefinitionOpen);
+            return Err(LexiconRefusal::DefinitionOpen);
         }
         match self.dictionary.set_immediate() {
             Ok(()) => Ok(()),
-            Err(_) => Err(Refusal::Protected),
+            Err(_) => Err(LexiconRefusal::Protected),
         }
     }
 
     /// Gives the most recent word the part at a place, as `DOES>` does when it runs. `DefinitionOpen` where a
     /// definition is open, then `Token` where that word wasn't made by `CREATE` or `VARIABLE`.
     /// Rule: Forth-83 Standard, DOES>.
-    pub fn give_part(&mut self, place: u16) -> Result<(), Refusal>
+    pub fn give_part(&mut self, place: u16) -> Result<(), LexiconRefusal>
         requires { IsSound self.old }
         ensures given { OnOk result (GivesPart self.old self.new place) }
         ensures refused { IfErr result (λ e. StopsPart self.old self.new place (fault_of e)) }
     {
         // An open definition is told first, whatever the most recent word is.
         if self.compiler.is_open() {
-            return Err(Refusal::DefinitionOpen);
+            return Err(LexiconRefusal::DefinitionOpen);
         }
         match self.dictionary.set_does(place) {
             Ok(()) => Ok(()),
-            Err(_) => Err(Refusal::Token),
+            Err(_) => Err(LexiconRefusal::Token),
         }
     }
 
@@ -286,18 +286,18 @@ impl Lexicon {
         token: Token,
         machine: &Machine,
         returns: &ReturnStack,
-    ) -> Result<(), Refusal>
+    ) -> Result<(), LexiconRefusal>
         requires word { (x : Language) × (Stands self.old x × IsWord x token) }
         ensures forgotten { OnOk result (Forgets self.old self.new token machine.now returns.now) }
         ensures refused { IfErr result (λ e. Protects self.old self.new token machine.now returns.now (fault_of e)) }
     {
         // An open definition is told first, also of a word that may not go.
         if self.compiler.is_open() {
-            return Err(Refusal::DefinitionOpen);
+            return Err(LexiconRefusal::DefinitionOpen);
         }
         let end = self.end_before(token);
         if !machine.runs_below(returns, end) {
-            return Err(Refusal::Protected);
+            return Err(LexiconRefusal::Protected);
         }
         match self.dictionary.forget_from(token) {
             Ok(here) => {
@@ -305,12 +305,12 @@ impl Lexicon {
                 self.here = here;
                 Ok(())
             }
-            Err(_) => Err(Refusal::Protected),
+            Err(_) => Err(LexiconRefusal::Protected),
         }
     }
 
     /// A new word that has no code.
-    fn add(&mut self, name: &[u8], kind: Kind) -> Result<(), Refusal>
+    fn add(&mut self, name: &[u8], kind: Kind) -> Result<(), LexiconRefusal>
         requires { IsSound self.old }
         ensures added { OnOk result (AddsData self.old self.new name.now kind) }
         ensures refused { IfErr result (λ e. RefusesData self.old self.new name.now kind (fault_of e)) }

@@ -9,9 +9,9 @@ ghost use Rattle.lexicon.specs.Stands.{Stands, IsSound};
 ghost use Rattle.lexicon.specs.Promise.{fault_of, Becomes, Goes, Stops};
 ghost use Rattle.lexicon.specs.Structures.{adding};
 
-use crate::language::{Lexicon, Refusal, Token};
+use crate::language::{Lexicon, LexiconRefusal, Token};
 use crate::structure;
-use compiler::{Refusal as CompileRefusal, TextKind};
+use compiler::{CompileRefusal, TextKind};
 use dictionary::Kind;
 use system_words::words::Structure;
 
@@ -19,7 +19,7 @@ impl Lexicon {
     /// `:` begins a definition of this name, and makes the compilation vocabulary the first one. Refused as any new
     /// word, though `;` alone adds it.
     /// Rule: Forth-83 Standard, :.
-    pub fn begin(&mut self, name: &[u8]) -> Result<(), Refusal>
+    pub fn begin(&mut self, name: &[u8]) -> Result<(), LexiconRefusal>
         requires { IsSound self.old }
         ensures begun { OnOk result (Goes self.old self.new (beginning name.now)) }
         ensures refused { IfErr result (λ e. Stops self.old self.new (beginning name.now) (fault_of e)) }

@@ -6,7 +6,7 @@ ghost use Rattle.compiler.specs.Represents.{IsSound};
 ghost use Rattle.lexicon.specs.Structures.{adding};
 
 use cell_machine::code::Code;
-use compiler::{Compiler, Refusal};
+use compiler::{CompileRefusal, Compiler};
 use system_words::words::Structure;
 
 /// Adds a structure word, or `DOES>`, to the open definition.
@@ -14,7 +14,7 @@ pub(crate) fn add_to(
     compiler: &mut Compiler,
     code: &mut Code,
     structure: Structure,
-) -> Result<(), Refusal>
+) -> Result<(), CompileRefusal>
     requires { IsSound compiler.old code.old }
     ensures added { OnOk result (Added compiler.old code.old compiler.new code.new (adding structure)) }
     ensures refused { IfErr result (Refused compiler.old code.old compiler.new code.new (adding structure)) }

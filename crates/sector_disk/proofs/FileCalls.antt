@@ -7,12 +7,13 @@ use Rattle.std.proofs.lemmas.Bool.{cases_eq, cases_lt}
 use Rattle.std.proofs.lemmas.Bool.Decides.{nat_tests}
 use Rattle.sector_disk.specs.Disk.{Image, Disk, MayLeave, MayLeaveEither, MayWrite, written, with_sector}
 use Rattle.sector_disk.specs.FileBytes.{FileBytes, sector_of, disk_of_file, SameBytes, SameSector, Misses, Spoils, Puts}
-use Rattle.sector_disk.specs.Opening.{KeepsGoing}
+use Rattle.sector_disk.specs.Opening.{KeepsGoing, WentOn}
 use Rattle.sector_disk.specs.Spans.{sector_is, same_sector}
 use Rattle.sector_disk.specs.Whole.{Goes}
+use Rattle.sector_disk.specs.Moments.{Elapses}
 use Rattle.sector_disk.proofs.Moments.{elapses_then, leaves_then}
 use Rattle.sector_disk.proofs.Units.{unless, when}
-use Rattle.sector_disk.specs.declared.host.HostFile.{Ghosts}
+use Rattle.sector_disk.specs.declared.host_file.HostFile.{Ghosts}
 
 same_refl : (k : ℕ) (f : FileBytes) → SameSector k f f
 same_refl k f = record { bytes = λ i below. refl; unsynced = refl }
@@ -184,6 +185,15 @@ keeps_going G a b d widens one two = record {
   units = two.units ∙ one.units;
   settle = two.settle ∙ one.settle;
   time = elapses_then G.time G.left_since a b d widens one.time two.time;
+}
+
+-- And a call behind them goes on, however it ends.
+pub went_then : {H : Type 0} (G : Ghosts H) (a b d : H) → ((s t : ℕ) (c : Image) → s ≤ t → G.left_since d t c → G.left_since d s c)
+    → KeepsGoing G a b → G.keeps_model d ≡ G.keeps_model b → G.keeps_sectors d ≡ G.keeps_sectors b → Elapses G.time G.left_since b d → WentOn G a d
+went_then G a b d widens one model units time = record {
+  model = model ∙ one.model;
+  units = units ∙ one.units;
+  time = elapses_then G.time G.left_since a b d widens one.time time;
 }
 
 -- more zeros after zeros

@@ -6,7 +6,7 @@ use Rattle.sector_disk.specs.MemoryDisk.{held}
 use Rattle.sector_disk.specs.Moments.{Elapses}
 use Rattle.sector_disk.specs.Recorded.{SomeLeaves, LeftSince, AddsMoment}
 use Rattle.sector_disk.specs.Laws.{now_alone}
-use Rattle.sector_disk.specs.declared.memory.MemoryDisk.{MemoryDisk}
+use Rattle.sector_disk.specs.declared.memory_disk.MemoryDisk.{MemoryDisk}
 use Rattle.sector_disk.specs.declared.recorded.Recorded.{Recorded}
 
 in_either : (xs ys : List MemoryDisk) (c : Image) → SomeLeaves (xs ++ ys) c → SomeLeaves xs c ⊎ SomeLeaves ys c

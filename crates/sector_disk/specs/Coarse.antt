@@ -6,7 +6,7 @@ use Rattle.std.proofs.lemmas.Bool.Decides.{nat_tests}
 use Rattle.sector_disk.specs.Disk.{Disk}
 use Rattle.sector_disk.specs.MemoryDisk.{held, size}
 use Rattle.sector_disk.specs.Pages.{IsPaged}
-use Rattle.sector_disk.specs.declared.memory.MemoryDisk.{MemoryDisk}
+use Rattle.sector_disk.specs.declared.memory_disk.MemoryDisk.{MemoryDisk}
 use Rattle.sector_disk.specs.declared.coarse.Coarse.{Coarse}
 
 -- The unit of a sector: eight sectors from a multiple of eight on. The last one ends with the disk.

@@ -5,8 +5,8 @@ use Rattle.std.proofs.Math.Nat.{not-suc-le-zero, le_of_suc-le-suc}
 use Rattle.sector_disk.specs.Disk.{Disk, Image, MayLeave}
 use Rattle.sector_disk.specs.Memory.{sector_at, disk_of}
 use Rattle.sector_disk.specs.Recorded.{SomeLeaves, LeftSince}
-use Rattle.sector_disk.specs.declared.memory.Sector.{Sector}
-use Rattle.sector_disk.specs.declared.memory.MemoryDisk.{MemoryDisk}
+use Rattle.sector_disk.specs.declared.memory_disk.Sector.{Sector}
+use Rattle.sector_disk.specs.declared.memory_disk.MemoryDisk.{MemoryDisk}
 
 no_write : (unsynced : Option (List ℕ)) (synced : List ℕ) → is_some unsynced ≡ false → unwrap_or unsynced synced ≡ synced
 no_write None synced none = refl

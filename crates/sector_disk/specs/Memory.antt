@@ -2,8 +2,8 @@
 use Rattle.std.specs.Prelude.{ℕ, List, [], replicate, slice_index_or, Some, None, unwrap_or, is_some}
 use Rattle.sector_disk.specs.Disk.{Disk}
 use Rattle.sector_disk.specs.Stop.{stopped}
-use Rattle.sector_disk.specs.declared.memory.Sector.{Sector}
-use Rattle.sector_disk.specs.declared.memory.Fate.{Fate}
+use Rattle.sector_disk.specs.declared.memory_disk.Sector.{Sector}
+use Rattle.sector_disk.specs.declared.memory_disk.Fate.{Fate}
 
 -- past the end
 abbrev pub blank : Sector

@@ -3,7 +3,7 @@ use Rattle.std.specs.Prelude.{ℕ, length}
 use Rattle.sector_disk.specs.Disk.{Disk}
 use Rattle.sector_disk.specs.Memory.{disk_of}
 use Rattle.sector_disk.specs.declared.device.Counts.{Counts}
-use Rattle.sector_disk.specs.declared.memory.MemoryDisk.{MemoryDisk}
+use Rattle.sector_disk.specs.declared.memory_disk.MemoryDisk.{MemoryDisk}
 
 -- what it holds
 abbrev pub held : MemoryDisk → Disk

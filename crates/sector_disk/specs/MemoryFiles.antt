@@ -1,6 +1,6 @@
 -- A system of files in memory.
 use Rattle.std.specs.Prelude.{◌≡◌, IsTrue}
-use Rattle.sector_disk.specs.declared.host.HostFile.{Ghosts}
+use Rattle.sector_disk.specs.declared.host_file.HostFile.{Ghosts}
 use Rattle.sector_disk.specs.declared.memory_file.MemoryFile.{MemoryFile}
 use Rattle.sector_disk.specs.declared.memory_files.MemoryFiles.{MemoryFiles}
 

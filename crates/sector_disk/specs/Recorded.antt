@@ -2,7 +2,7 @@
 use Rattle.std.specs.Prelude.{◌≡◌, ◌⊎◌, ℕ, List, [], ◌∷◌, ◌++◌, drop}
 use Rattle.sector_disk.specs.Disk.{Disk, Image, MayLeave}
 use Rattle.sector_disk.specs.MemoryDisk.{held}
-use Rattle.sector_disk.specs.declared.memory.MemoryDisk.{MemoryDisk}
+use Rattle.sector_disk.specs.declared.memory_disk.MemoryDisk.{MemoryDisk}
 
 -- a stop at one of these moments may leave the image
 abbrev pub SomeLeaves : List MemoryDisk → Image → Type 0

@@ -1,5 +1,5 @@
 -- What a recorded disk is: the disk within.
-use Rattle.sector_disk.specs.declared.memory.MemoryDisk.{MemoryDisk}
+use Rattle.sector_disk.specs.declared.memory_disk.MemoryDisk.{MemoryDisk}
 use Rattle.sector_disk.specs.declared.recorded.Recorded.{Recorded}
 
 abbrev pub recorded_device_of : Recorded → MemoryDisk

@@ -1,7 +1,7 @@
 -- A file as a device.
 use Rattle.std.specs.Prelude.{ℕ, Bool}
-use Rattle.sector_disk.specs.declared.host.HostFile.{Ghosts}
-use Rattle.sector_disk.specs.declared.file.SectorFile.{SectorFile}
+use Rattle.sector_disk.specs.declared.host_file.HostFile.{Ghosts}
+use Rattle.sector_disk.specs.declared.sector_file.SectorFile.{SectorFile}
 
 -- how many sectors it has
 abbrev pub sectors_of : {H : Type 0} {G : Ghosts H} → SectorFile H G → ℕ

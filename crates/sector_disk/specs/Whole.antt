@@ -3,7 +3,7 @@ use Rattle.std.specs.Prelude.{◌≡◌}
 use Rattle.sector_disk.specs.Disk.{MayLeaveEither}
 use Rattle.sector_disk.specs.FileBytes.{disk_of_file}
 use Rattle.sector_disk.specs.Moments.{Elapses, LeavesOnly}
-use Rattle.sector_disk.specs.declared.host.HostFile.{Ghosts}
+use Rattle.sector_disk.specs.declared.host_file.HostFile.{Ghosts}
 
 -- What reads and writes of a file keep to.
 pub record Goes {H : Type 0} (G : Ghosts H) (old new : H) : Type 0 where

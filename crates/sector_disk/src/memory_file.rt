@@ -126,8 +126,8 @@ impl HostFile for MemoryFile {
 
     ghost widens = { λ f s t c le since. since };
 
-    fn len(&self) -> Result<u64, HostFault> {
-        Ok(self.content.len() as u64)
+    fn len(&self) -> u64 {
+        self.content.len() as u64
     }
 
     fn read_at(&mut self, position: u64, buffer: &mut [u8]) -> Result<usize, HostFault> {

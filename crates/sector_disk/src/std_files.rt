@@ -103,7 +103,10 @@ impl SectorFile<StdFile> {
         ensures failures { IfOk result (λ d. ⟦<SectorFile<StdFile> as SectorDevice>⟧.failures d ≡ 0) }
         ensures sync { IfOk result (λ d. has_failed_sync d ≡ false) }
     {
-        create_disk(&StdFiles::new(rt), path, sectors)
+        match create_disk(&StdFiles::new(rt), path, sectors) {
+            Ok(disk) => Ok(disk),
+            Err((fault, _)) => Err(fault),
+        }
     }
 }
 

@@ -24,7 +24,7 @@ use stores::Store;
 /// Begins a new system in this memory over a store, with at most `steps` steps a line, 1 or more; runs the lines of the
 /// input, and gives the store back beside how the run ended: `Read` where the input can't be read, `Write` where the
 /// output can't be written. What was changed and not saved is given up.
-pub fn run_over<D: SectorDevice + Drop, F: Lines<D>, R: Read, W: Write>(
+pub fn run_over<D: SectorDevice, F: Lines<D>, R: Read, W: Write>(
     memory: Memory,
     store: Store<D>,
     steps: u32,
@@ -46,7 +46,7 @@ pub fn run_over<D: SectorDevice + Drop, F: Lines<D>, R: Read, W: Write>(
 /// written, as by `run_traced`. It ends in `Read` where the input can't be read, in `Write` where the output can't be
 /// written.
 /// Rule: SEMANTICS, Sessions; MANUAL, Where a fault came.
-pub fn run_over_traced<D: SectorDevice + Drop, F: Lines<D>, R: Read, W: Write, T: Tracer>(
+pub fn run_over_traced<D: SectorDevice, F: Lines<D>, R: Read, W: Write, T: Tracer>(
     memory: Memory,
     store: Store<D>,
     steps: u32,
@@ -78,7 +78,7 @@ pub fn run_over_traced<D: SectorDevice + Drop, F: Lines<D>, R: Read, W: Write, T
 /// fault ended, as `run_until`. It ends in `Read` where the input can't be read, in `Write` where the output can't be
 /// written. It also tells whether blocks were changed and not saved: they are given up.
 /// Rule: SEMANTICS, Sessions.
-pub fn run_over_until<D: SectorDevice + Drop, F: Lines<D>, R: Read, W: Write, T: Tracer>(
+pub fn run_over_until<D: SectorDevice, F: Lines<D>, R: Read, W: Write, T: Tracer>(
     memory: Memory,
     store: Store<D>,
     steps: u32,

@@ -19,7 +19,7 @@ pub trait Tracer {
 
     /// A line has ended so. The system stands as the line left it. It is told of no line that the reader or the writer
     /// cut short.
-    fn line_ended<D: SectorDevice + Drop, F: Lines<D>>(&mut self, forth: &F, end: &F::End)
+    fn line_ended<D: SectorDevice, F: Lines<D>>(&mut self, forth: &F, end: &F::End)
         ensures { hears self.old self.new (F.ending end.now) (F.told_start forth.now) (F.told_word forth.now) (F.told_loads forth.now) };
 }
 
@@ -31,7 +31,7 @@ impl Tracer for Untraced {
     ghost hears = { λ old new ending place word loads. new ≡ old };
 
     #[inline]
-    fn line_ended<D: SectorDevice + Drop, F: Lines<D>>(&mut self, forth: &F, end: &F::End) {
+    fn line_ended<D: SectorDevice, F: Lines<D>>(&mut self, forth: &F, end: &F::End) {
         let _ = forth;
         let _ = end;
     }
@@ -51,7 +51,7 @@ impl<W: Write> Tracer for Traces<'_, W> {
     ghost hears = { λ old new ending place word loads. (new.next ≡ next_number old.next) × (new.failed ≡ false
         → (old.failed ≡ false) × Writes old.next ending place word loads (W.contents old.writer.now) (W.contents new.writer.now)) };
 
-    fn line_ended<D: SectorDevice + Drop, F: Lines<D>>(&mut self, forth: &F, end: &F::End) {
+    fn line_ended<D: SectorDevice, F: Lines<D>>(&mut self, forth: &F, end: &F::End) {
         let number = self.count();
         match F::fault(end) {
             Some(fault) => {

@@ -4,7 +4,7 @@ ghost use Rattle.sector_disk.specs.Counting.{count_up};
 ghost use Rattle.sector_disk.specs.Disk.{Image, MayLeave, settled};
 ghost use Rattle.sector_disk.specs.Moments.{Elapses};
 ghost use Rattle.journal.specs.Calls.{StopsLeave, BeginsAtMost, ReadsAtMost, Proceeds};
-ghost use Rattle.journal.specs.Layout.{fewest_blocks, most_blocks, gate_open};
+ghost use Rattle.journal.specs.Layout.{fewest_blocks, most_blocks};
 ghost use Rattle.journal.specs.Maps.{fresh};
 ghost use Rattle.recovery.specs.Recovered.{Tells};
 ghost use Rattle.recovery.specs.declared.fault.OpenFault.{OpenFault};
@@ -12,7 +12,7 @@ ghost use Rattle.recovery.specs.declared.fault.OpenFault.TheVariants.{BadSize, D
 ghost use Rattle.journal.specs.PageClean.{IsClean};
 ghost use Rattle.journal.specs.PageImages.{record_of, meaning, IsWhole, Means};
 ghost use Rattle.shadow.specs.Label.{is_known_size, blocks_in, label_refusal};
-ghost use Rattle.journal.specs.PageLayout.{sectors_for, label_of, gate_at};
+ghost use Rattle.journal.specs.PageLayout.{sectors_for, label_of, gate_at, gate_open};
 ghost use Rattle.shadow.specs.Opened.{HasMeaning, Refuses, end_of};
 ghost use Rattle.journal.specs.Store.{device_of, disk_of, blocks_of, closed_of, technique_of, is_pending, StandsFor};
 ghost use Rattle.journal.specs.Technique.{is_journal};

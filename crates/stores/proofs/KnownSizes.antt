@@ -1,6 +1,6 @@
 -- How many sectors images of each layout have.
-use Rattle.std.proofs.Common.{◌≡◌, ◌≤◌, ℕ, Bool, true, false, refl, sym, ◌∙◌, ap, arith}
-use Rattle.std.specs.Prelude.{◌||◌, ◌&&◌, ◌==◌, nat_le, if◌then◌else◌}
+use Rattle.std.proofs.Common.{◌≡◌, ℕ, Bool, true, false, refl, sym, ◌∙◌, ap, arith}
+use Rattle.std.specs.Prelude.{◌||◌, if◌then◌else◌}
 use Rattle.std.proofs.lemmas.Bool.Decides.{nat_tests}
 use Rattle.journal.specs.Layout as older_layout
 use Rattle.recovery.specs.Label as older
@@ -10,7 +10,7 @@ use Rattle.journal.specs.PageLayout as newer_layout
 use Rattle.shadow.specs.Upgraded.{known_blocks}
 use Rattle.journal.proofs.Sizes.{older_count, older_sectors}
 
-newer_sectors : (sectors : ℕ) → newer.is_size sectors ≡ true → sectors ≡ newer_layout.sectors_for (newer.blocks_in sectors)
+pub newer_sectors : (sectors : ℕ) → newer.is_size sectors ≡ true → sectors ≡ newer_layout.sectors_for (newer.blocks_in sectors)
 newer_sectors sectors is = grind (arith, nat_tests, is)
 
 pub newer_count : (n sectors : ℕ) → sectors ≡ newer_layout.sectors_for n → newer.blocks_in sectors ≡ n
@@ -27,6 +27,12 @@ or_true false b is = is
 -- A size of layout 2 is a known one, and any other known one is that of layout 3.
 pub older_known : (sectors : ℕ) → older.is_size sectors ≡ true → is_known_size sectors ≡ true
 older_known sectors is = or_true (newer.is_size sectors) (older.is_size sectors) is
+
+pub newer_known : (sectors : ℕ) → newer.is_size sectors ≡ true → is_known_size sectors ≡ true
+newer_known sectors is = ap (λ b. b || older.is_size sectors) is
+
+pub neither_known : (sectors : ℕ) → newer.is_size sectors ≡ false → older.is_size sectors ≡ false → is_known_size sectors ≡ false
+neither_known sectors isnt other = (λ t. isnt t || other t)
 
 pub known_newer : (sectors : ℕ) → older.is_size sectors ≡ false → is_known_size sectors ≡ true
     → sectors ≡ newer_layout.sectors_for (newer.blocks_in sectors)

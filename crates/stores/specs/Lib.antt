@@ -1,4 +1,5 @@
 pub mod Damage
 pub mod Images
+pub mod Layouts
 pub mod Opened
 pub mod Resting

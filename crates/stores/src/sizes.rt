@@ -1,13 +1,120 @@
-// Sizes of images of either layout.
+// What the size of an image tells: its layout, and how many blocks it has.
 ghost use Rattle.std.specs.Prelude.{◌≡◌, ◌≤◌, true, false, IfSome, OnSome, IfNone};
-ghost use Rattle.std.specs.Bool.{OnTrue};
 ghost use Rattle.journal.specs.Layout.{fewest_blocks, most_blocks};
 ghost use Rattle.recovery.specs.Label as older_label;
-ghost use Rattle.shadow.specs.Label.{is_size_for, is_size, is_known_size, blocks_in};
+ghost use Rattle.shadow.specs.Label.{is_size, is_known_size};
 ghost use Rattle.shadow.specs.Upgraded.{known_blocks};
+ghost use Rattle.stores.specs.Layouts.{has_size, is_journal, sectors_for};
 
-use journal::layout::{FEWEST_BLOCKS, MOST_BLOCKS};
+use journal::layout::{BlockCount, MOST_BLOCKS};
 use sector_disk::SectorDevice;
+use shadow::blocks_of_new;
+
+/// How an image keeps its blocks.
+/// Rule: IMAGE, The bytes; IMAGE, Layout 3.
+#[derive(Clone, Copy, Debug, PartialEq, Eq)]
+pub enum Layout {
+    /// Layout 2: each block in its home, and in its slot while a save of it is under way.
+    Journal,
+    /// Layout 3: each block in one of its two places.
+    Pages,
+}
+
+/// What the number of its sectors tells of an image.
+#[derive(Clone, Copy)]
+pub struct Size {
+    pub layout: Layout,
+    pub blocks: BlockCount,
+}
+
+/// The layout of images with so many sectors, and how many blocks they have. None where no image of layout 2 or 3 has
+/// so many.
+/// Rule: IMAGE, The bytes; IMAGE, Layout 3.
+pub fn size_of(sectors: u32) -> Option<Size>
+    ensures some { OnSome result (is_known_size sectors ≡ true) }
+    ensures none { IfNone result (is_known_size sectors ≡ false) }
+    ensures layout { IfSome result (λ size. is_journal size.layout ≡ older_label.is_size sectors) }
+    ensures sectors { IfSome result (λ size. sectors ≡ sectors_for size.layout size.blocks.number) }
+    ensures count { IfSome result (λ size. size.blocks.number ≡ known_blocks sectors) }
+{
+    match size_by(Layout::Journal, sectors) {
+        Some(size) => Some(size),
+        None => other_size(sectors),
+    }
+}
+
+// The same of a size that no image of layout 2 has.
+fn other_size(sectors: u32) -> Option<Size>
+    requires { older_label.is_size sectors ≡ false }
+    ensures some { OnSome result (is_known_size sectors ≡ true) }
+    ensures none { IfNone result (is_known_size sectors ≡ false) }
+    ensures layout { IfSome result (λ size. is_journal size.layout ≡ older_label.is_size sectors) }
+    ensures sectors { IfSome result (λ size. sectors ≡ sectors_for size.layout size.blocks.number) }
+    ensures count { IfSome result (λ size. size.blocks.number ≡ known_blocks sectors) }
+{
+    match size_by(Layout::Pages, sectors) {
+        Some(size) => Some(size),
+        None => None,
+    }
+}
+
+/// The size of an image of this layout with so many sectors. None where no image of it has so many.
+/// Rule: IMAGE, The bytes; IMAGE, Layout 3.
+pub fn size_by(layout: Layout, sectors: u32) -> Option<Size>
+    ensures some { OnSome result (has_size layout sectors ≡ true) }
+    ensures none { IfNone result (has_size layout sectors ≡ false) }
+    ensures layout { IfSome result (λ size. size.layout ≡ layout) }
+    ensures sectors { IfSome result (λ size. sectors ≡ sectors_for layout size.blocks.number) }
+    ensures count { IfSome result (λ size. size.blocks.number ≡ known_blocks sectors) }
+{
+    match layout {
+        Layout::Journal => journal_size(sectors),
+        Layout::Pages => pages_size(sectors),
+    }
+}
+
+fn journal_size(sectors: u32) -> Option<Size>
+    ensures some { OnSome result (older_label.is_size sectors ≡ true) }
+    ensures none { IfNone result (older_label.is_size sectors ≡ false) }
+    ensures layout { IfSome result (λ size. size.layout ≡ Layout.Journal) }
+    ensures sectors { IfSome result (λ size. sectors ≡ sectors_for Layout.Journal size.blocks.number) }
+    ensures count { IfSome result (λ size. size.blocks.number ≡ known_blocks sectors) }
+{
+    match recovery::blocks_of_size(sectors, MOST_BLOCKS) {
+        Some(number) => Some(Size {
+            layout: Layout::Journal,
+            blocks: BlockCount { number },
+        }),
+        None => None,
+    }
+}
+
+fn pages_size(sectors: u32) -> Option<Size>
+    ensures some { OnSome result (is_size sectors ≡ true) }
+    ensures none { IfNone result (is_size sectors ≡ false) }
+    ensures layout { IfSome result (λ size. size.layout ≡ Layout.Pages) }
+    ensures sectors { IfSome result (λ size. sectors ≡ sectors_for Layout.Pages size.blocks.number) }
+    ensures count { IfSome result (λ size. size.blocks.number ≡ known_blocks sectors) }
+{
+    match blocks_of_new(sectors) {
+        Some(number) => Some(Size {
+            layout: Layout::Pages,
+            blocks: BlockCount { number },
+        }),
+        None => None,
+    }
+}
+
+/// How many sectors an image of so many blocks has.
+/// Rule: IMAGE, The bytes; IMAGE, Layout 3.
+pub fn sectors_of(layout: Layout, blocks: u16) -> u32
+    ensures { result ≡ sectors_for layout blocks }
+{
+    match layout {
+        Layout::Journal => 3 + 4 * blocks as u32,
+        Layout::Pages => 32 + 16 * blocks as u32,
+    }
+}
 
 /// How many blocks an image of so many sectors has, from 32 to 3,840. None where no image of layout 2 or 3 has so many.
 /// Rule: IMAGE, The bytes; IMAGE, Layout 3.
@@ -18,39 +125,15 @@ pub fn blocks_of_size(sectors: u32) -> Option<u16>
     ensures many { IfSome result (λ n. fewest_blocks ≤ n) }
     ensures few { IfSome result (λ n. n ≤ most_blocks) }
 {
-    match recovery::blocks_of_size(sectors, MOST_BLOCKS) {
-        Some(blocks) => Some(blocks),
-        None => blocks_of_newer(sectors),
+    match size_of(sectors) {
+        Some(size) => Some(size.blocks.number),
+        None => None,
     }
 }
 
-// The same of layout 3 alone.
-fn blocks_of_newer(sectors: u32) -> Option<u16>
-    ensures count { IfSome result (λ n. n ≡ blocks_in sectors) }
-    ensures some { OnSome result (is_size sectors ≡ true) }
-    ensures none { IfNone result (is_size sectors ≡ false) }
-    ensures many { IfSome result (λ n. fewest_blocks ≤ n) }
-    ensures few { IfSome result (λ n. n ≤ most_blocks) }
-{
-    let blocks = sectors.saturating_sub(32) / 16;
-    if fits(blocks, sectors) {
-        Some(blocks as u16)
-    } else {
-        None
-    }
-}
-
-// Whether an image of layout 3 of so many blocks has so many sectors.
-fn fits(blocks: u32, sectors: u32) -> bool
-    ensures value { result ≡ is_size_for blocks sectors }
-    ensures many { OnTrue result (fewest_blocks ≤ blocks) }
-    ensures few { OnTrue result (blocks ≤ most_blocks) }
-{
-    FEWEST_BLOCKS as u32 <= blocks && blocks <= MOST_BLOCKS as u32 && sectors == 32 + 16 * blocks
-}
-
-// Whether the device has as many sectors as some image of layout 2.
-pub(crate) fn is_older<D: SectorDevice>(device: &D) -> bool
+/// Whether the device has as many sectors as some image of layout 2.
+/// Rule: IMAGE, The bytes.
+pub fn is_older<D: SectorDevice>(device: &D) -> bool
     ensures { result ≡ older_label.is_size (D.sector_count device.now) }
 {
     recovery::blocks_of_size(device.sectors(), MOST_BLOCKS).is_some()

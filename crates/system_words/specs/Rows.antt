@@ -12,7 +12,7 @@ use Rattle.system_words.specs.declared.words.Binary.TheVariants.{Multiply, Add, 
 use Rattle.system_words.specs.declared.words.Divide.TheVariants.{Scaled, ScaledBoth, Quotient, Both, Remainder, UnsignedDouble}
 use Rattle.system_words.specs.declared.words.Wide.TheVariants.{WideAdd, WideLess, WideNegate, WideProduct}
 use Rattle.system_words.specs.declared.words.Shuffle.TheVariants.{DupNonzero, Depth, Drop, Dup, Over, Pick, Roll, Rotate, Swap}
-use Rattle.system_words.specs.declared.words.Store.TheVariants.{Set, AddTo, Fetch, SetByte, FetchByte, MoveUp, MoveDown, Count, Fill, Trailing}
+use Rattle.system_words.specs.declared.words.MemoryWord.TheVariants.{Set, AddTo, Fetch, SetByte, FetchByte, MoveUp, MoveDown, Count, Fill, Trailing}
 use Rattle.system_words.specs.declared.words.Return.TheVariants.{ToReturn, Index, OuterIndex, FromReturn, CopyReturn}
 use Rattle.system_words.specs.declared.words.TerminalWord.TheVariants.{NewLine, Emit, Expect, Key, Blank, Blanks, TypeText, Dot, PrintText, UnsignedDot}
 use Rattle.system_words.specs.declared.words.PictureWord.TheVariants.{Digit, FinishPicture, Digits, BeginPicture, Convert, HoldByte, Sign}

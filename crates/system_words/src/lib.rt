@@ -2,9 +2,9 @@
 //! here, and looks at its row once.
 #![tactic(auto)]
 
+pub use lookup::{mark_of, meaning_of};
 pub use table::{COUNT, Row, all};
-pub use tokens::{mark_of, meaning_of};
 
+mod lookup;
 mod table;
-mod tokens;
 pub mod words;

@@ -58,7 +58,7 @@ pub enum Own {
     Division(Divide),
     Double(Wide),
     Stack(Shuffle),
-    Space(Store),
+    Space(MemoryWord),
     OnList(Return),
     /// Leaves this cell: the address of a system cell, or of the text input buffer.
     Constant(u16),
@@ -199,7 +199,7 @@ pub enum Shuffle {
 
 /// Words on data space.
 #[derive(Clone, Copy)]
-pub enum Store {
+pub enum MemoryWord {
     /// `!`
     Set,
     /// `+!`

@@ -17,7 +17,7 @@ use Rattle.terminal.specs.Done.{Exports, ImportsBlocks, ListsBlock, PutsBlock, U
 use Rattle.sessions.specs.Devices.{Becomes}
 use Rattle.terminal.specs.Files.{OpensAs}
 use Rattle.terminal.specs.Findings.{AreSound, blocks_for, said_all}
-use Rattle.terminal.specs.Older as older
+use Rattle.terminal.specs.Layout2 as older
 use Rattle.terminal.specs.Imported.{ImportsSome}
 use Rattle.terminal.specs.Putting.{PutsSome}
 use Rattle.terminal.specs.Screen.{listing}
@@ -26,8 +26,8 @@ use Rattle.command_line.specs.declared.orders.Form.{Form}
 use Rattle.terminal.proofs.Saving.{length_blocks}
 
 module _ {D : Type 0} (G : Ghosts D) where
-  continued : (old new : Store D G) → Continues old new → Becomes G (device_of old) (device_of new)
-  continued old new on = record { model = on.model; time = on.time; failures = on.failures }
+  pub continued : (old new : Store D G) → Continues old new → Becomes G (device_of old) (device_of new)
+  continued old new on = record { model = on.model; sectors = λ keeps. on.sectors; time = on.time; failures = on.failures }
 
   there_on : (device : D) (store : Store D G) (b : ℕ) → OpensAs G device store → b < blocks_of store → b < blocks_on G device
   there_on device store b opens below = subst (λ (n : ℕ). b < n) opens.size below
@@ -41,6 +41,8 @@ module _ {D : Type 0} (G : Ghosts D) where
   lists device old new b written written' opens below on listed state stops few reads = record {
     begun = device_of old;
     recovers = opens.recovers;
+    well = opens.well;
+    meant = opens.meant;
     goes = continued old new on;
     there = there_on device old b opens below;
     listed = λ keeps. listed (maps_on G device) (opens.stands keeps);
@@ -59,6 +61,8 @@ module _ {D : Type 0} (G : Ghosts D) where
   exported device old new form first last written written' opens ordered below printed read = record {
     begun = device_of old;
     recovers = opens.recovers;
+    well = opens.well;
+    meant = opens.meant;
     goes = continued old new read.continues;
     ordered = ordered;
     there = there_on device old last opens below;
@@ -78,6 +82,8 @@ module _ {D : Type 0} (G : Ghosts D) where
       record {
         begun = device_of old;
         recovers = opens.recovers;
+        well = opens.well;
+        meant = opens.meant;
         goes = continued old new on;
         files = some.files;
         each = some.each;
@@ -96,6 +102,8 @@ module _ {D : Type 0} (G : Ghosts D) where
   puts device old new b opens below on some few reads = record {
     begun = device_of old;
     recovers = opens.recovers;
+    well = opens.well;
+    meant = opens.meant;
     goes = continued old new on;
     there = there_on device old b opens below;
     saves = λ keeps. let saved = some.saved (maps_on G device) (opens.stands keeps) in (saved.0, saved.1, saved.2, saved.4);
@@ -103,8 +111,8 @@ module _ {D : Type 0} (G : Ghosts D) where
     reads = omega (arith, opens.pending, reads);
   }
 
-  proceeded : (old new : D) → Proceeds G old new → Becomes G old new
-  proceeded old new on = record { model = stays G old new on.sectors on.model on.units; time = on.time; failures = on.failures }
+  pub proceeded : (old new : D) → Proceeds G old new → Becomes G old new
+  proceeded old new on = record { model = stays G old new on.sectors on.model on.units; sectors = λ keeps. on.sectors; time = on.time; failures = on.failures }
 
   -- The image on the first device was upgraded onto the second one.
   pub upgrades : (source source' device after : D) (n : ℕ) → n ≡ older.blocks_on G source → G.sector_count source ≡ sectors_for n

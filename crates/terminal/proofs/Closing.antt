@@ -1,4 +1,4 @@
--- What a command gave back, and how it ended once that was closed.
+-- How a command ended, once what it gave back was closed.
 use Rattle.std.proofs.Common.{◌≡◌, Result, Ok, Err, sym, subst}
 use Rattle.std.specs.Prelude.{IsOk, IfErr, IfOk, MatchResult, OnOk}
 

@@ -1,56 +1,51 @@
 -- What a copy and a salvage of image_care promise is what the commands do.
-use Rattle.std.proofs.Common.{◌≡◌, ◌≢◌, ◌⊎◌, ◌∙◌, ◌&&◌, ◌+◌, ◌*◌, ℕ, Bool, true, false, not, List, Option, None, Some, IsTrue, inl, inr, refl, sym, subst, ap}
-use Rattle.std.specs.Prelude.{◌==◌, if◌then◌else◌, nat_le, option_map}
-use Rattle.std.specs.Io.KnownBytes.{Appends}
-use Rattle.std.proofs.lemmas.Bool.{eqb-true}
-use Rattle.sector_disk.specs.Disk.{Image}
+use Rattle.std.proofs.Common.{◌≡◌, ◌≢◌, ◌⊎◌, ◌∙◌, ◌&&◌, ◌<◌, ◌++◌, ℕ, zero, suc, [], Bool, true, false, not, List, Option, None, Some, IsTrue, inl, inr, refl, sym, subst, ap, arith}
+use Rattle.std.specs.Prelude.{if◌then◌else◌, option_and_then, option_map}
+use Rattle.sector_disk.specs.Disk.{Image, MayLeave}
 use Rattle.sector_disk.specs.declared.device.SectorDevice.{Ghosts}
-use Rattle.journal.specs.Calls.{BeginsAtMost, Proceeds, ReadsAtMost, StopsLeave}
-use Rattle.journal.specs.Images.{is_damaged, meaning}
-use Rattle.journal.specs.Layout.{sectors_for}
-use Rattle.recovery.specs.Formatted.{MakingLeaves}
-use Rattle.recovery.specs.Label.{blocks_in, is_size}
-use Rattle.recovery.specs.Opened.{first_of, image_refusal}
-use Rattle.recovery.specs.Steps.{OnlyRead}
+use Rattle.journal.specs.BySize.{Means}
+use Rattle.journal.specs.Calls.{Proceeds}
+use Rattle.journal.specs.Layout as journal
+use Rattle.journal.specs.Layout.{listed}
+use Rattle.journal.specs.PageLayout as pages
+use Rattle.recovery.specs.Label.{blocks_in as older_blocks_in, is_size}
+use Rattle.recovery.specs.Opened.{first_of}
 use Rattle.recovery.specs.Upgraded.{of_old}
 use Rattle.recovery.specs.declared.fault.OpenFault.{OpenFault}
 use Rattle.recovery.specs.declared.fault.OpenFault.TheVariants as image
 use Rattle.recovery.specs.declared.fault.UpgradeFault.{UpgradeFault}
 use Rattle.recovery.specs.declared.fault.UpgradeFault.TheVariants.{Old, New}
-use Rattle.image_care.specs.Copied.{copy_refusal, copy_size_refusal, grown, salvage_refusal, salvaged_blocks}
-use Rattle.image_care.specs.Examined.{reads_to_list}
-use Rattle.terminal.specs.Copying.{Copies, Salvages, no_recovery}
-use Rattle.terminal.specs.Older.{LeavesBlocks}
+use Rattle.shadow.specs.Label.{blocks_in, is_known_size, is_size as is_pages_size}
+use Rattle.shadow.specs.Upgraded.{known_blocks}
+use Rattle.stores.specs.Layouts.{is_journal, sectors_for}
+use Rattle.stores.specs.Opened.{image_refusal}
+use Rattle.stores.specs.declared.sizes.Layout.{Layout}
+use Rattle.stores.specs.declared.sizes.Layout.TheVariants.{Journal, Pages}
+use Rattle.image_care.specs.Copied.{copy_refusal, copy_size_refusal}
+use Rattle.image_care.specs.Salvaged.{standing_in}
+use Rattle.image_care.specs.Standing.{is_nowhere, is_other, standing_of}
+use Rattle.image_care.specs.declared.pages.standing.Standing.{Standing}
+use Rattle.image_care.specs.declared.pages.standing.Standing.TheVariants.{Current, Other, Nowhere}
+use Rattle.image_care.specs.declared.salvage_source.Taken.{Taken}
+use Rattle.sessions.specs.Devices.{Becomes}
+use Rattle.terminal.specs.Copying.{count_on, no_recovery, pages_no_recovery, salvage_told, sectors_like, standing_by}
+use Rattle.terminal.specs.Damage.{damage_line, damage_lines, damage_told}
+use Rattle.terminal.specs.Done.{LeavesBlocks}
+use Rattle.terminal.specs.Failed.{CallFailed, IsUntold, TellsRefusal}
 use Rattle.terminal.specs.Failures.{of_upgrade}
 use Rattle.terminal.specs.declared.failure.Failure.{Failure}
-use Rattle.terminal.specs.declared.failure.Failure.TheVariants.{CannotWrite, Device}
+use Rattle.terminal.specs.declared.failure.Failure.TheVariants.{CannotWrite, Device, NoMemory, Stopped}
 use Rattle.journal.proofs.Suited.{stays}
 
 pub both_true : (a b : Bool) → (a && b) ≡ true → (a ≡ true) × (b ≡ true)
 both_true true b is = (refl, is)
 both_true false b is = cc
 
--- An image of this size has so many blocks.
-pub sized : (sectors : ℕ) → is_size sectors ≡ true → sectors ≡ sectors_for (blocks_in sectors)
-sized sectors is = eqb-true sectors (sectors_for (blocks_in sectors)) (both_true _ _ is).1
-
 -- Neither of two sizes is refused.
 pub fits : (a b : Bool) (x y : UpgradeFault) → (if not a then Some x else (if not b then Some y else None)) ≡ None → (a ≡ true) × (b ≡ true)
 fits true true x y is = (refl, refl)
 fits true false x y is = cc
 fits false b x y is = cc
-
-pub old_size : (old new : ℕ) → copy_size_refusal old new ≡ None → old ≡ sectors_for (blocks_in old)
-old_size old new is = sized old (fits (is_size old) (is_size new && nat_le old new) (Old image.BadSize) (New image.BadSize) is).0
-
-pub new_size : (old new : ℕ) → copy_size_refusal old new ≡ None → new ≡ sectors_for (blocks_in new)
-new_size old new is =
-    sized new (both_true (is_size new) (nat_le old new) (fits (is_size old) (is_size new && nat_le old new) (Old image.BadSize) (New image.BadSize) is).1).0
-
-pub salvaged_sizes : (old new : ℕ) → salvage_refusal old new ≡ None → (old ≡ sectors_for (blocks_in old)) × (new ≡ old)
-salvaged_sizes old new is =
-    let both = fits (is_size old) (new == old) (Old image.BadSize) (New image.BadSize) is in
-    (sized old both.0, eqb-true new old both.1)
 
 -- What isn't refused at all is refused by neither.
 pub second_of : (a b : Option UpgradeFault) → first_of a b ≡ None → b ≡ None
@@ -98,69 +93,151 @@ told_first e fault o is (inl old) = inl (is ∙ ap of_upgrade old)
 told_first e fault o is (inr (inl new)) = inl (is ∙ ap of_upgrade new)
 told_first e fault o is (inr (inr first)) = inr (ap Some is ∙ ap (option_map of_upgrade) (sym first))
 
--- The same where a line may have been refused by the output too.
-pub told_first_or_unwritten : (e : Failure) (fault : UpgradeFault) (o : Option UpgradeFault) → e ≡ of_upgrade fault
+-- The same where what is told may have failed too.
+pub told_first_or_untold : (e : Failure) (fault : UpgradeFault) (o : Option UpgradeFault) → e ≡ of_upgrade fault
     → (fault ≡ Old image.Device) ⊎ (fault ≡ New image.Device) ⊎ (o ≡ Some fault)
-    → (e ≡ Device) ⊎ (e ≡ CannotWrite) ⊎ (Some e ≡ option_map of_upgrade o)
-told_first_or_unwritten e fault o is (inl old) = inl (is ∙ ap of_upgrade old)
-told_first_or_unwritten e fault o is (inr (inl new)) = inl (is ∙ ap of_upgrade new)
-told_first_or_unwritten e fault o is (inr (inr first)) = inr (inr (ap Some is ∙ ap (option_map of_upgrade) (sym first)))
+    → (e ≡ Device) ⊎ (e ≡ NoMemory) ⊎ (e ≡ CannotWrite) ⊎ (Some e ≡ option_map of_upgrade o)
+told_first_or_untold e fault o is (inl old) = inl (is ∙ ap of_upgrade old)
+told_first_or_untold e fault o is (inr (inl new)) = inl (is ∙ ap of_upgrade new)
+told_first_or_untold e fault o is (inr (inr first)) = inr (inr (inr (ap Some is ∙ ap (option_map of_upgrade) (sym first))))
+
+-- The same, told of a salvage.
+pub told_or_untold : (e : Failure) (fault : UpgradeFault) (o : Option UpgradeFault) → e ≡ of_upgrade fault
+    → (fault ≡ Old image.Device) ⊎ (fault ≡ New image.Device) ⊎ (o ≡ Some fault)
+    → (e ≡ Device) ⊎ IsUntold e ⊎ (Some e ≡ option_map of_upgrade o)
+told_or_untold e fault o is (inl old) = inl (is ∙ ap of_upgrade old)
+told_or_untold e fault o is (inr (inl new)) = inl (is ∙ ap of_upgrade new)
+told_or_untold e fault o is (inr (inr first)) = inr (inr (ap Some is ∙ ap (option_map of_upgrade) (sym first)))
+
+-- What couldn't be told is no fault of a device.
+pub untold_only : {P : Type 0} (e : Failure) → IsUntold e → e ≡ Device → P
+untold_only e (inl memory) is = absurd (let no : NoMemory ≡ Device = sym memory ∙ is in cc)
+untold_only e (inr write) is = absurd (let no : CannotWrite ≡ Device = sym write ∙ is in cc)
+
+-- No refusal of an image is for want of memory.
+pub never_memory : (fault : UpgradeFault) → of_upgrade fault ≢ NoMemory
+never_memory (Old image.BadSize) is = cc
+never_memory (Old image.NoLabel) is = cc
+never_memory (Old image.OtherVersion) is = cc
+never_memory (Old image.WrongCount) is = cc
+never_memory (Old image.Damaged) is = cc
+never_memory (Old image.Device) is = cc
+never_memory (New image.BadSize) is = cc
+never_memory (New image.NoLabel) is = cc
+never_memory (New image.OtherVersion) is = cc
+never_memory (New image.WrongCount) is = cc
+never_memory (New image.Damaged) is = cc
+never_memory (New image.Device) is = cc
+
+-- And none is a session that was stopped.
+pub never_stopped : (fault : UpgradeFault) → of_upgrade fault ≢ Stopped
+never_stopped (Old image.BadSize) is = cc
+never_stopped (Old image.NoLabel) is = cc
+never_stopped (Old image.OtherVersion) is = cc
+never_stopped (Old image.WrongCount) is = cc
+never_stopped (Old image.Damaged) is = cc
+never_stopped (Old image.Device) is = cc
+never_stopped (New image.BadSize) is = cc
+never_stopped (New image.NoLabel) is = cc
+never_stopped (New image.OtherVersion) is = cc
+never_stopped (New image.WrongCount) is = cc
+never_stopped (New image.Damaged) is = cc
+never_stopped (New image.Device) is = cc
+
+-- None is for an output that failed either.
+never_written : (fault : UpgradeFault) → of_upgrade fault ≢ CannotWrite
+never_written (Old image.BadSize) is = cc
+never_written (Old image.NoLabel) is = cc
+never_written (Old image.OtherVersion) is = cc
+never_written (Old image.WrongCount) is = cc
+never_written (Old image.Damaged) is = cc
+never_written (Old image.Device) is = cc
+never_written (New image.BadSize) is = cc
+never_written (New image.NoLabel) is = cc
+never_written (New image.OtherVersion) is = cc
+never_written (New image.WrongCount) is = cc
+never_written (New image.Damaged) is = cc
+never_written (New image.Device) is = cc
+
+pub never_untold : (fault : UpgradeFault) → (of_upgrade fault ≡ NoMemory) ⊎ (of_upgrade fault ≡ CannotWrite) → ⊥
+never_untold fault (inl memory) = never_memory fault memory
+never_untold fault (inr output) = never_written fault output
+
+-- How many sectors the new image has.
+like_sectors : (layout : Layout) (sectors n : ℕ) → is_journal layout ≡ is_size sectors → sectors_for layout n ≡ sectors_like sectors n
+like_sectors Journal sectors n is = ap (λ b. if b then journal.sectors_for n else pages.sectors_for n) is
+like_sectors Pages sectors n is = ap (λ b. if b then journal.sectors_for n else pages.sectors_for n) is
+
+pub unknown_count : (sectors : ℕ) → is_known_size sectors ≡ false → count_on sectors ≡ None
+unknown_count sectors isnt = ap (λ b. if b then Some (known_blocks sectors) else None) isnt
+
+known_count : (sectors n : ℕ) → is_known_size sectors ≡ true → n ≡ known_blocks sectors → count_on sectors ≡ Some n
+known_count sectors n known count = ap (λ b. if b then Some (known_blocks sectors) else None) known ∙ ap Some (sym count)
+
+pub asked_sectors : (layout : Layout) (sectors n : ℕ) (count : ℕ → Option ℕ) → is_journal layout ≡ is_size sectors → is_known_size sectors ≡ true
+    → n ≡ known_blocks sectors → option_map (sectors_for layout) (count n) ≡ option_map (sectors_like sectors) (option_and_then count (count_on sectors))
+asked_sectors layout sectors n count is known number =
+    (λ t. option_map (λ m. like_sectors layout sectors m is t) (count n))
+    ∙ ap (λ o. option_map (sectors_like sectors) (option_and_then count o)) (sym (known_count sectors n known number))
+
+-- Where the two lists of a salvage are right of the first n blocks, so is what is told of them.
+lines_same : (n : ℕ) (s t : ℕ → Standing) → ((b : ℕ) → b < n → s b ≡ t b) → damage_lines n s ≡ damage_lines n t
+lines_same zero s t are = refl
+lines_same (suc n) s t are =
+    ap (λ l. l ++ damage_line n (s n)) (lines_same n s t (λ b below. are b (omega (arith, below))))
+    ∙ ap (λ x. damage_lines n t ++ damage_line n x) (are n (omega arith))
+
+standing_told : (taken : Taken) (b : ℕ) (s : Standing) → listed taken.others b ≡ is_other s → listed taken.lost b ≡ is_nowhere s
+    → standing_by taken b ≡ s
+standing_told taken b Current other lost = rw other (rw lost refl)
+standing_told taken b Other other lost = rw other refl
+standing_told taken b Nowhere other lost = rw other (rw lost refl)
+
+pub told_same : (sectors : ℕ) (image : Image) (taken : Taken)
+    → ((b : ℕ) → b < known_blocks sectors → listed taken.others b ≡ is_other (standing_in sectors image b))
+    → ((b : ℕ) → b < known_blocks sectors → listed taken.lost b ≡ is_nowhere (standing_in sectors image b))
+    → salvage_told sectors (standing_by taken) ≡ salvage_told sectors (standing_of image)
+told_same sectors image taken others lost = by (is_size sectors) others lost
+  where
+    by : (t : Bool)
+        → ((b : ℕ) → b < (if t then older_blocks_in sectors else blocks_in sectors) → listed taken.others b ≡ is_other (if t then Current else standing_of image b))
+        → ((b : ℕ) → b < (if t then older_blocks_in sectors else blocks_in sectors) → listed taken.lost b ≡ is_nowhere (if t then Current else standing_of image b))
+        → (if t then no_recovery else damage_told sectors (standing_by taken) ++ pages_no_recovery)
+        ≡ (if t then no_recovery else damage_told sectors (standing_of image) ++ pages_no_recovery)
+    by true others lost = refl
+    by false others lost =
+        ap (λ (l : List ℕ). (if is_pages_size sectors then l else []) ++ pages_no_recovery)
+        (lines_same (blocks_in sectors) (standing_by taken) (standing_of image) (λ b below.
+        standing_told taken b (standing_of image b) (others b below) (lost b below)))
+
+-- By layout 2 only that it is no recovery.
+pub told_plain : (sectors : ℕ) (standing : ℕ → Standing) → is_size sectors ≡ true → salvage_told sectors standing ≡ no_recovery
+told_plain sectors standing is = ap (λ (t : Bool). if t then no_recovery else damage_told sectors standing ++ pages_no_recovery) is
+
+-- By layout 3 the damaged blocks come before that.
+pub told_pages : (sectors : ℕ) (standing : ℕ → Standing) → is_size sectors ≡ false
+    → salvage_told sectors standing ≡ damage_told sectors standing ++ pages_no_recovery
+told_pages sectors standing isnt = ap (λ (t : Bool). if t then no_recovery else damage_told sectors standing ++ pages_no_recovery) isnt
 
 module _ {A B : Type 0} (G : Ghosts A) (H : Ghosts B) where
-  pub copied : (source source' : A) (device after : B) → copy_size_refusal (G.sector_count source) (H.sector_count device) ≡ None
-      → (IsTrue (G.keeps_model source) → copy_refusal (G.sector_count source) (H.sector_count device) (G.disk source).content ≡ None)
-      → OnlyRead G source source' → Proceeds H device after
-      → (IsTrue (G.keeps_model source) → IsTrue (H.keeps_sectors device) → (n m : ℕ)
-      → G.sector_count source ≡ sectors_for n → H.sector_count device ≡ sectors_for m
-      → StopsLeave H device after (MakingLeaves m (grown m (meaning n (G.disk source).content)) (H.disk device)))
-      → (IsTrue (G.keeps_model source) → IsTrue (H.keeps_sectors device) → (n m : ℕ)
-      → G.sector_count source ≡ sectors_for n → H.sector_count device ≡ sectors_for m
-      → LeavesBlocks H after (grown m (meaning n (G.disk source).content)))
-      → ((m : ℕ) → H.sector_count device ≡ sectors_for m → BeginsAtMost H device after (2 * m + 4) 4)
-      → (IsTrue (G.keeps_model source) → (n : ℕ) → G.sector_count source ≡ sectors_for n
-      → ReadsAtMost G source source' (reads_to_list n (G.disk source).content + 2 * n + 1))
-      → Copies G H source source' device after
-  copied source source' device after sizes sound old goes stops new begins reads =
-      let from = old_size (G.sector_count source) (H.sector_count device) sizes in
-      let to = new_size (G.sector_count source) (H.sector_count device) sizes in
-      record {
-        old = old;
-        sound = λ keeps. not_refused (G.sector_count source) (H.sector_count device) (G.disk source).content (sound keeps);
-        goes = record { model = stays H device after goes.sectors goes.model goes.units; time = goes.time; failures = goes.failures };
-        stops = λ keeps keeps'. stops keeps keeps' (blocks_in (G.sector_count source)) (blocks_in (H.sector_count device)) from to;
-        new = λ keeps keeps'. new keeps keeps' (blocks_in (G.sector_count source)) (blocks_in (H.sector_count device)) from to;
-        begins = begins (blocks_in (H.sector_count device)) to;
-        reads = λ keeps. reads keeps (blocks_in (G.sector_count source)) from;
-      }
+  -- What a stop leaves by the size that a device had, it leaves by the one that it has.
+  pub left_after : (device after : B) (blocks : List (List ℕ)) → H.sector_count after ≡ H.sector_count device
+      → ((image : Image) → MayLeave (H.disk after) image → Means (H.sector_count device) blocks image) → LeavesBlocks H after blocks
+  left_after device after blocks same left image may = subst (λ s. Means s blocks image) (sym same) (left image may)
 
-  pub salvaged : (source source' : A) (device after : B) (written written' : Option (List ℕ))
-      → salvage_refusal (G.sector_count source) (H.sector_count device) ≡ None
-      → OnlyRead G source source' → Proceeds H device after
-      → (IsTrue (G.keeps_model source) → IsTrue (H.keeps_sectors device) → (n : ℕ) → H.sector_count device ≡ sectors_for n
-      → StopsLeave H device after (MakingLeaves n (salvaged_blocks n (G.disk source).content) (H.disk device)))
-      → (IsTrue (G.keeps_model source) → IsTrue (H.keeps_sectors device) → (n : ℕ) → H.sector_count device ≡ sectors_for n
-      → LeavesBlocks H after (salvaged_blocks n (G.disk source).content))
-      → (IsTrue (G.keeps_model source) → IsTrue (H.keeps_sectors device) → (n : ℕ) → H.sector_count device ≡ sectors_for n
-      → is_damaged n (G.disk source).content ≡ false → LeavesBlocks H after (meaning n (G.disk source).content))
-      → ((n : ℕ) → H.sector_count device ≡ sectors_for n → BeginsAtMost H device after (2 * n + 4) 4)
-      → (IsTrue (G.keeps_model source) → (n : ℕ) → G.sector_count source ≡ sectors_for n
-      → ReadsAtMost G source source' (reads_to_list n (G.disk source).content + 2 * n))
-      → Appends written written' no_recovery → Salvages G H written written' source source' device after
-  salvaged source source' device after written written' sizes old goes stops new undamaged begins reads told =
-      let both = salvaged_sizes (G.sector_count source) (H.sector_count device) sizes in
-      let from = both.0 in
-      let same : H.sector_count device ≡ G.sector_count source = both.1 in
-      let to : H.sector_count device ≡ sectors_for (blocks_in (H.sector_count device)) =
-      same ∙ from ∙ ap (λ s. sectors_for (blocks_in s)) (sym same) in
-      record {
-        old = old;
-        goes = record { model = stays H device after goes.sectors goes.model goes.units; time = goes.time; failures = goes.failures };
-        stops = λ keeps keeps'. stops keeps keeps' (blocks_in (H.sector_count device)) to;
-        new = λ keeps keeps'. new keeps keeps' (blocks_in (H.sector_count device)) to;
-        undamaged = λ keeps keeps' whole.
-            subst (λ n. LeavesBlocks H after (meaning n (G.disk source).content)) (ap blocks_in same)
-            (undamaged keeps keeps' (blocks_in (H.sector_count device)) to whole);
-        told = told;
-        begins = begins (blocks_in (H.sector_count device)) to;
-        reads = λ keeps. reads keeps (blocks_in (G.sector_count source)) from;
-      }
+  pub becomes : (device after : B) → Proceeds H device after → Becomes H device after
+  becomes device after goes = record { model = stays H device after goes.sectors goes.model goes.units; sectors = λ keeps. goes.sectors; time = goes.time; failures = goes.failures }
+
+  -- What is told where an image wasn't made of another one.
+  pub tells : (keeps : Bool) (refusal : Option UpgradeFault) (failure : Failure) (fault : UpgradeFault) (source source' : A) (device after : B)
+      → failure ≡ of_upgrade fault → (fault ≡ Old image.Device → CallFailed G source source') → (fault ≡ New image.Device → CallFailed H device after)
+      → (fault ≢ Old image.Device → G.failures source' ≡ G.failures source) → (fault ≢ New image.Device → H.failures after ≡ H.failures device)
+      → (fault ≢ Old image.Device → fault ≢ New image.Device → after ≡ device)
+      → (IsTrue keeps → (fault ≡ Old image.Device) ⊎ (fault ≡ New image.Device) ⊎ (refusal ≡ Some fault))
+      → TellsRefusal G H keeps refusal failure source source' device after
+  tells keeps refusal failure fault source source' device after is old new old_well new_well same exact = record {
+    failed = λ device_is. either_failed fault (told_device fault (sym is ∙ device_is)) old new;
+    well = λ other. (old_well (no_old_device failure fault is other), new_well (no_new_device failure fault is other));
+    unasked = λ other. same (no_old_device failure fault is other) (no_new_device failure fault is other);
+    told = λ keeps. told_first failure fault refusal is (exact keeps);
+  }

@@ -29,7 +29,7 @@ module _ {D : Type 0} (G : Ghosts D) where
       → Appends written written' (report (512 * G.sector_count device) (layout_by_size (G.sector_count device)) n under_way digest)
       → ChecksImage G written written' device after
   checked device after n under_way digest written written' count passes meant save same_digest same stops begins reads few printed = record {
-    goes = record { model = stays G device after passes.sectors passes.model passes.units; time = passes.time; failures = passes.failures };
+    goes = record { model = stays G device after passes.sectors passes.model passes.units; sectors = λ keeps. passes.sectors; time = passes.time; failures = passes.failures };
     meant = meant;
     told = λ keeps.
         subst (λ (text : List ℕ). Appends written written' text)

@@ -40,6 +40,12 @@ blocks_done done left bytes is many =
     let none : as_blocks left ≡ [] = none_left (as_blocks left) (omega (arith, total, many)) in
     sym (append-nil done) ∙ ap (λ l. done ++ l) (sym none) ∙ is
 
+-- those that are done, and those that are left
+pub blocks_so_far : (done : List (List ℕ)) (left bytes : List ℕ) → done ++ as_blocks left ≡ as_blocks bytes
+    → length done + blocks_for (length left) ≡ blocks_for (length bytes)
+blocks_so_far done left bytes is =
+    ap (λ n. length done + n) (sym (length_blocks left)) ∙ sym (length-append done (as_blocks left)) ∙ ap length is ∙ length_blocks bytes
+
 -- one block more
 pub spilled_more : (m : Maps) (b : ℕ) (blocks : List (List ℕ)) (block : List ℕ)
     → spilled_from m b (blocks ++ block ∷ []) ≡ spilled (spilled_from m b blocks) (b + length blocks) block

@@ -2,8 +2,8 @@
 use Rattle.std.proofs.Common.{◌≡◌, ◌≢◌, ◌∙◌, ◌-◌, ℕ, suc, List, [], ◌∷◌, ◌++◌, length, None, ap, subst, sym, append_assoc, append-nil}
 use Rattle.std.specs.List.{flat_map}
 use Rattle.command_line.specs.declared.orders.Form.{Form}
-use Rattle.sector_disk.specs.declared.opening.FileFault.{FileFault}
-use Rattle.sector_disk.specs.declared.opening.FileFault.TheVariants.{Exists, Cannot, InUse}
+use Rattle.sector_disk.specs.declared.host_files.FileFault.{FileFault}
+use Rattle.sector_disk.specs.declared.host_files.FileFault.TheVariants.{Exists, Cannot, InUse}
 use Rattle.recovery.specs.declared.fault.OpenFault.{OpenFault}
 use Rattle.recovery.specs.declared.fault.OpenFault.TheVariants.{BadSize, NoLabel, OtherVersion, WrongCount, Damaged, Device}
 use Rattle.terminal.specs.declared.failure.Failure.TheVariants.{Stopped}

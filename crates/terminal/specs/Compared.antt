@@ -20,6 +20,8 @@ use Rattle.stores.specs.Opened.{image_refusal}
 use Rattle.terminal.specs.Checked.{line}
 use Rattle.terminal.specs.Screen.{shown}
 use Rattle.terminal.specs.Transfer.{unpadded}
+use Rattle.terminal.specs.declared.left.Left.{Left}
+use Rattle.terminal.specs.declared.left.Left.TheVariants as files
 
 -- the bytes of all blocks that an image with so many sectors means, block 0 first
 abbrev pub bytes_of : (sectors : ℕ) → Image → List ℕ
@@ -120,5 +122,7 @@ module _ {D : Type 0} (G : Ghosts D) where
   Compared first second written written' old' new' =
       (old : D) × first old × (new : D) × second new × Compares written written' old old' new new'
 
-  abbrev pub DiffDone : (first second : D → Type 0) (written written' : Option (List ℕ)) → Type 0
-  DiffDone first second written written' = (old' : D) × (new' : D) × Compared first second written written' old' new'
+  -- What is left are both devices.
+  abbrev pub DiffDone : {E : Type 0} (first second : D → Type 0) (written written' : Option (List ℕ)) (left : Left E D) → Type 0
+  DiffDone first second written written' left =
+      (old' : D) × (new' : D) × (left ≡ files.Compared old' new') × Compared first second written written' old' new'

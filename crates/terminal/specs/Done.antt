@@ -1,5 +1,5 @@
 -- What a command over images does, on any device: from the device that it opens or makes to what that has become.
-use Rattle.std.specs.Prelude.{◌≡◌, ◌⊎◌, ◌+◌, ◌-◌, ◌*◌, ◌<◌, ◌≤◌, ℕ, false, IsTrue, List, length, Option, Some}
+use Rattle.std.specs.Prelude.{◌≡◌, ⊤, ◌⊎◌, ◌+◌, ◌-◌, ◌*◌, ◌<◌, ◌≤◌, ℕ, Bool, false, true, IsTrue, List, length, Option, Some}
 use Rattle.std.specs.Io.KnownBytes.{Appends}
 use Rattle.sector_disk.specs.Disk.{Image, MayLeave}
 use Rattle.sector_disk.specs.declared.device.SectorDevice.{Ghosts}
@@ -10,7 +10,7 @@ use Rattle.recovery.specs.Formatted.{FormatLeaves, MakingLeaves, blank_blocks}
 use Rattle.recovery.specs.Upgraded.{OldLeaves}
 use Rattle.shadow.specs.Upgraded.{known_blocks}
 use Rattle.journal.specs.BySize.{Means}
-use Rattle.stores.specs.Images.{meaning}
+use Rattle.stores.specs.Images.{HasMeaning, meaning}
 use Rattle.stores.specs.Opened.{OpeningLeaves, reads_for, syncs_for, writes_for}
 use Rattle.journal.specs.Suits.{suits}
 use Rattle.interpreter.specs.State.{Forth}
@@ -18,11 +18,14 @@ use Rattle.interpreter.specs.Lines.{new_forth}
 use Rattle.interpreter.specs.Promise.{Keeps}
 use Rattle.command_line.specs.declared.orders.Form.{Form}
 use Rattle.terminal.specs.Findings.{AreSound, blocks_for, said_all}
-use Rattle.terminal.specs.Older as older
+use Rattle.terminal.specs.declared.left.Left.{Left}
+use Rattle.terminal.specs.declared.left.Left.TheVariants.{Nothing, Opened, Made, Upgraded as Both, Looked, Compared as LookedBoth, Copied}
+use Rattle.terminal.specs.Layout2 as older
 use Rattle.terminal.specs.Screen.{listing, screen_of}
 use Rattle.terminal.specs.Transfer.{as_blocks, exports, spilled_from}
 use Rattle.sessions.specs.Devices.{Becomes}
-use Rattle.sessions.specs.Sessions.{Completes}
+use Rattle.sessions.specs.Sessions.{BreaksOff, Completes}
+use Rattle.sessions.specs.declared.run_fault.RunFault.{RunFault}
 
 module _ {D : Type 0} (G : Ghosts D) where
   -- The image means these blocks, by the layout that the device's size tells.
@@ -73,10 +76,21 @@ module _ {D : Type 0} (G : Ghosts D) where
     pub keeps : Keeps G opening closing old new made
     pub saved : closing.world.maps.closed ≡ false → LeavesBlocks new closing.world.maps.saved
 
+  -- A session from the opening state on, which the reader or the writer cut short. What a stop may have left are blocks as they
+  -- were saved, and at the end those that were saved last: what was changed and not saved is given up.
+  pub record BreaksFrom (fault : RunFault) (opening : Forth) (left left' written written' : Option (List ℕ)) (old new : D) : Type 0 where
+    pub closing : Forth
+    pub made : List Save
+    pub breaks : BreaksOff G fault opening closing left left' written written' old new made
+    pub keeps : Keeps G opening closing old new made
+    pub saved : closing.world.maps.closed ≡ false → LeavesBlocks new closing.world.maps.saved
+
   -- `run`: a recovery, and a session over the blocks of the image.
   pub record RunsSession (steps : ℕ) (left left' written written' : Option (List ℕ)) (device after : D) : Type 0 where
     pub begun : D
     pub recovers : Recovers device begun
+    pub well : G.failures begun ≡ G.failures device
+    pub meant : IsTrue (suits G device) → HasMeaning (G.sector_count device) (G.disk device).content
     pub goes : Becomes G begun after
     pub runs : IsTrue (suits G device)
         → RunsFrom (new_forth steps (maps_on device)) left left' written written' begun after
@@ -86,6 +100,8 @@ module _ {D : Type 0} (G : Ghosts D) where
   pub record ListsBlock (b : ℕ) (written written' : Option (List ℕ)) (device after : D) : Type 0 where
     pub begun : D
     pub recovers : Recovers device begun
+    pub well : G.failures begun ≡ G.failures device
+    pub meant : IsTrue (suits G device) → HasMeaning (G.sector_count device) (G.disk device).content
     pub goes : Becomes G begun after
     pub there : b < blocks_on device
     pub listed : IsTrue (suits G device) → Appends written written' (listing (contents (maps_on device) b))
@@ -114,6 +130,8 @@ module _ {D : Type 0} (G : Ghosts D) where
   pub record PutsBlock (b : ℕ) (device after : D) : Type 0 where
     pub begun : D
     pub recovers : Recovers device begun
+    pub well : G.failures begun ≡ G.failures device
+    pub meant : IsTrue (suits G device) → HasMeaning (G.sector_count device) (G.disk device).content
     pub goes : Becomes G begun after
     pub there : b < blocks_on device
     pub saves : IsTrue (suits G device) → SavesText (maps_on device) b begun after
@@ -126,6 +144,8 @@ module _ {D : Type 0} (G : Ghosts D) where
   pub record Exports (form : Form) (first last : ℕ) (written written' : Option (List ℕ)) (device after : D) : Type 0 where
     pub begun : D
     pub recovers : Recovers device begun
+    pub well : G.failures begun ≡ G.failures device
+    pub meant : IsTrue (suits G device) → HasMeaning (G.sector_count device) (G.disk device).content
     pub goes : Becomes G begun after
     pub ordered : first ≤ last
     pub there : last < blocks_on device
@@ -140,6 +160,8 @@ module _ {D : Type 0} (G : Ghosts D) where
   pub record ImportsBlocks (form : Form) (first count : ℕ) (device after : D) : Type 0 where
     pub begun : D
     pub recovers : Recovers device begun
+    pub well : G.failures begun ≡ G.failures device
+    pub meant : IsTrue (suits G device) → HasMeaning (G.sector_count device) (G.disk device).content
     pub goes : Becomes G begun after
     pub files : List (List ℕ)
     pub each : length files ≡ count
@@ -174,11 +196,25 @@ module _ {D : Type 0} (G : Ghosts D) where
   abbrev pub Comes : (first : D → Type 0) (P : D → D → Type 0) (after : D) → Type 0
   Comes first P after = (device : D) × first device × P device after
 
-  -- On such a device was done what P says.
-  abbrev pub DoneOn : (first : D → Type 0) (P : D → D → Type 0) → Type 0
-  DoneOn first P = (after : D) × Comes first P after
+  -- What is left is such a device, which has become this by what P says. `keep` tells what is left of a device.
+  abbrev pub DoneOn : {L : Type 0} (keep : D → L) (first : D → Type 0) (P : D → D → Type 0) (left : L) → Type 0
+  DoneOn keep first P left = (after : D) × (left ≡ keep after) × Comes first P after
 
   -- From a device that was opened an image was made on a device of as many sectors.
   abbrev pub Upgraded : (opened : D → Type 0) (made : ℕ → D → Type 0) (source' after : D) → Type 0
   Upgraded opened made source' after =
       (source : D) × opened source × (device : D) × made (G.sector_count source) device × Upgrades source source' device after
+
+-- Of each device that is left, P holds if it was opened for writing too or made, and Q if it was opened for reading alone.
+abbrev pub EachLeft : {D E : Type 0} (P : D → Type 0) (Q : E → Type 0) → Left D E → Type 0
+EachLeft P Q Nothing = ⊤
+EachLeft P Q (Opened device) = P device
+EachLeft P Q (Made device) = P device
+EachLeft P Q (Both old new) = P old × P new
+EachLeft P Q (Looked device) = Q device
+EachLeft P Q (LookedBoth old new) = Q old × Q new
+EachLeft P Q (Copied old new) = Q old × P new
+
+-- A device is given, of which P holds.
+abbrev pub IsGiven : {D : Type 0} (given : Option D) (P : D → Type 0) → Type 0
+IsGiven {D} given P = (device : D) × (given ≡ Some device) × P device

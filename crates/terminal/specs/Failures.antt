@@ -1,7 +1,7 @@
 -- The exit status of a failure, and the failure that a fault is told as.
 use Rattle.std.specs.Prelude.{ℕ, Option, Some, None, Result, Ok, Err}
-use Rattle.sector_disk.specs.declared.opening.FileFault.{FileFault}
-use Rattle.sector_disk.specs.declared.opening.FileFault.TheVariants as file
+use Rattle.sector_disk.specs.declared.host_files.FileFault.{FileFault}
+use Rattle.sector_disk.specs.declared.host_files.FileFault.TheVariants as file
 use Rattle.journal.specs.declared.store.StoreFault.{StoreFault}
 use Rattle.recovery.specs.declared.fault.OpenFault.{OpenFault}
 use Rattle.recovery.specs.declared.fault.OpenFault.TheVariants as image

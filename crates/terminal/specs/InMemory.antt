@@ -1,6 +1,6 @@
 -- Sessions over blocks in memory: what the program runs where its words give no command.
 use Rattle.std.specs.Prelude.{◌≡◌, ◌⊎◌, ℕ, List, [], Option, None, ⊤}
-use Rattle.clap.specs.Words.{Text, fault_of, subcommand_of}
+use Rattle.clap.specs.Words.{IsAmong, Kinds, Text, fault_of, subcommand_of}
 use Rattle.clap.specs.declared.error.kind.ErrorKind.{ErrorKind}
 use Rattle.clap.specs.declared.error.kind.ErrorKind.TheVariants.{DisplayHelp, DisplayVersion}
 use Rattle.sector_disk.specs.declared.device.SectorDevice.{Ghosts}
@@ -43,3 +43,11 @@ BreaksInMemory {D} G left left' written written' =
 -- help was asked for
 abbrev pub IsHelp : ErrorKind → Type 0
 IsHelp kind = (kind ≡ DisplayHelp) ⊎ (kind ≡ DisplayVersion)
+
+-- among these reasons for which words are refused is that they ask for help
+abbrev pub AsksForHelp : Kinds → Type 0
+AsksForHelp kinds = IsAmong DisplayHelp kinds ⊎ IsAmong DisplayVersion kinds
+
+-- help was shown, or the output failed
+abbrev pub EndsHelp : (status : ℕ) → Type 0
+EndsHelp status = (status ≡ 0) ⊎ (status ≡ 4)

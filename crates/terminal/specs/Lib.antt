@@ -6,12 +6,13 @@ pub mod InMemory
 pub mod Failures
 pub mod Damage
 pub mod Done
-pub mod Older
-pub mod Newer
+pub mod Layout2
+pub mod Layout3
 pub mod Copying
 pub mod Shown
-pub mod NewerCare
 pub mod Care
+pub mod Failed
+pub mod Again
 pub mod Files
 pub mod Putting
 pub mod Transfer

@@ -14,8 +14,9 @@ module _ {D : Type 0} {G : Ghosts D} where
     pub saved : (m : Maps) → StandsFor old m → (text : List ℕ) × (bytes : List ℕ) × (screen_of text ≡ Some bytes)
         × StandsFor new (committed (spilled m block bytes)) × SavesBlock G m block bytes (device_of old) (device_of new)
 
-  -- A stop of an open store at any moment leaves the saved blocks, or these with some bytes in this block.
+  -- A stop of an open store at any moment leaves the saved blocks, or these with the lines of some text in this block.
   pub record LeavesSome (old new : Store D G) (block : ℕ) : Type 0 where
     pub left : (m : Maps) → StandsFor old m → m.closed ≡ false
         → StopsLeave G (device_of old) (device_of new)
-        (λ image. MeansBy old m.saved image ⊎ ((bytes : List ℕ) × MeansBy old (latest (spilled m block bytes)) image))
+        (λ image. MeansBy old m.saved image ⊎ ((text : List ℕ) × (bytes : List ℕ) × (screen_of text ≡ Some bytes)
+        × MeansBy old (latest (spilled m block bytes)) image))

@@ -7,6 +7,7 @@ use Rattle.std.specs.Io.KnownBytes.{prepend_known}
 use Rattle.std.specs.List.{flat_map}
 use Rattle.sector_disk.specs.declared.device.SectorDevice.{Ghosts}
 use Rattle.journal.specs.Suits.{suits}
+use Rattle.stores.specs.Images.{HasMeaning}
 use Rattle.block_words.specs.Words.{Save, has_unsaved}
 use Rattle.interpreter.specs.State.{Forth}
 use Rattle.interpreter.specs.Lines.{LineEnd, new_forth}
@@ -19,7 +20,7 @@ use Rattle.sessions.specs.declared.run_end.RunEnd.{RunEnd}
 use Rattle.sessions.specs.declared.run_end.RunEnd.TheVariants as by
 use Rattle.sessions.specs.declared.run_fault.RunFault.{RunFault}
 use Rattle.command_line.specs.declared.orders.Script.{Script}
-use Rattle.terminal.specs.Done.{LeavesBlocks, Recovers, RunsSession, maps_on}
+use Rattle.terminal.specs.Done.{LeavesBlocks, Recovers, RunsSession, maps_on, meant_by}
 
 -- a text that ends with a line feed, unless it is empty: its last line may lack that
 abbrev pub lined : List ℕ → List ℕ
@@ -55,12 +56,13 @@ module _ {D : Type 0} (G : Ghosts D) where
     pub faultless : script.is_strict ≡ true → (keeps : IsTrue (suits G device)) → AreFaultless (session.runs keeps).completes.turns
 
   -- A session from the opening state on, up to the first line that a fault ended. What a stop may have left are blocks as they
-  -- were saved.
+  -- were saved, and at the end those that were saved last.
   pub record StopsFrom (opening : Forth) (left left' written written' : Option (List ℕ)) (old new : D) : Type 0 where
     pub closing : Forth
     pub made : List Save
     pub stops : StopsAtFault G opening closing left left' written written' old new made
     pub keeps : Keeps G opening closing old new made
+    pub saved : closing.world.maps.closed ≡ false → LeavesBlocks G new closing.world.maps.saved
 
   -- The same of a script: it is strict, and its image was recovered before.
   pub record StopsScript (steps : ℕ) (script : Script) (left left' written written' : Option (List ℕ)) (device after : D) : Type 0 where
@@ -69,6 +71,8 @@ module _ {D : Type 0} (G : Ghosts D) where
     pub leads : IsLed (load_line script.load) script.files.items left led
     pub begun : D
     pub recovers : Recovers G device begun
+    pub well : G.failures begun ≡ G.failures device
+    pub meant : IsTrue (suits G device) → HasMeaning (G.sector_count device) (G.disk device).content
     pub goes : Becomes G begun after
     pub stops : IsTrue (suits G device) → StopsFrom (new_forth steps (maps_on G device)) led left' written written' begun after
 
@@ -85,14 +89,22 @@ module _ {D : Type 0} (G : Ghosts D) where
     pub saved : closing.world.maps.closed ≡ false → LeavesBlocks G new closing.world.maps.saved
     pub unsaved : closing.world.maps.closed ≡ false → is_unsaved ≡ has_unsaved closing.world.buffers closing.world.maps
 
-  -- The same of a script, whose image was recovered before: a fault ends its session only where it is strict.
+  -- The same over the image of a device, which was recovered before: a fault ends the session only where it is strict.
+  pub record EndsSession {T : Type 0} (hears : (old new : T) → LineEnd → Option Place → List ℕ → List Place → Type 0) (steps : ℕ) (is_strict : Bool) (end : Result RunEnd RunFault) (is_unsaved : Bool)
+      (left left' written written' : Option (List ℕ)) (tracer tracer' : T) (device after : D) : Type 0 where
+    pub begun : D
+    pub recovers : Recovers G device begun
+    pub well : G.failures begun ≡ G.failures device
+    pub meant : IsTrue (suits G device) → HasMeaning (G.sector_count device) (G.disk device).content
+    pub same : IsTrue (suits G device) → LeavesBlocks G begun (meant_by G device)
+    pub goes : Becomes G begun after
+    pub strict : IfOk end (λ end. end ≡ by.Fault → is_strict ≡ true)
+    pub ends : IsTrue (suits G device)
+        → EndsFrom hears is_strict end is_unsaved (new_forth steps (maps_on G device)) left left' written written' begun after tracer tracer'
+
+  -- The same of a script, which says what is read and whether it is strict.
   pub record EndsScript {T : Type 0} (hears : (old new : T) → LineEnd → Option Place → List ℕ → List Place → Type 0) (steps : ℕ) (script : Script) (end : Result RunEnd RunFault) (is_unsaved : Bool)
       (left left' written written' : Option (List ℕ)) (tracer tracer' : T) (device after : D) : Type 0 where
     pub led : Option (List ℕ)
     pub leads : IsLed (load_line script.load) script.files.items left led
-    pub begun : D
-    pub recovers : Recovers G device begun
-    pub goes : Becomes G begun after
-    pub strict : IfOk end (λ end. end ≡ by.Fault → script.is_strict ≡ true)
-    pub ends : IsTrue (suits G device)
-        → EndsFrom hears script.is_strict end is_unsaved (new_forth steps (maps_on G device)) led left' written written' begun after tracer tracer'
+    pub session : EndsSession hears steps script.is_strict end is_unsaved led left' written written' tracer tracer' device after

@@ -1,5 +1,5 @@
 -- Blocks that are printed of an image by reads alone, on any device.
-use Rattle.std.specs.Prelude.{◌≡◌, ℕ, ◌+◌, ◌-◌, ◌*◌, ◌<◌, ◌≤◌, nat_lt, false, if◌then◌else◌, IsTrue, List, Option, Some, None, option_map}
+use Rattle.std.specs.Prelude.{◌≡◌, ℕ, ◌+◌, ◌-◌, ◌*◌, ◌<◌, ◌≤◌, ◌&&◌, nat_le, nat_lt, false, if◌then◌else◌, IsTrue, List, Option, Some, None, option_map}
 use Rattle.std.specs.Io.KnownBytes.{Appends}
 use Rattle.sector_disk.specs.Disk.{Image, MayLeave}
 use Rattle.sector_disk.specs.declared.device.SectorDevice.{Ghosts}
@@ -25,6 +25,11 @@ use Rattle.sessions.specs.Devices.{Becomes}
 abbrev pub block_refusal : (b sectors : ℕ) → Image → Option Failure
 block_refusal b sectors image =
     first_of (option_map of_image (image_refusal sectors image)) (if nat_lt b (known_blocks sectors) then None else Some NoBlock)
+
+-- the same of the blocks from the first to the last: all of them are there, and the last doesn't come before the first
+abbrev pub blocks_refusal : (first last sectors : ℕ) → Image → Option Failure
+blocks_refusal first last sectors image = first_of (option_map of_image (image_refusal sectors image))
+    (if nat_le first last && nat_lt last (known_blocks sectors) then None else Some NoBlock)
 
 module _ {D : Type 0} (G : Ghosts D) where
   -- `list` of an image that may only be read, or is in use: the listing of a block that is there was printed, as an opening would recover it, by

@@ -2,7 +2,7 @@
 use Rattle.std.specs.Prelude.{◌≡◌, ◌<◌, ℕ, zero, suc, ◌-◌, List, [], ◌∷◌, ◌++◌, length, map, replicate, take, drop}
 use Rattle.sector_disk.specs.Disk.{Image}
 use Rattle.sector_disk.specs.declared.device.SectorDevice.{Ghosts}
-use Rattle.cell_machine.specs.Effects.{trimmed}
+use Rattle.data_space.specs.Blanks.{trimmed}
 use Rattle.journal.specs.declared.store.Store.{Store}
 use Rattle.journal.specs.Maps.{Maps, contents, spilled}
 use Rattle.journal.specs.Store.{Continues, DeviceBegins, DeviceReads, KeepsSaved, StandsFor, closed_of}

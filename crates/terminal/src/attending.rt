@@ -148,11 +148,12 @@ fn tell_of_images<E: Write>(
     }
 }
 
-/// Whether the image of an order is opened for writing too: one that is listed may be read alone.
+/// Whether the image of an order is opened for writing too: one that is listed or exported may be read alone.
 fn is_written(asked: &Order<'_>) -> bool {
     !matches!(
         asked,
         Order::List(..)
+            | Order::Export(..)
             | Order::Check(_)
             | Order::Digests(_)
             | Order::Diff(..)

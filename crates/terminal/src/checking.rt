@@ -8,19 +8,22 @@ ghost use Rattle.sector_disk.specs.Disk.{MayLeave};
 ghost use Rattle.journal.specs.Calls.{BeginsAtMost, StopsLeave};
 ghost use Rattle.shadow.specs.Label.{is_known_size};
 ghost use Rattle.stores.specs.Opened.{image_refusal};
-ghost use Rattle.terminal.specs.Checked.{ChecksImage, layout_by_size, report, save_text};
+ghost use Rattle.terminal.specs.Checked.{ChecksImage, layout_by_size, report, save_text, version_of};
 ghost use Rattle.terminal.specs.Damage.{damage_report};
-ghost use Rattle.terminal.specs.Done.{Comes};
+ghost use Rattle.terminal.specs.Done.{DoneOn};
+ghost use Rattle.terminal.specs.Failed.{CheckFails, FailsOn};
+ghost use Rattle.recovery.specs.Steps.{OnlyRead};
 ghost use Rattle.terminal.specs.Failures.{of_image};
 ghost use Rattle.terminal.specs.Files.{IsOpened};
 ghost use Rattle.command_line.specs.declared.orders.Layout.TheVariants.{Two, Three};
 
 use super::damage::tell_damage;
 use super::failure::Failure;
-use super::layouts::{layout_by_size, version_of};
+use super::left::Left;
 use command_line::orders::Layout;
 use image_care::examine;
-use recovery::OpenFault;
+use journal::layout::MOST_BLOCKS;
+use recovery::{OpenFault, blocks_of_size};
 use sector_disk::{HostFile, HostFiles, SectorDevice, SectorFile, open_disk};
 use sessions::streams::{flush, write_bytes};
 use std::alloc::{AllocError, Global};
@@ -28,20 +31,29 @@ use std::io::Write;
 
 /// Prints what an image holds. Its file is opened for nothing but that, and is given back. Its failures: `CannotOpen`
 /// or `InUse` where the file can't be opened for reading, then those of `check_over`.
-pub fn check_image<H: HostFile + Drop, O: HostFiles<H>, W: Write>(
+pub fn check_image<H: HostFile, O: HostFiles<H>, W: Write, D>(
     alloc: Global,
     files: &O,
     path: &str,
     output: &mut W,
-) -> Result<SectorFile<H>, Failure>
-    ensures checked { IfOk result (λ disk. Comes ⟦<SectorFile<H> as SectorDevice>⟧
+) -> (Left<D, SectorFile<H>>, Result<(), Failure>)
+    ensures checked { OnOk result.1 (DoneOn ⟦<SectorFile<H> as SectorDevice>⟧ Left.Looked
         (IsOpened H.HostFile (O.opens files.now path.now))
-        (ChecksImage ⟦<SectorFile<H> as SectorDevice>⟧ (W.contents output.old) (W.contents output.new)) disk) }
+        (ChecksImage ⟦<SectorFile<H> as SectorDevice>⟧ (W.contents output.old) (W.contents output.new)) result.0) }
+    ensures failed { IfErr result.1 (λ failure. FailsOn ⟦<SectorFile<H> as SectorDevice>⟧ Left.Looked
+        (IsOpened H.HostFile (O.opens files.now path.now)) (CheckFails ⟦<SectorFile<H> as SectorDevice>⟧
+        (W.contents output.old) (W.contents output.new)) failure result.0) }
+    // Nothing was printed, but where the image is damaged or the output failed.
+    ensures unprinted { IfErr result.1 (λ e. e ≢ Failure.Damaged → e ≢ Failure.CannotWrite → output.new ≡ output.old) }
+    // No session has begun that could stop.
+    ensures unstopped { IfErr result.1 (λ e. e ≢ Failure.Stopped) }
 {
-    let mut disk = open_disk(files, path)?;
-    match check_over(alloc, &mut disk, output) {
-        Ok(()) => Ok(disk),
-        Err(failure) => Err(failure),
+    match open_disk(files, path) {
+        Ok(mut disk) => {
+            let outcome = check_over(alloc, &mut disk, output);
+            (Left::Looked(disk), outcome)
+        }
+        Err(fault) => (Left::Nothing, Err(Failure::from(fault))),
     }
 }
 
@@ -92,6 +104,8 @@ pub fn check_over<D: SectorDevice, W: Write>(
     ensures stops { IsTrue (D.keeps_model device.old)
         → StopsLeave D.SectorDevice device.old device.new (MayLeave (D.disk device.old)) }
     ensures begins { BeginsAtMost D.SectorDevice device.old device.new 0 0 }
+    ensures only_read { OnlyRead D.SectorDevice device.old device.new }
+    ensures unstopped { IfErr result (λ e. e ≢ Failure.Stopped) }
 {
     let sectors = device.sectors();
     let layout = layout_by_size(sectors);
@@ -160,5 +174,25 @@ fn save_text(alloc: Global, under_way: Option<u16>) -> Result<String, AllocError
     match under_way {
         Some(blocks) => format!(in alloc; "{blocks} blocks, digest true"),
         None => format!(in alloc; "none"),
+    }
+}
+
+/// The layout of images with so many sectors. What has the size of no image counts as layout 3, by which it is refused.
+fn layout_by_size(sectors: u32) -> Layout
+    ensures { result ≡ layout_by_size sectors }
+{
+    match blocks_of_size(sectors, MOST_BLOCKS) {
+        Some(_) => Layout::Two,
+        None => Layout::Three,
+    }
+}
+
+/// The number of a layout, as labels have it: 2 or 3.
+fn version_of(layout: Layout) -> u8
+    ensures { result ≡ version_of layout }
+{
+    match layout {
+        Layout::Two => 2,
+        Layout::Three => 3,
     }
 }

@@ -7,13 +7,15 @@ ghost use Rattle.sector_disk.specs.Counting.{count_up};
 ghost use Rattle.recovery.specs.Steps.{OnlyRead};
 ghost use Rattle.stores.specs.Opened.{image_refusal};
 ghost use Rattle.terminal.specs.Compared.{TellsEach, digest_line, digest_report};
-ghost use Rattle.terminal.specs.Done.{Comes};
+ghost use Rattle.terminal.specs.Done.{DoneOn};
+ghost use Rattle.terminal.specs.Failed.{FailsOn, LookingFails};
 ghost use Rattle.terminal.specs.Failures.{of_image};
 ghost use Rattle.terminal.specs.Files.{IsOpened};
 
 use super::all_blocks::read_all;
 use super::checking::print;
 use super::failure::Failure;
+use super::left::Left;
 use super::screen::BLOCK;
 use sector_disk::{HostFile, HostFiles, SectorDevice, SectorFile, open_disk};
 use sha2::{Digest, Sha256};
@@ -23,20 +25,26 @@ use std::io::Write;
 /// Prints a line for each block of an image: its number and the SHA-256 of its bytes. Its file is opened for nothing
 /// but that, and is given back. Its failures: `CannotOpen` or `InUse` where the file can't be opened for reading, then
 /// those of `digest_over`.
-pub fn digest_image<H: HostFile + Drop, O: HostFiles<H>, W: Write>(
+pub fn digest_image<H: HostFile, O: HostFiles<H>, W: Write, D>(
     alloc: Global,
     files: &O,
     path: &str,
     output: &mut W,
-) -> Result<SectorFile<H>, Failure>
-    ensures told { IfOk result (λ disk. Comes ⟦<SectorFile<H> as SectorDevice>⟧
+) -> (Left<D, SectorFile<H>>, Result<(), Failure>)
+    ensures told { OnOk result.1 (DoneOn ⟦<SectorFile<H> as SectorDevice>⟧ Left.Looked
         (IsOpened H.HostFile (O.opens files.now path.now))
-        (TellsEach ⟦<SectorFile<H> as SectorDevice>⟧ (W.contents output.old) (W.contents output.new)) disk) }
+        (TellsEach ⟦<SectorFile<H> as SectorDevice>⟧ (W.contents output.old) (W.contents output.new)) result.0) }
+    ensures failed { IfErr result.1 (λ failure. FailsOn ⟦<SectorFile<H> as SectorDevice>⟧ Left.Looked
+        (IsOpened H.HostFile (O.opens files.now path.now)) (LookingFails ⟦<SectorFile<H> as SectorDevice>⟧) failure result.0) }
+    ensures unprinted { IfErr result.1 (λ e. e ≢ Failure.CannotWrite → output.new ≡ output.old) }
+    ensures unstopped { IfErr result.1 (λ e. e ≢ Failure.Stopped) }
 {
-    let mut disk = open_disk(files, path)?;
-    match digest_over(alloc, &mut disk, output) {
-        Ok(()) => Ok(disk),
-        Err(failure) => Err(failure),
+    match open_disk(files, path) {
+        Ok(mut disk) => {
+            let outcome = digest_over(alloc, &mut disk, output);
+            (Left::Looked(disk), outcome)
+        }
+        Err(fault) => (Left::Nothing, Err(Failure::from(fault))),
     }
 }
 
@@ -62,6 +70,7 @@ pub fn digest_over<D: SectorDevice, W: Write>(
     ensures unprinted { IfErr result (λ e. e ≢ Failure.CannotWrite → output.new ≡ output.old) }
     // Whatever the answer is, nothing was written or synced.
     ensures only_read { OnlyRead D.SectorDevice device.old device.new }
+    ensures unstopped { IfErr result (λ e. e ≢ Failure.Stopped) }
 {
     match read_all(alloc, device) {
         Ok(bytes) => print_digests(alloc, bytes.as_slice(), output),

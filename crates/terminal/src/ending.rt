@@ -1,6 +1,6 @@
 //! A session over an image that has ended, and what is told of it.
 //! Rule: MANUAL, forth83 run IMAGE [FILE ..]; PROGRAM, Exit status and messages.
-ghost use Rattle.std.specs.Prelude.{◌≡◌, ◌&&◌, true, Err, None, Some, MatchBool, MatchResult, OnOk, not};
+ghost use Rattle.std.specs.Prelude.{◌≡◌, ◌&&◌, true, Err, None, Some, IfErr, IfOk, MatchBool, MatchResult, OnOk, not};
 ghost use Rattle.std.specs.Io.KnownBytes.{Appends};
 ghost use Rattle.terminal.specs.Failures.{of_end};
 ghost use Rattle.terminal.specs.Scripts.{is_plain, unsaved_notice};
@@ -10,32 +10,38 @@ use command_line::orders::Script;
 use sessions::{RunEnd, RunFault};
 use std::io::{self, Write};
 
-/// A session that has ended.
-#[derive(Drop)]
-pub struct Ended<S> {
-    /// The store as it is left: what was changed and not saved is given up.
-    pub store: S,
+/// How a session has ended.
+#[derive(Clone, Copy)]
+pub struct Ended {
     /// With what it ended.
     pub end: Result<RunEnd, RunFault>,
-    /// Whether blocks were changed and not saved.
+    /// Whether blocks were changed and not saved: these are given up.
     pub is_unsaved: bool,
 }
 
-/// Closes the image, and answers how its session ended. That changed blocks were not saved is told, as by
-/// `tell_unsaved`.
+/// Answers how a session over an image ended, and whether what is told of it could be written: that changed blocks were
+/// not saved, as by `tell_unsaved`. Of one that didn't begin nothing is told here.
 /// Rule: MANUAL, forth83 run IMAGE [FILE ..].
-pub fn conclude<S: Drop, E: Write>(
-    session: Result<Ended<S>, Failure>,
+pub fn conclude<E: Write>(
+    session: Result<Ended, Failure>,
     script: &Script<'_>,
     errors: &mut E,
-) -> Result<(), Failure>
-    ensures ended { MatchResult session (λ ended. MatchResult result (λ _. of_end ended.end ≡ None) (λ e. of_end ended.end ≡ Some e))
-        (λ failure. result ≡ Err failure) }
+) -> (Result<(), Failure>, io::Result<()>)
+    ensures ended { MatchResult session (λ ended. MatchResult result.0 (λ _. of_end ended.end ≡ None) (λ e. of_end ended.end ≡ Some e))
+        (λ failure. result.0 ≡ Err failure) }
+    // What is told is what `tell_unsaved` tells, where the session has ended, and nothing where none began.
+    ensures told { IfOk session (λ ended. MatchBool (ended.is_unsaved && not (is_plain script.now))
+        (OnOk result.1 (Appends (E.contents errors.old) (E.contents errors.new) unsaved_notice)) (errors.new ≡ errors.old)) }
+    ensures unbegun { IfErr session (λ _. errors.new ≡ errors.old) }
     ensures silent { is_plain script.now ≡ true → errors.new ≡ errors.old }
 {
-    let ended = session?;
-    let _ = tell_unsaved(ended.is_unsaved, script, errors);
-    outcome(ended.end)
+    match session {
+        Ok(ended) => {
+            let told = tell_unsaved(ended.is_unsaved, script, errors);
+            (outcome(ended.end), told)
+        }
+        Err(failure) => (Err(failure), Ok(())),
+    }
 }
 
 /// Tells in a line that changed blocks were not saved, where that is so. Of the input alone nothing is told. Its error

@@ -1,9 +1,9 @@
 //! Many blocks at once, printed.
 //! Rule: MANUAL, forth83 export IMAGE FIRST LAST [--raw].
-ghost use Rattle.std.specs.Prelude.{◌≡◌, ◌⊎◌, ◌<◌, ◌≤◌, ◌-◌, ◌+◌, ◌*◌, ◌++◌, ◌∷◌, ◌↔◌, [], length, map, take, true, OnOk, IfErr, IsErrOf};
+ghost use Rattle.std.specs.Prelude.{◌≡◌, ◌≢◌, ◌⊎◌, ◌<◌, ◌≤◌, ◌-◌, ◌+◌, ◌*◌, ◌++◌, ◌∷◌, ◌↔◌, [], length, map, take, true, OnOk, IfErr, IsErrOf};
 ghost use Rattle.std.specs.Io.KnownBytes.{Appends};
 ghost use Rattle.arrayvec.specs.ArrayVec.{array_vec_len};
-ghost use Rattle.cell_machine.specs.Effects.{trimmed};
+ghost use Rattle.data_space.specs.Blanks.{trimmed};
 ghost use Rattle.journal.specs.Maps.{Maps, contents};
 ghost use Rattle.journal.specs.Store.{StandsFor, DeviceFailed, DeviceWentWell, blocks_of, closed_of};
 ghost use Rattle.terminal.specs.Screen.{shown};
@@ -35,7 +35,9 @@ pub fn export_blocks<D: SectorDevice, W: Write>(
     ensures there { OnOk result (last < blocks_of store.old) }
     ensures device { IsErrOf result Failure.Device → (closed_of store.old ≡ true) ⊎ DeviceFailed store.old store.new }
     ensures unwritten { IsErrOf result Failure.NoBlock → output.new ≡ output.old }
+    ensures unprinted { IfErr result (λ e. e ≢ Failure.Device → e ≢ Failure.CannotWrite → output.new ≡ output.old) }
     ensures store { ReadsStore store.old store.new (2 * (last + 1 - first)) }
+    ensures unstopped { IfErr result (λ e. e ≢ Failure.Stopped) }
 {
     if last < first {
         return Err(Failure::NoBlock);
@@ -43,8 +45,10 @@ pub fn export_blocks<D: SectorDevice, W: Write>(
     if last >= store.blocks() {
         return Err(Failure::NoBlock);
     }
-    print_blocks(store, first, last + 1, form, output)?;
-    flush(output).map_err(|_| Failure::CannotWrite)
+    match print_blocks(store, first, last + 1, form, output) {
+        Ok(()) => flush(output).map_err(|_| Failure::CannotWrite),
+        Err(failure) => Err(failure),
+    }
 }
 
 /// Prints the blocks from `first` on that stand before `past`.
@@ -137,7 +141,7 @@ pub(super) fn without_blanks(line: &[u8]) -> &[u8]
 }
 
 /// How many bytes are left without the blanks at the end.
-#[tactic(auto, using(cell_machine::proofs::Trims::trimmed_last, cell_machine::proofs::Trims::trimmed_blank))]
+#[tactic(auto, using(data_space::proofs::Trims::trimmed_last, data_space::proofs::Trims::trimmed_blank))]
 fn text_length(line: &[u8]) -> usize
     ensures length { result ≡ trimmed line.now }
     ensures within { result ≤ length line.now }

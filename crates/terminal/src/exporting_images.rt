@@ -1,43 +1,35 @@
 //! Many blocks of an image are printed: of one whose file can't be opened for writing, or is in use, by reads alone.
 //! Rule: MANUAL, forth83 export IMAGE FIRST LAST [--raw].
-ghost use Rattle.std.specs.Prelude.{◌≡◌, ◌≢◌, ◌⊎◌, ◌<◌, ◌≤◌, ◌-◌, ◌+◌, ◌*◌, None, Some, IsTrue, IfErr, IfOk, MatchResult, OnOk, option_map};
+ghost use Rattle.std.specs.Prelude.{◌≡◌, ◌≢◌, ◌⊎◌, ◌<◌, ◌≤◌, ◌-◌, ◌+◌, ◌*◌, None, Some, Err, IsTrue, IfErr, IfOk, MatchResult, OnOk};
 ghost use Rattle.std.specs.Io.KnownBytes.{Appends};
 ghost use Rattle.sector_disk.specs.Counting.{count_up};
 ghost use Rattle.journal.specs.Calls.{ReadsAtMost};
 ghost use Rattle.journal.specs.Maps.{Maps};
-ghost use Rattle.journal.specs.Store.{device_of};
 ghost use Rattle.recovery.specs.Steps.{OnlyRead};
 ghost use Rattle.shadow.specs.Upgraded.{known_blocks};
-ghost use Rattle.stores.specs.Opened.{image_refusal};
 ghost use Rattle.image_care.specs.View.{found_by, sectors_of};
 ghost use Rattle.terminal.specs.Care.{ExportDone};
-ghost use Rattle.terminal.specs.Done.{Comes, DoneOn, Exports};
-ghost use Rattle.terminal.specs.Failures.{of_image};
+ghost use Rattle.terminal.specs.Done.{DoneOn, Exports};
+ghost use Rattle.terminal.specs.Failed.{ExportFailed, ExportFails, FailsAfter, FailsOn, ShowingFails};
+ghost use Rattle.terminal.specs.Failures.{of_file};
 ghost use Rattle.terminal.specs.Files.{IsOpened};
-ghost use Rattle.terminal.specs.Shown.{ShowsBlocks};
+ghost use Rattle.terminal.specs.Shown.{ShowsBlocks, blocks_refusal};
 ghost use Rattle.terminal.specs.Transfer.{IsFound, exported, exports};
 
-use super::exporting::{export_blocks, print_bytes};
+use super::exporting::print_bytes;
 use super::failure::Failure;
-use super::images::open_over;
-use super::program::closed;
+use super::left::Left;
+use super::over_devices::export_over;
 use command_line::orders::Form;
 use image_care::{View, look, read_found};
 use sector_disk::{FileFault, HostFile, HostFiles, SectorDevice, SectorFile, open_disk};
 use sessions::streams::flush;
 use std::io::Write;
-use stores::Store;
 
 /// Prints the blocks of an image from the one to the other: after its recovery where its file can be opened for
-/// writing, and by reads alone where it can't, or is in use. What was opened is closed. Its failures: `InUse` or
-/// `CannotOpen` where it can't be opened for reading either, then those of `export_over` or `show_blocks_over`.
-pub fn export_image<
-    H: HostFile + Drop,
-    O: HostFiles<H>,
-    K: HostFile + Drop,
-    P: HostFiles<K>,
-    W: Write,
->(
+/// writing, and by reads alone where it can't, or is in use. Its failures: `InUse` or `CannotOpen` where it can't be
+/// opened for reading either, then those of `export_over` or `show_blocks_over`.
+pub fn export_image<H: HostFile, O: HostFiles<H>, K: HostFile, P: HostFiles<K>, W: Write>(
     files: &O,
     looking: &P,
     path: &str,
@@ -45,12 +37,19 @@ pub fn export_image<
     last: u16,
     form: Form,
     output: &mut W,
-) -> Result<(), Failure>
-    ensures exported { OnOk result (ExportDone ⟦<SectorFile<H> as SectorDevice>⟧ ⟦<SectorFile<K> as SectorDevice>⟧
+) -> (Left<SectorFile<H>, SectorFile<K>>, Result<(), Failure>)
+    ensures exported { OnOk result.1 (ExportDone ⟦<SectorFile<H> as SectorDevice>⟧ ⟦<SectorFile<K> as SectorDevice>⟧
         (IsOpened H.HostFile (O.opens files.now path.now)) (IsOpened K.HostFile (P.opens looking.now path.now))
-        form first last (W.contents output.old) (W.contents output.new)) }
+        form first last (W.contents output.old) (W.contents output.new) result.0) }
+    ensures failed { IfErr result.1 (λ failure. ExportFailed ⟦<SectorFile<H> as SectorDevice>⟧ ⟦<SectorFile<K> as SectorDevice>⟧
+        (IsOpened H.HostFile (O.opens files.now path.now)) (IsOpened K.HostFile (P.opens looking.now path.now))
+        first last failure result.0) }
+    // Some blocks may be printed only where a read or the output failed.
+    ensures unprinted { IfErr result.1 (λ e. e ≢ Failure.Device → e ≢ Failure.CannotWrite → output.new ≡ output.old) }
+    // No session has begun that could stop.
+    ensures unstopped { IfErr result.1 (λ e. e ≢ Failure.Stopped) }
 {
-    export_opened::<H, K, P, W>(
+    export_opened(
         open_disk(files, path),
         looking,
         path,
@@ -64,7 +63,7 @@ pub fn export_image<
 /// Prints blocks of an image, as `export_image`, once its file was opened for writing or wasn't: only where it wasn't
 /// it is opened for reading. Its failures: `InUse` or `CannotOpen` where it can't be opened for reading either, then
 /// those of `export_over` or `show_blocks_over`.
-pub fn export_opened<H: HostFile + Drop, K: HostFile + Drop, P: HostFiles<K>, W: Write>(
+pub fn export_opened<H: HostFile, K: HostFile, P: HostFiles<K>, W: Write>(
     opened: Result<SectorFile<H>, FileFault>,
     looking: &P,
     path: &str,
@@ -72,62 +71,77 @@ pub fn export_opened<H: HostFile + Drop, K: HostFile + Drop, P: HostFiles<K>, W:
     last: u16,
     form: Form,
     output: &mut W,
-) -> Result<(), Failure>
+) -> (Left<SectorFile<H>, SectorFile<K>>, Result<(), Failure>)
     // The image on the file that could be opened for writing was recovered, and exported.
-    ensures exported { IfOk opened (λ disk. OnOk result (DoneOn ⟦<SectorFile<H> as SectorDevice>⟧ (λ device. device ≡ disk)
-        (Exports ⟦<SectorFile<H> as SectorDevice>⟧ form first last (W.contents output.old) (W.contents output.new)))) }
+    ensures exported { IfOk opened (λ disk. OnOk result.1 (DoneOn ⟦<SectorFile<H> as SectorDevice>⟧ Left.Opened (λ device. device ≡ disk)
+        (Exports ⟦<SectorFile<H> as SectorDevice>⟧ form first last (W.contents output.old) (W.contents output.new)) result.0)) }
+    ensures unexported { IfOk opened (λ disk. IfErr result.1 (λ failure. DoneOn ⟦<SectorFile<H> as SectorDevice>⟧ Left.Opened
+        (λ device. device ≡ disk) (FailsAfter ⟦<SectorFile<H> as SectorDevice>⟧
+        (ExportFails ⟦<SectorFile<H> as SectorDevice>⟧ first last) failure) result.0)) }
     // That on one that couldn't was looked at, and its blocks were printed.
-    ensures shown { IfErr opened (λ _. OnOk result (DoneOn ⟦<SectorFile<K> as SectorDevice>⟧
-        (IsOpened K.HostFile (P.opens looking.now path.now))
-        (ShowsBlocks ⟦<SectorFile<K> as SectorDevice>⟧ form first last (W.contents output.old) (W.contents output.new)))) }
+    ensures shown { IfErr opened (λ _. OnOk result.1 (DoneOn ⟦<SectorFile<K> as SectorDevice>⟧
+        Left.Looked (IsOpened K.HostFile (P.opens looking.now path.now))
+        (ShowsBlocks ⟦<SectorFile<K> as SectorDevice>⟧ form first last (W.contents output.old) (W.contents output.new)) result.0)) }
+    ensures unshown { IfErr opened (λ _. IfErr result.1 (λ failure. FailsOn ⟦<SectorFile<K> as SectorDevice>⟧ Left.Looked
+        (IsOpened K.HostFile (P.opens looking.now path.now)) (ShowingFails ⟦<SectorFile<K> as SectorDevice>⟧ (blocks_refusal first last)) failure result.0)) }
+    ensures unprinted { IfErr result.1 (λ e. e ≢ Failure.Device → e ≢ Failure.CannotWrite → output.new ≡ output.old) }
+    ensures unstopped { IfErr result.1 (λ e. e ≢ Failure.Stopped) }
 {
     match opened {
-        Ok(disk) => closed(export_over(disk, first, last, form, output)),
-        Err(_) => closed(show_blocks::<K, P, W>(looking, path, first, last, form, output)),
-    }
-}
-
-/// Prints the blocks of the image on a device from the one to the other. Nothing is written to it, but by its recovery.
-/// Its failures: those of `open_over`, then those of `export_blocks`.
-/// Rule: MANUAL, forth83 export IMAGE FIRST LAST [--raw].
-pub fn export_over<D: SectorDevice + Drop, W: Write>(
-    device: D,
-    first: u16,
-    last: u16,
-    form: Form,
-    output: &mut W,
-) -> Result<Store<D>, Failure>
-    ensures exported { IfOk result (λ store. Exports D.SectorDevice form first last
-        (W.contents output.old) (W.contents output.new) device (device_of store)) }
-{
-    let mut store = match open_over(device) {
-        Ok(store) => store,
-        Err((failure, _)) => return Err(failure),
-    };
-    match export_blocks(&mut store, first, last, form, output) {
-        Ok(()) => Ok(store),
-        Err(failure) => Err(failure),
+        Ok(disk) => {
+            let (disk, outcome) = export_over(disk, first, last, form, output);
+            (Left::Opened(disk), outcome)
+        }
+        Err(_) => show_blocks(looking, path, first, last, form, output),
     }
 }
 
 /// Prints the blocks of an image from the one to the other. Its file is opened for nothing but that, and is given back.
 /// Its failures: `CannotOpen` or `InUse` where the file can't be opened for reading, then those of `show_blocks_over`.
-pub fn show_blocks<H: HostFile + Drop, O: HostFiles<H>, W: Write>(
+pub fn show_blocks<H: HostFile, O: HostFiles<H>, W: Write, D>(
     files: &O,
     path: &str,
     first: u16,
     last: u16,
     form: Form,
     output: &mut W,
-) -> Result<SectorFile<H>, Failure>
-    ensures shown { IfOk result (λ disk. Comes ⟦<SectorFile<H> as SectorDevice>⟧
+) -> (Left<D, SectorFile<H>>, Result<(), Failure>)
+    ensures shown { OnOk result.1 (DoneOn ⟦<SectorFile<H> as SectorDevice>⟧ Left.Looked
         (IsOpened H.HostFile (O.opens files.now path.now))
-        (ShowsBlocks ⟦<SectorFile<H> as SectorDevice>⟧ form first last (W.contents output.old) (W.contents output.new)) disk) }
+        (ShowsBlocks ⟦<SectorFile<H> as SectorDevice>⟧ form first last (W.contents output.old) (W.contents output.new)) result.0) }
+    ensures unshown { IfErr result.1 (λ failure. FailsOn ⟦<SectorFile<H> as SectorDevice>⟧ Left.Looked
+        (IsOpened H.HostFile (O.opens files.now path.now)) (ShowingFails ⟦<SectorFile<H> as SectorDevice>⟧ (blocks_refusal first last)) failure result.0) }
+    ensures unprinted { IfErr result.1 (λ e. e ≢ Failure.Device → e ≢ Failure.CannotWrite → output.new ≡ output.old) }
+    ensures unstopped { IfErr result.1 (λ e. e ≢ Failure.Stopped) }
 {
-    let mut disk = open_disk(files, path)?;
-    match show_blocks_over(&mut disk, first, last, form, output) {
-        Ok(()) => Ok(disk),
-        Err(failure) => Err(failure),
+    show_opened_blocks(open_disk(files, path), first, last, form, output)
+}
+
+/// Prints blocks of an image, as `show_blocks`, once its file was opened for reading or wasn't.
+pub fn show_opened_blocks<H: HostFile, W: Write, D>(
+    opened: Result<SectorFile<H>, FileFault>,
+    first: u16,
+    last: u16,
+    form: Form,
+    output: &mut W,
+) -> (Left<D, SectorFile<H>>, Result<(), Failure>)
+    ensures shown { IfOk opened (λ disk. OnOk result.1 (DoneOn ⟦<SectorFile<H> as SectorDevice>⟧ Left.Looked (λ device. device ≡ disk)
+        (ShowsBlocks ⟦<SectorFile<H> as SectorDevice>⟧ form first last (W.contents output.old) (W.contents output.new)) result.0)) }
+    ensures unshown { IfOk opened (λ disk. IfErr result.1 (λ failure. DoneOn ⟦<SectorFile<H> as SectorDevice>⟧ Left.Looked
+        (λ device. device ≡ disk) (ShowingFails ⟦<SectorFile<H> as SectorDevice>⟧ (blocks_refusal first last) failure) result.0)) }
+    // Of a file that couldn't be opened nothing is printed.
+    ensures refused { IfErr opened (λ fault. result.1 ≡ Err (of_file fault)) }
+    ensures unopened { IfErr opened (λ _. result.0 ≡ Left.Nothing) }
+    ensures silent { IfErr opened (λ _. output.new ≡ output.old) }
+    ensures unprinted { IfErr result.1 (λ e. e ≢ Failure.Device → e ≢ Failure.CannotWrite → output.new ≡ output.old) }
+    ensures unstopped { IfErr result.1 (λ e. e ≢ Failure.Stopped) }
+{
+    match opened {
+        Ok(mut disk) => {
+            let outcome = show_blocks_over(&mut disk, first, last, form, output);
+            (Left::Looked(disk), outcome)
+        }
+        Err(unopened) => (Left::Nothing, Err(Failure::from(unopened))),
     }
 }
 
@@ -144,11 +158,11 @@ pub fn show_blocks_over<D: SectorDevice, W: Write>(
 ) -> Result<(), Failure>
     ensures shows { OnOk result (ShowsBlocks D.SectorDevice form first last (W.contents output.old) (W.contents output.new)
         device.old device.new) }
-    // Each refusal tells the first test that the image fails, and that a block isn't there is told only where it isn't.
+    // Each refusal tells the first test that fails: those of an opening, and then whether the blocks are there.
     ensures exact { IsTrue (D.keeps_model device.old) → MatchResult result
-        (λ _. image_refusal (D.sector_count device.old) (D.disk device.old).content ≡ None)
-        (λ e. (e ≡ Failure.Device) ⊎ (e ≡ Failure.CannotWrite) ⊎ (e ≡ Failure.NoBlock) ⊎ (Some e ≡ option_map of_image
-        (image_refusal (D.sector_count device.old) (D.disk device.old).content))) }
+        (λ _. blocks_refusal first last (D.sector_count device.old) (D.disk device.old).content ≡ None)
+        (λ e. (e ≡ Failure.Device) ⊎ (e ≡ Failure.CannotWrite)
+        ⊎ (blocks_refusal first last (D.sector_count device.old) (D.disk device.old).content ≡ Some e)) }
     ensures no_block { IfErr result (λ e. e ≡ Failure.NoBlock
         → (last < first) ⊎ (known_blocks (D.sector_count device.old) ≤ last)) }
     // A fault of the device is told just where one of its calls failed.
@@ -159,6 +173,7 @@ pub fn show_blocks_over<D: SectorDevice, W: Write>(
     ensures unprinted { IfErr result (λ e. e ≢ Failure.Device → e ≢ Failure.CannotWrite → output.new ≡ output.old) }
     // Whatever the answer is, nothing was written or synced.
     ensures only_read { OnlyRead D.SectorDevice device.old device.new }
+    ensures unstopped { IfErr result (λ e. e ≢ Failure.Stopped) }
 {
     match look(device) {
         Ok(view) => show_found(device, &view, first, last, form, output),

@@ -1,18 +1,22 @@
 //! The commands over images that are files of a system: each gives back what it has opened or made.
 //! Rule: MANUAL, Commands.
-ghost use Rattle.std.specs.Prelude.{◌≡◌, ◌≢◌, ◌⊎◌, ◌<◌, ◌≤◌, ◌+◌, ◌*◌, ◌↔◌, length, true, OnOk, IfOk, IfErr, IsErrOf};
+ghost use Rattle.std.specs.Prelude.{◌≡◌, ◌≢◌, ◌⊎◌, ℕ, ◌<◌, ◌≤◌, ◌+◌, ◌*◌, ◌↔◌, length, true, ⊤, Err, IsOk, OnOk, IfOk, IfErr, IfSome, MatchOption, IsErrOf};
 ghost use Rattle.journal.specs.Layout.{sectors_for};
 ghost use Rattle.journal.specs.PageLayout as newer_layout;
 ghost use Rattle.journal.specs.Store.{Continues, DeviceBegins, DeviceFailed, DeviceReads, blocks_of, closed_of, device_of, pending_count};
-ghost use Rattle.terminal.specs.Done.{Comes, ImportsBlocks, LooksAt, MakesBlank, PutsBlock, Upgraded};
-ghost use Rattle.terminal.specs.Files.{IsMade, IsOpened, OpensOn};
-ghost use Rattle.terminal.specs.Newer.{MakesNewer};
+ghost use Rattle.terminal.specs.Done.{DoneOn, EachLeft, ImportsBlocks, LooksAt, MakesBlank, PutsBlock, Upgrades};
+ghost use Rattle.recovery.specs.Steps.{WentWell};
+ghost use Rattle.terminal.specs.Failed.{FailsAfter, FailsOn, ImportFails, IsUnmade, IsUntouched, NewFailed, PutFails, UpgradeFailed, UpgradeFails};
+ghost use Rattle.terminal.specs.Files.{IsMade, IsOpened, IsUnfinished};
+ghost use Rattle.terminal.specs.Layout3.{MakesNewer, UpgradeDone};
 ghost use Rattle.terminal.specs.Putting.{LeavesSome, PutsSome};
 
 use super::failure::Failure;
-use super::images::{make_newer_over, make_over, open_over, put_text};
-use super::importing::{import_files, read_blocks};
-use command_line::orders::Form;
+use super::images::{make_newer_over, make_over, put_text};
+use super::importing::read_blocks;
+use super::left::Left;
+use super::over_devices::{import_over, put_over};
+use command_line::orders::{Form, Layout};
 use journal::layout::MOST_BLOCKS_1;
 use recovery::upgrade;
 use sector_disk::{HostFile, HostFiles, SectorDevice, SectorFile, create_disk, open_disk};
@@ -24,24 +28,28 @@ use stores::{Store, blocks_of_size};
 /// that name already, which stays as it is, `CannotOpen` or `InUse` where the file can't be made, then those of
 /// `make_over`.
 /// Rule: MANUAL, forth83 new IMAGE --blocks N [--layout L].
-pub fn make_image<H: HostFile + Drop, O: HostFiles<H>>(
+pub fn make_image<H: HostFile, O: HostFiles<H>, E>(
     files: &O,
     path: &str,
     blocks: u16,
-) -> Result<Store<SectorFile<H>>, Failure>
+) -> (Left<SectorFile<H>, E>, Result<(), Failure>)
     requires many { 32 ≤ blocks }
     requires few { blocks ≤ 3840 }
     // Ok only where the file was made under this name, and became an image of blank blocks.
-    ensures made { IfOk result (λ store. Comes ⟦<SectorFile<H> as SectorDevice>⟧
+    ensures made { OnOk result.1 (DoneOn ⟦<SectorFile<H> as SectorDevice>⟧ Left.Made
         (IsMade H.HostFile (O.makes files.now path.now) (sectors_for blocks))
-        (MakesBlank ⟦<SectorFile<H> as SectorDevice>⟧ blocks) (device_of store)) }
-    // No call of it failed.
-    ensures well { IfOk result (λ store. ⟦<SectorFile<H> as SectorDevice>⟧.failures (device_of store) ≡ 0) }
+        (MakesBlank ⟦<SectorFile<H> as SectorDevice>⟧ blocks) result.0) }
+    // No call of what is given back failed.
+    ensures well { OnOk result.1 (EachLeft (λ device. ⟦<SectorFile<H> as SectorDevice>⟧.failures device ≡ 0) (λ _. ⊤) result.0) }
+    ensures failed { IfErr result.1 (λ failure. NewFailed ⟦<SectorFile<H> as SectorDevice>⟧
+        (IsMade H.HostFile (O.makes files.now path.now)) (IsUnfinished H.HostFile (O.makes files.now path.now))
+        blocks Layout.Two failure result.0) }
+    // No session has begun that could stop.
+    ensures unstopped { IfErr result.1 (λ e. e ≢ Failure.Stopped) }
 {
-    let disk = create_disk(files, path, 3 + 4 * blocks as u32)?;
-    match make_over(disk, blocks) {
-        Ok(store) => Ok(store),
-        Err((failure, _)) => Err(failure),
+    match create_disk(files, path, 3 + 4 * blocks as u32) {
+        Ok(disk) => made(make_over(disk, blocks)),
+        Err((fault, unfinished)) => (begun(unfinished), Err(Failure::from(fault))),
     }
 }
 
@@ -49,101 +57,140 @@ pub fn make_image<H: HostFile + Drop, O: HostFiles<H>>(
 /// that name already, which stays as it is, `CannotOpen` or `InUse` where the file can't be made, then those of
 /// `make_newer_over`.
 /// Rule: MANUAL, forth83 new IMAGE --blocks N [--layout L].
-pub fn make_newer_image<H: HostFile + Drop, O: HostFiles<H>>(
+pub fn make_newer_image<H: HostFile, O: HostFiles<H>, E>(
     files: &O,
     path: &str,
     blocks: u16,
-) -> Result<Store<SectorFile<H>>, Failure>
+) -> (Left<SectorFile<H>, E>, Result<(), Failure>)
     // Ok only where the file was made under this name, and became an image of blank blocks.
-    ensures made { IfOk result (λ store. Comes ⟦<SectorFile<H> as SectorDevice>⟧
+    ensures made { OnOk result.1 (DoneOn ⟦<SectorFile<H> as SectorDevice>⟧ Left.Made
         (IsMade H.HostFile (O.makes files.now path.now) (newer_layout.sectors_for blocks))
-        (MakesNewer ⟦<SectorFile<H> as SectorDevice>⟧ blocks) (device_of store)) }
-    // No call of it failed.
-    ensures well { IfOk result (λ store. ⟦<SectorFile<H> as SectorDevice>⟧.failures (device_of store) ≡ 0) }
+        (MakesNewer ⟦<SectorFile<H> as SectorDevice>⟧ blocks) result.0) }
+    // No call of what is given back failed.
+    ensures well { OnOk result.1 (EachLeft (λ device. ⟦<SectorFile<H> as SectorDevice>⟧.failures device ≡ 0) (λ _. ⊤) result.0) }
+    ensures failed { 32 ≤ blocks → blocks ≤ 3840 → IfErr result.1 (λ failure. NewFailed ⟦<SectorFile<H> as SectorDevice>⟧
+        (IsMade H.HostFile (O.makes files.now path.now)) (IsUnfinished H.HostFile (O.makes files.now path.now))
+        blocks Layout.Three failure result.0) }
+    ensures unstopped { IfErr result.1 (λ e. e ≢ Failure.Stopped) }
 {
-    let disk = make_newer_file(files, path, blocks)?;
-    match make_newer_over(disk, blocks) {
-        Ok(store) => Ok(store),
-        Err((failure, _)) => Err(failure),
+    match make_newer_file(files, path, blocks) {
+        Ok(disk) => made(make_newer_over(disk, blocks)),
+        Err((failure, unfinished)) => (begun(unfinished), Err(failure)),
     }
 }
 
-/// Makes a file of the size of an image of layout 3 of so many blocks.
-pub(super) fn make_newer_file<H: HostFile + Drop, O: HostFiles<H>>(
+/// The device of an image that was to be made, and how that ended.
+fn made<D: SectorDevice, E>(
+    outcome: Result<Store<D>, (Failure, D)>,
+) -> (Left<D, E>, Result<(), Failure>)
+    ensures made { IfOk outcome (λ store. result.0 ≡ Left.Made (device_of store)) }
+    ensures well { OnOk outcome (IsOk result.1) }
+    ensures unmade { IfErr outcome (λ e. result.0 ≡ Left.Made e.1) }
+    ensures failed { IfErr outcome (λ e. result.1 ≡ Err e.0) }
+{
+    match outcome {
+        Ok(store) => (Left::Made(store.into_device()), Ok(())),
+        Err((failure, device)) => (Left::Made(device), Err(failure)),
+    }
+}
+
+/// The device of an image whose file was made and not finished, if it was.
+fn begun<D, E>(unfinished: Option<D>) -> Left<D, E>
+    ensures { MatchOption unfinished (result ≡ Left.Nothing) (λ device. result ≡ Left.Made device) }
+{
+    match unfinished {
+        Some(device) => Left::Made(device),
+        None => Left::Nothing,
+    }
+}
+
+/// The devices of an image that was to be upgraded and of the file that was made and not finished, if it was.
+pub(super) fn begun_beside<D, E>(source: D, unfinished: Option<D>) -> Left<D, E>
+    ensures { MatchOption unfinished (result ≡ Left.Opened source) (λ device. result ≡ Left.Upgraded source device) }
+{
+    match unfinished {
+        Some(device) => Left::Upgraded(source, device),
+        None => Left::Opened(source),
+    }
+}
+
+/// Makes a file of the size of an image of layout 3 of so many blocks. Where it was made and not finished, it is handed
+/// back.
+pub(super) fn make_newer_file<H: HostFile, O: HostFiles<H>>(
     files: &O,
     path: &str,
     blocks: u16,
-) -> Result<SectorFile<H>, Failure>
+) -> Result<SectorFile<H>, (Failure, Option<SectorFile<H>>)>
     ensures made { IfOk result (λ disk. IsMade H.HostFile (O.makes files.now path.now) (newer_layout.sectors_for blocks) disk) }
     ensures well { IfOk result (λ disk. ⟦<SectorFile<H> as SectorDevice>⟧.failures disk ≡ 0) }
+    ensures unmade { IfErr result (λ e. IsUnmade e.0) }
+    ensures unfinished { IfErr result (λ e. IfSome e.1 (IsUnfinished H.HostFile (O.makes files.now path.now))) }
+    ensures refused { IfErr result (λ e. IfSome e.1 (λ _. e.0 ≡ Failure.CannotOpen)) }
 {
-    Ok(create_disk(files, path, 32 + 16 * blocks as u32)?)
-}
-
-/// Opens an image, after its recovery. Its failures: `CannotOpen` or `InUse` where the file can't be opened for reading
-/// and writing, then those of `open_over`.
-/// Rule: MANUAL, Messages and statuses; IMAGE, A recovery.
-pub fn open_image<H: HostFile + Drop, O: HostFiles<H>>(
-    files: &O,
-    path: &str,
-) -> Result<Store<SectorFile<H>>, Failure>
-    // The store has the blocks that the file under this name meant.
-    ensures opened { IfOk result (λ store. OpensOn ⟦<SectorFile<H> as SectorDevice>⟧
-        (IsOpened H.HostFile (O.opens files.now path.now)) store) }
-    ensures well { IfOk result (λ store. ⟦<SectorFile<H> as SectorDevice>⟧.failures (device_of store) ≡ 0) }
-    // No session has begun that could stop.
-    ensures unstopped { IfErr result (λ e. e ≢ Failure.Stopped) }
-{
-    let disk = open_disk(files, path)?;
-    match open_over(disk) {
-        Ok(store) => Ok(store),
-        Err((failure, _)) => Err(failure),
+    match create_disk(files, path, 32 + 16 * blocks as u32) {
+        Ok(disk) => Ok(disk),
+        Err((fault, unfinished)) => Err((Failure::from(fault), unfinished)),
     }
 }
 
-/// Makes the lines of a text file a block of an image, in one save. Its failures: those of `open_image`, `NoBlock`
-/// where there is no such block, `CannotRead` where the text can't be read, `NoMemory`, `NotAScreen` where it has more
-/// than 16 lines or one of more than 64 bytes, and `Device` where the save failed.
+/// The device of an image that was opened for writing too, and how its command ended.
+pub(super) fn opened<D, E, T>(ended: (D, Result<T, Failure>)) -> (Left<D, E>, Result<T, Failure>)
+    ensures left { result.0 ≡ Left.Opened ended.0 }
+    ensures outcome { result.1 ≡ ended.1 }
+{
+    let (device, outcome) = ended;
+    (Left::Opened(device), outcome)
+}
+
+/// Makes the lines of a text file a block of an image, in one save. Its failures: `CannotOpen` or `InUse` where the
+/// file can't be opened for reading and writing, then those of `put_over`.
 /// Rule: MANUAL, forth83 put IMAGE BLOCK FILE.
-pub fn put_into_image<H: HostFile + Drop, O: HostFiles<H>>(
+pub fn put_into_image<H: HostFile, O: HostFiles<H>, E>(
     rt: &(impl Files<File = File> + AllocGlobal),
     files: &O,
     path: &str,
     block: u16,
     text: &str,
-) -> Result<Store<SectorFile<H>>, Failure>
-    ensures put { IfOk result (λ store. Comes ⟦<SectorFile<H> as SectorDevice>⟧
+) -> (Left<SectorFile<H>, E>, Result<(), Failure>)
+    ensures put { OnOk result.1 (DoneOn ⟦<SectorFile<H> as SectorDevice>⟧ Left.Opened
         (IsOpened H.HostFile (O.opens files.now path.now))
-        (PutsBlock ⟦<SectorFile<H> as SectorDevice>⟧ block) (device_of store)) }
+        (PutsBlock ⟦<SectorFile<H> as SectorDevice>⟧ block) result.0) }
+    ensures failed { IfErr result.1 (λ failure. FailsOn ⟦<SectorFile<H> as SectorDevice>⟧ Left.Opened
+        (IsOpened H.HostFile (O.opens files.now path.now))
+        (FailsAfter ⟦<SectorFile<H> as SectorDevice>⟧ (PutFails ⟦<SectorFile<H> as SectorDevice>⟧ block)) failure result.0) }
+    ensures unstopped { IfErr result.1 (λ e. e ≢ Failure.Stopped) }
 {
-    let mut store = open_image(files, path)?;
-    match put_file(rt, &mut store, block, text) {
-        Ok(()) => Ok(store),
-        Err(failure) => Err(failure),
+    match open_disk(files, path) {
+        Ok(disk) => opened(put_over(rt, disk, block, text)),
+        Err(fault) => (Left::Nothing, Err(Failure::from(fault))),
     }
 }
 
 /// Makes the blocks that files say those of an image from `first` on, in one save. Each file begins a block. What
 /// keeps one from that is told in lines of `errors`, and then nothing is written to the image, but by its recovery.
-/// Its failures: those of `open_image`, then those of `import_files`.
+/// Its failures: `CannotOpen` or `InUse` where the image's file can't be opened for reading and writing, then those of
+/// `import_over`.
 /// Rule: MANUAL, forth83 import IMAGE FIRST FILE .. [--raw] [--check].
-pub fn import_image<H: HostFile + Drop, O: HostFiles<H>, E: Write>(
+pub fn import_image<H: HostFile, O: HostFiles<H>, W: Write, E>(
     rt: &(impl Files<File = File> + AllocGlobal),
     files: &O,
     path: &str,
     first: u16,
     sources: &[&str],
     form: Form,
-    errors: &mut E,
-) -> Result<Store<SectorFile<H>>, Failure>
-    ensures imported { IfOk result (λ store. Comes ⟦<SectorFile<H> as SectorDevice>⟧
+    errors: &mut W,
+) -> (Left<SectorFile<H>, E>, Result<(), Failure>)
+    ensures imported { OnOk result.1 (DoneOn ⟦<SectorFile<H> as SectorDevice>⟧ Left.Opened
         (IsOpened H.HostFile (O.opens files.now path.now))
-        (ImportsBlocks ⟦<SectorFile<H> as SectorDevice>⟧ form first (length sources.now)) (device_of store)) }
+        (ImportsBlocks ⟦<SectorFile<H> as SectorDevice>⟧ form first (length sources.now)) result.0) }
+    ensures failed { IfErr result.1 (λ failure. FailsOn ⟦<SectorFile<H> as SectorDevice>⟧ Left.Opened
+        (IsOpened H.HostFile (O.opens files.now path.now)) (FailsAfter ⟦<SectorFile<H> as SectorDevice>⟧
+        (ImportFails ⟦<SectorFile<H> as SectorDevice>⟧ form first (length sources.now))) failure result.0) }
+    ensures unstopped { IfErr result.1 (λ e. e ≢ Failure.Stopped) }
 {
-    let mut store = open_image(files, path)?;
-    match import_files(rt, &mut store, first, sources, form, errors) {
-        Ok(()) => Ok(store),
-        Err(failure) => Err(failure),
+    match open_disk(files, path) {
+        Ok(disk) => opened(import_over(rt, disk, first, sources, form, errors)),
+        Err(fault) => (Left::Nothing, Err(Failure::from(fault))),
     }
 }
 
@@ -151,25 +198,49 @@ pub fn import_image<H: HostFile + Drop, O: HostFiles<H>, E: Write>(
 /// the image only the size is looked at, and no call of its device is made. Its failures: `CannotOpen` or `InUse`
 /// where the image can't be opened, `BadSize` where it has the size of none, then those of `read_blocks`.
 /// Rule: MANUAL, forth83 import IMAGE FIRST FILE .. [--raw] [--check].
-pub fn check_import<H: HostFile + Drop, O: HostFiles<H>, E: Write>(
+pub fn check_import<H: HostFile, O: HostFiles<H>, W: Write, E>(
     rt: &(impl Files<File = File> + AllocGlobal),
     files: &O,
     path: &str,
     first: u16,
     sources: &[&str],
     form: Form,
-    errors: &mut E,
-) -> Result<SectorFile<H>, Failure>
-    ensures looked { IfOk result (λ disk. Comes ⟦<SectorFile<H> as SectorDevice>⟧
+    errors: &mut W,
+) -> (Left<SectorFile<H>, E>, Result<(), Failure>)
+    ensures looked { OnOk result.1 (DoneOn ⟦<SectorFile<H> as SectorDevice>⟧ Left.Opened
         (IsOpened H.HostFile (O.opens files.now path.now))
-        (LooksAt ⟦<SectorFile<H> as SectorDevice>⟧ form first (length sources.now)) disk) }
+        (LooksAt ⟦<SectorFile<H> as SectorDevice>⟧ form first (length sources.now)) result.0) }
+    // Whatever is told of the files, no call of the image's device is made.
+    ensures failed { IfErr result.1 (λ failure. FailsOn ⟦<SectorFile<H> as SectorDevice>⟧ Left.Opened
+        (IsOpened H.HostFile (O.opens files.now path.now)) IsUntouched failure result.0) }
+    ensures unstopped { IfErr result.1 (λ e. e ≢ Failure.Stopped) }
 {
-    let disk = open_disk(files, path)?;
-    let Some(blocks) = blocks_of_size(disk.sectors()) else {
+    match open_disk(files, path) {
+        Ok(disk) => {
+            let outcome = check_files(rt, &disk, first, sources, form, errors);
+            (Left::Opened(disk), outcome)
+        }
+        Err(fault) => (Left::Nothing, Err(Failure::from(fault))),
+    }
+}
+
+/// Tells whatever is told of files that would be imported into the image on a device, which is only asked for its size.
+fn check_files<D: SectorDevice, W: Write>(
+    rt: &(impl Files<File = File> + AllocGlobal),
+    device: &D,
+    first: u16,
+    sources: &[&str],
+    form: Form,
+    errors: &mut W,
+) -> Result<(), Failure>
+    ensures looked { OnOk result (LooksAt D.SectorDevice form first (length sources.now) device.now device.now) }
+    ensures unstopped { IfErr result (λ e. e ≢ Failure.Stopped) }
+{
+    let Some(blocks) = blocks_of_size(device.sectors()) else {
         return Err(Failure::BadSize);
     };
     match read_blocks(rt, blocks, first, sources, form, true, errors) {
-        Ok(_) => Ok(disk),
+        Ok(_) => Ok(()),
         Err(failure) => Err(failure),
     }
 }
@@ -178,32 +249,74 @@ pub fn check_import<H: HostFile + Drop, O: HostFiles<H>, E: Write>(
 /// where the old one has the size of no such image (`BadSize`) or can't be opened (`CannotOpen`, `InUse`), and whatever
 /// has the new name already stays as it is (`Exists`). Then its failures are those of `recovery::upgrade`.
 /// Rule: MANUAL, forth83 upgrade OLD NEW [--layout L]; IMAGE, Layout 1, and an upgrade.
-pub fn upgrade_image<H: HostFile + Drop, O: HostFiles<H>>(
+pub fn upgrade_image<H: HostFile, O: HostFiles<H>, E>(
     files: &O,
     old: &str,
     new: &str,
-) -> Result<(SectorFile<H>, SectorFile<H>), Failure>
+) -> (Left<SectorFile<H>, E>, Result<(), Failure>)
     // Ok only where the new file was made and became an image of the blocks that the old one meant.
-    ensures made { IfOk result (λ both. Upgraded ⟦<SectorFile<H> as SectorDevice>⟧
-        (IsOpened H.HostFile (O.opens files.now old.now)) (IsMade H.HostFile (O.makes files.now new.now)) both.0 both.1) }
-    // No call of either failed.
-    ensures old_well { IfOk result (λ both. ⟦<SectorFile<H> as SectorDevice>⟧.failures both.0 ≡ 0) }
-    ensures new_well { IfOk result (λ both. ⟦<SectorFile<H> as SectorDevice>⟧.failures both.1 ≡ 0) }
+    ensures made { OnOk result.1 (UpgradeDone ⟦<SectorFile<H> as SectorDevice>⟧
+        (IsOpened H.HostFile (O.opens files.now old.now)) (IsMade H.HostFile (O.makes files.now new.now)) Layout.Two result.0) }
+    // No call of what is given back failed.
+    ensures well { OnOk result.1 (EachLeft (λ device. ⟦<SectorFile<H> as SectorDevice>⟧.failures device ≡ 0) (λ _. ⊤) result.0) }
+    ensures failed { IfErr result.1 (λ failure. UpgradeFailed ⟦<SectorFile<H> as SectorDevice>⟧
+        (IsOpened H.HostFile (O.opens files.now old.now)) (IsMade H.HostFile (O.makes files.now new.now))
+        (IsUnfinished H.HostFile (O.makes files.now new.now)) Layout.Two failure result.0) }
+    ensures unstopped { IfErr result.1 (λ e. e ≢ Failure.Stopped) }
 {
-    let mut source = open_disk(files, old)?;
+    match open_disk(files, old) {
+        Ok(source) => upgrade_into(source, files, new),
+        Err(fault) => (Left::Nothing, Err(Failure::from(fault))),
+    }
+}
+
+/// Makes an image of layout 2, in a new file, of the blocks of the image of layout 1 on a device.
+fn upgrade_into<H: HostFile, O: HostFiles<H>, E>(
+    mut source: SectorFile<H>,
+    files: &O,
+    new: &str,
+) -> (Left<SectorFile<H>, E>, Result<(), Failure>)
+    ensures made { OnOk result.1 (UpgradeDone ⟦<SectorFile<H> as SectorDevice>⟧
+        (λ device. device ≡ source) (IsMade H.HostFile (O.makes files.now new.now)) Layout.Two result.0) }
+    ensures well { ⟦<SectorFile<H> as SectorDevice>⟧.failures source ≡ 0
+        → OnOk result.1 (EachLeft (λ device. ⟦<SectorFile<H> as SectorDevice>⟧.failures device ≡ 0) (λ _. ⊤) result.0) }
+    ensures failed { IfErr result.1 (λ failure. UpgradeFailed ⟦<SectorFile<H> as SectorDevice>⟧
+        (λ device. device ≡ source) (IsMade H.HostFile (O.makes files.now new.now))
+        (IsUnfinished H.HostFile (O.makes files.now new.now)) Layout.Two failure result.0) }
+    ensures unstopped { IfErr result.1 (λ e. e ≢ Failure.Stopped) }
+{
     let sectors = source.sectors();
     let Some(_) = recovery::blocks_of_size(sectors, MOST_BLOCKS_1) else {
-        return Err(Failure::BadSize);
+        return (Left::Opened(source), Err(Failure::BadSize));
     };
-    let mut target = create_disk(files, new, sectors)?;
-    match upgrade(&mut source, &mut target) {
-        Ok(()) => Ok((source, target)),
+    match create_disk(files, new, sectors) {
+        Ok(mut target) => {
+            let outcome = upgrade_older(&mut source, &mut target);
+            (Left::Upgraded(source, target), outcome)
+        }
+        Err((fault, unfinished)) => (begun_beside(source, unfinished), Err(Failure::from(fault))),
+    }
+}
+
+/// Makes an image of layout 2 of the blocks of the image of layout 1 on another device. Its failures: `BadSize` where
+/// the sizes don't fit, then those of an opening of layout 1, and `Device` where a call of either failed.
+fn upgrade_older<D: SectorDevice>(old: &mut D, new: &mut D) -> Result<(), Failure>
+    ensures made { (n : ℕ) → D.sector_count old.old ≡ sectors_for n → D.sector_count new.old ≡ D.sector_count old.old
+        → OnOk result (Upgrades D.SectorDevice old.old old.new new.old new.new) }
+    // Where it failed, a stop leaves of the old image one that means the same, and of the new one no image, or the whole one.
+    ensures failed { (n : ℕ) → D.sector_count old.old ≡ sectors_for n → D.sector_count new.old ≡ D.sector_count old.old
+        → IfErr result (λ failure. UpgradeFails D.SectorDevice failure old.old old.new new.old new.new) }
+    ensures well { OnOk result (WentWell D.SectorDevice D.SectorDevice old.old old.new new.old new.new) }
+    ensures unstopped { IfErr result (λ e. e ≢ Failure.Stopped) }
+{
+    match upgrade(old, new) {
+        Ok(()) => Ok(()),
         Err(fault) => Err(Failure::from(fault)),
     }
 }
 
 /// Makes the lines of a text file a block, in one save. The file isn't opened where there is no such block.
-fn put_file<D: SectorDevice>(
+pub(super) fn put_file<D: SectorDevice>(
     rt: &(impl Files<File = File> + AllocGlobal),
     store: &mut Store<D>,
     block: u16,
@@ -219,6 +332,7 @@ fn put_file<D: SectorDevice>(
     ensures device { IfErr result (λ e. e ≡ Failure.Device
         → (closed_of store.old ≡ true) ⊎ DeviceFailed store.old store.new) }
     ensures continues { Continues store.old store.new }
+    ensures unstopped { IfErr result (λ e. e ≢ Failure.Stopped) }
 {
     if block >= store.blocks() {
         return Err(Failure::NoBlock);

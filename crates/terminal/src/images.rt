@@ -14,10 +14,11 @@ ghost use Rattle.shadow.specs.Label as newer_label;
 ghost use Rattle.shadow.specs.Label.{is_known_size};
 ghost use Rattle.stores.specs.Opened.{image_refusal};
 ghost use Rattle.journal.specs.Suits.{suits};
-ghost use Rattle.terminal.specs.Done.{ListsBlock, MakesBlank};
+ghost use Rattle.terminal.specs.Done.{LeavesBlocks, MakesBlank, meant_by};
+ghost use Rattle.terminal.specs.Failed.{MakingFails, NewerMakingFails, RefusesImage};
 ghost use Rattle.terminal.specs.Failures.{of_image};
 ghost use Rattle.terminal.specs.Files.{OpensAs};
-ghost use Rattle.terminal.specs.Newer.{MakesNewer};
+ghost use Rattle.terminal.specs.Layout3.{MakesNewer};
 ghost use Rattle.terminal.specs.Putting.{PutsSome, LeavesSome};
 ghost use Rattle.terminal.specs.Screen.{screen_of, listing};
 
@@ -40,7 +41,7 @@ const TEXT_ROOM: usize = 1057;
 /// `3 + 4 * blocks` sectors, for 32 to 3,840 blocks, and then it wasn't called, else `Device` where a call of it
 /// failed.
 /// Rule: IMAGE, A format.
-pub fn make_over<D: SectorDevice + Drop>(device: D, blocks: u16) -> Result<Store<D>, (Failure, D)>
+pub fn make_over<D: SectorDevice>(device: D, blocks: u16) -> Result<Store<D>, (Failure, D)>
     ensures made { IfOk result (λ store. MakesBlank D.SectorDevice blocks device (device_of store)) }
     ensures stands { IsTrue (D.keeps_sectors device) → IfOk result (λ store. StandsFor store (fresh (blank_blocks blocks))) }
     // Ok only where no call failed.
@@ -50,6 +51,9 @@ pub fn make_over<D: SectorDevice + Drop>(device: D, blocks: u16) -> Result<Store
     ensures refusal { IfErr result (λ e. MatchBool (is_size_for blocks (D.sector_count device))
         (e.0 ≡ Failure.Device) (e.0 ≡ Failure.BadSize)) }
     ensures device { IfErr result (λ e. e.0 ≡ Failure.Device → D.failures e.1 ≡ count_up (D.failures device)) }
+    // Where it failed, a stop at any moment leaves no image, or the whole one, or what could be left before.
+    ensures failed { is_size_for blocks (D.sector_count device) ≡ true
+        → IfErr result (λ e. MakingFails D.SectorDevice blocks e.0 device e.1) }
 {
     match format(device, blocks) {
         Ok(store) => Ok(store),
@@ -60,10 +64,7 @@ pub fn make_over<D: SectorDevice + Drop>(device: D, blocks: u16) -> Result<Store
 /// Makes a device an image of blank blocks, of layout 3. A failure hands the device back: `BadSize` where it hasn't
 /// `32 + 16 * blocks` sectors, for 32 to 3,840 blocks, else `Device` where a call of it failed.
 /// Rule: IMAGE, Layout 3, A format.
-pub fn make_newer_over<D: SectorDevice + Drop>(
-    device: D,
-    blocks: u16,
-) -> Result<Store<D>, (Failure, D)>
+pub fn make_newer_over<D: SectorDevice>(device: D, blocks: u16) -> Result<Store<D>, (Failure, D)>
     ensures made { IfOk result (λ store. MakesNewer D.SectorDevice blocks device (device_of store)) }
     ensures stands { IsTrue (D.keeps_model device) → IfOk result (λ store. StandsFor store (fresh (blank_blocks blocks))) }
     // Ok only where no call failed.
@@ -71,6 +72,9 @@ pub fn make_newer_over<D: SectorDevice + Drop>(
     ensures refusal { IfErr result (λ e. MatchBool (newer_label.is_size_for blocks (D.sector_count device))
         (e.0 ≡ Failure.Device) (e.0 ≡ Failure.BadSize)) }
     ensures device { IfErr result (λ e. e.0 ≡ Failure.Device → D.failures e.1 ≡ count_up (D.failures device)) }
+    // Where it failed, a stop at any moment leaves no image, or the whole one, or what could be left before.
+    ensures failed { newer_label.is_size_for blocks (D.sector_count device) ≡ true
+        → IfErr result (λ e. NewerMakingFails D.SectorDevice blocks e.0 device e.1) }
 {
     match shadow::format(device, blocks) {
         Ok(store) => Ok(store),
@@ -82,7 +86,7 @@ pub fn make_newer_over<D: SectorDevice + Drop>(
 /// `NoLabel`, `OtherVersion`, `WrongCount` or `Damaged`, the first that holds of the image, or `Device` where a call of
 /// it failed.
 /// Rule: IMAGE, A recovery; IMAGE, Layout 3, An opening.
-pub fn open_over<D: SectorDevice + Drop>(device: D) -> Result<Store<D>, (Failure, D)>
+pub fn open_over<D: SectorDevice>(device: D) -> Result<Store<D>, (Failure, D)>
     ensures opened { IfOk result (λ store. OpensAs D.SectorDevice device store) }
     // Ok only where no call failed.
     ensures well { IfOk result (λ store. D.failures (device_of store) ≡ D.failures device) }
@@ -98,31 +102,15 @@ pub fn open_over<D: SectorDevice + Drop>(device: D) -> Result<Store<D>, (Failure
     ensures refused { IfErr result (λ e. e.0 ≢ Failure.Device → D.failures e.1 ≡ D.failures device) }
     // No session has begun that could stop.
     ensures unstopped { IfErr result (λ e. e.0 ≢ Failure.Stopped) }
+    // Where it is refused or fails, a stop at any moment leaves what one of a recovery may leave.
+    ensures kept { IfErr result (λ e. RefusesImage D.SectorDevice e.0 device e.1) }
+    // Once it is opened, a stop leaves the blocks that the image meant.
+    ensures same { IsTrue (suits D.SectorDevice device)
+        → IfOk result (λ store. LeavesBlocks D.SectorDevice (device_of store) (meant_by D.SectorDevice device)) }
 {
     match open(device) {
         Ok(store) => Ok(store),
         Err((fault, device)) => Err((Failure::from(fault), device)),
-    }
-}
-
-/// Prints a block of the image on a device. Nothing is written to it, but by its recovery. Its failures: those of
-/// `open_over`, then those of `list_block`.
-/// Rule: MANUAL, forth83 list IMAGE BLOCK.
-pub fn list_over<D: SectorDevice + Drop, W: Write>(
-    device: D,
-    block: u16,
-    output: &mut W,
-) -> Result<Store<D>, Failure>
-    ensures listed { IfOk result (λ store. ListsBlock D.SectorDevice block (W.contents output.old) (W.contents output.new)
-        device (device_of store)) }
-{
-    let mut store = match open_over(device) {
-        Ok(store) => store,
-        Err((failure, _)) => return Err(failure),
-    };
-    match list_block(&mut store, block, output) {
-        Ok(()) => Ok(store),
-        Err(failure) => Err(failure),
     }
 }
 
@@ -145,6 +133,7 @@ pub fn list_block<D: SectorDevice, W: Write>(
     ensures continues { Continues store.old store.new }
     ensures begins { DeviceBegins store.old store.new 0 0 }
     ensures reads { DeviceReads store.old store.new 2 }
+    ensures unstopped { IfErr result (λ e. e ≢ Failure.Stopped) }
 {
     if block >= store.blocks() {
         return Err(Failure::NoBlock);
@@ -194,6 +183,7 @@ pub fn put_text<D: SectorDevice, R: Read>(
     ensures reads { DeviceReads store.old store.new (4 * pending_count store.old + 4) }
     ensures device { IfErr result (λ e. e ≡ Failure.Device
         → (closed_of store.old ≡ true) ⊎ DeviceFailed store.old store.new) }
+    ensures unstopped { IfErr result (λ e. e ≢ Failure.Stopped) }
 {
     match read_text(text) {
         Ok(text) => match screen_of(text.as_slice()) {

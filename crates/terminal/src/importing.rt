@@ -42,7 +42,11 @@ pub fn import_files<D: SectorDevice, E: Write>(
     ensures unread { IfErr result (λ e. e ≢ Failure.Device → store.new ≡ store.old) }
     ensures device { IfErr result (λ e. e ≡ Failure.Device
         → (closed_of store.old ≡ true) ⊎ DeviceFailed store.old store.new) }
+    // Whatever the answer is, no more is written and read than for all blocks from `first` on.
+    ensures begins { DeviceBegins store.old store.new (2 * pending_count store.old + 4 * (blocks_of store.old - first) + 3) 4 }
+    ensures reads { DeviceReads store.old store.new (4 * pending_count store.old + 4 * (blocks_of store.old - first)) }
     ensures continues { Continues store.old store.new }
+    ensures unstopped { IfErr result (λ e. e ≢ Failure.Stopped) }
 {
     match read_blocks(rt, store.blocks(), first, paths, form, false, errors) {
         Ok(bytes) => import_bytes(store, first, bytes.as_slice()),
@@ -68,6 +72,7 @@ pub fn read_blocks<E: Write>(
     ensures below { OnOk result (first < blocks) }
     ensures there { IfOk result (λ bytes. first + blocks_for (length bytes.items) ≤ blocks) }
     ensures only { IfErr result (λ e. e ≢ Failure.Device) }
+    ensures unstopped { IfErr result (λ e. e ≢ Failure.Stopped) }
 {
     if first >= blocks {
         return Err(Failure::NoBlock);
@@ -92,6 +97,7 @@ fn add_files<E: Write>(
     ensures added { OnOk result ((files : List (List ℕ)) × (length files ≡ length paths.now)
         × AreSound form room files × (bytes.new.items ≡ bytes.old.items ++ said_all form files)) }
     ensures only { IfErr result (λ e. e ≢ Failure.Device) }
+    ensures unstopped { IfErr result (λ e. e ≢ Failure.Stopped) }
 {
     let mut left = room;
     let mut rest = paths;
@@ -115,6 +121,7 @@ fn add_file<E: Write>(
     ensures added { IfOk result (λ left. (file : List ℕ) × (refusal (told form room file) ≡ None)
         × (left ≡ room - blocks_for (length (said form file))) × (bytes.new.items ≡ bytes.old.items ++ in_blocks (said form file))) }
     ensures only { IfErr result (λ e. e ≢ Failure.Device) }
+    ensures unstopped { IfErr result (λ e. e ≢ Failure.Stopped) }
 {
     let said = read_file(rt, room, path, form, all, errors)?;
     match add_in_blocks(bytes, said.as_slice()) {
@@ -145,6 +152,7 @@ fn read_file<E: Write>(
         × (bytes.items ≡ said form file)) }
     ensures there { IfOk result (λ bytes. blocks_for (length bytes.items) ≤ room) }
     ensures only { IfErr result (λ e. e ≢ Failure.Device) }
+    ensures unstopped { IfErr result (λ e. e ≢ Failure.Stopped) }
 {
     let file = File::open(rt, path).map_err(|_| Failure::CannotRead)?;
     let mut reader = BufReader::new(rt.alloc(), file).map_err(|_| Failure::NoMemory)?;
@@ -214,6 +222,8 @@ fn import_bytes<D: SectorDevice>(
         ⊎ MeansBy store.old (latest (spilled_from m first (as_blocks bytes.now))) image) }
     ensures only { IfErr result (λ e. e ≡ Failure.Device) }
     ensures device { IfErr result (λ e. (closed_of store.old ≡ true) ⊎ DeviceFailed store.old store.new) }
+    ensures begins { DeviceBegins store.old store.new (2 * pending_count store.old + 4 * blocks_for (length bytes.now) + 3) 4 }
+    ensures reads { DeviceReads store.old store.new (4 * pending_count store.old + 4 * blocks_for (length bytes.now)) }
     ensures continues { Continues store.old store.new }
 {
     spill_blocks(store, first, bytes)?;
@@ -234,6 +244,8 @@ fn spill_blocks<D: SectorDevice>(
     ensures stops { KeepsSaved store.old store.new }
     ensures only { IfErr result (λ e. e ≡ Failure.Device) }
     ensures device { IfErr result (λ e. (closed_of store.old ≡ true) ⊎ DeviceFailed store.old store.new) }
+    ensures begins { DeviceBegins store.old store.new (2 * blocks_for (length bytes.now)) 0 }
+    ensures reads { DeviceReads store.old store.new 0 }
     ensures continues { Continues store.old store.new }
 {
     let mut left = bytes;

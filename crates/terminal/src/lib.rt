@@ -4,6 +4,7 @@
 pub use command_line::{order, orders};
 pub use failure::Failure;
 pub use input::{Input, Led};
+pub use left::Left;
 pub use program::{command, command_over};
 pub use starting::start;
 
@@ -24,11 +25,12 @@ mod hints;
 mod images;
 mod importing;
 mod input;
-mod layouts;
-mod newer_copying;
-mod newer_salvaging;
-mod newer_upgrading;
+pub mod laws;
+mod layout_3_upgrading;
+mod left;
+mod over_devices;
 mod program;
+mod salvaging;
 mod screen;
 mod scripts;
 mod showing;

@@ -9,19 +9,20 @@ ghost use Rattle.interpreter.specs.State.{Forth as Abstract};
 ghost use Rattle.interpreter.specs.Lines.{new_forth};
 ghost use Rattle.sessions.specs.declared.run_fault.RunFault.{RunFault as AbstractFault};
 ghost use Rattle.command_line.specs.Commands.{IsInRange, forth83};
-ghost use Rattle.terminal.specs.OrderDone.{IsDone, IsStopped, OrderIsDone, OrderIsStopped};
+ghost use Rattle.terminal.specs.OrderDone.{IsDone, IsFailed, IsStopped, KeepsStreams, NotOrdered, OrderIsDone, OrderIsFailed, OrderIsStopped};
 ghost use Rattle.terminal.specs.Done.{DoneOn, RunsFrom};
+ghost use Rattle.terminal.specs.Failed.{NewFailed, ScriptFailed, UpgradeFailed};
 ghost use Rattle.sessions.specs.Devices.{Becomes};
 ghost use Rattle.terminal.specs.Failures.{status_of};
-ghost use Rattle.terminal.specs.Files.{IsMade, IsOpened};
-ghost use Rattle.terminal.specs.Newer.{NewDone, UpgradeDone};
+ghost use Rattle.terminal.specs.Files.{IsMade, IsOpened, IsUnfinished};
+ghost use Rattle.terminal.specs.Layout3.{NewDone, UpgradeDone};
 ghost use Rattle.terminal.specs.Scripts.{RunsScript, StopsScript, is_plain};
-ghost use Rattle.terminal.specs.InMemory.{AsksForNothing, IsForMemory, CompletesInMemory, BreaksInMemory, IsHelp};
+ghost use Rattle.terminal.specs.InMemory.{AsksForHelp, AsksForNothing, BreaksInMemory, CompletesInMemory, EndsHelp, IsForMemory, IsHelp};
 ghost use Rattle.sessions.specs.Sessions.{BreaksOff};
 
 use super::checking::check_image;
 use super::comparing::compare_images;
-use super::copying::{copy_image, salvage_image};
+use super::copying::copy_image;
 use super::digests::digest_image;
 use super::ending::conclude;
 use super::exporting_images::export_image;
@@ -30,7 +31,9 @@ use super::files::{
     check_import, import_image, make_image, make_newer_image, put_into_image, upgrade_image,
 };
 use super::input::Input;
-use super::newer_upgrading::upgrade_to_newer;
+use super::layout_3_upgrading::upgrade_to_newer;
+use super::left::Left;
+use super::salvaging::salvage_image;
 use super::scripts::run_image;
 use super::showing::list_image;
 use clap::Error;
@@ -76,18 +79,20 @@ pub fn command<F: Lines<FileDisk>, M: Lines<MemoryDisk>, S: AsStr, R: Input, W: 
     let files = StdFiles::new(rt);
     let looking = ReadingFiles::with_copies(rt);
     let alone = ReadingFiles::new(rt);
-    command_over::<_, _, _, _, F, M, S, R, W, E>(
+    let (_, status) = command_over::<_, _, _, _, F, M, S, R, W, E>(
         rt, &files, &looking, &alone, words, input, output, errors,
-    )
+    );
+    status
 }
 
 /// Does what the words ask for, and answers the exit status, as `command`, over the images of any system of files, and
 /// of two for those that are read alone: `looking` may give what another program has open for writing, and `alone` is
-/// for a salvage, which is to have no such image. The text for `put` is a file of this one.
+/// for a salvage, which is to have no such image. The text for `put` is a file of this one. The files of images that
+/// were opened or made are given back as they are then.
 pub fn command_over<
-    H: HostFile + Drop,
+    H: HostFile,
     O: HostFiles<H>,
-    K: HostFile + Drop,
+    K: HostFile,
     P: HostFiles<K>,
     F: Lines<SectorFile<H>>,
     M: Lines<MemoryDisk>,
@@ -104,40 +109,58 @@ pub fn command_over<
     input: &mut R,
     output: &mut W,
     errors: &mut E,
-) -> u8
-    ensures well { AsksForNothing (map S.text words.now) → result ≡ 0 → CompletesInMemory ⟦<MemoryDisk as SectorDevice>⟧
+) -> (Left<SectorFile<H>, SectorFile<K>>, u8)
+    ensures well { AsksForNothing (map S.text words.now) → result.1 ≡ 0 → CompletesInMemory ⟦<MemoryDisk as SectorDevice>⟧
         (R.remaining input.old) (R.remaining input.new) (W.contents output.old) (W.contents output.new) }
-    ensures broken { AsksForNothing (map S.text words.now) → result ≡ 4 → BreaksInMemory ⟦<MemoryDisk as SectorDevice>⟧
+    ensures broken { AsksForNothing (map S.text words.now) → result.1 ≡ 4 → BreaksInMemory ⟦<MemoryDisk as SectorDevice>⟧
         (R.remaining input.old) (R.remaining input.new) (W.contents output.old) (W.contents output.new) }
-    // Of words that are refused nothing, status 0 comes only where what they order was done: a command over an image on the
-    // file that the system opened, or made, under that name.
-    ensures done { fault_of forth83 (map S.text words.now) ≡ [] → result ≡ 0
+    // Of words that are refused nothing, status 0 comes only where what they order was done: what is given back are the files
+    // that the system opened, or made, under those names, and what was done is told of them as they are.
+    ensures done { fault_of forth83 (map S.text words.now) ≡ [] → result.1 ≡ 0
         → OrderIsDone ⟦<SectorFile<H> as SectorDevice>⟧ ⟦<SectorFile<K> as SectorDevice>⟧ (map S.text words.now)
         (λ path. IsOpened H.HostFile (O.opens files.now path)) (λ path. IsMade H.HostFile (O.makes files.now path))
         (λ path. IsOpened K.HostFile (P.opens looking.now path)) (λ path. IsOpened K.HostFile (P.opens alone.now path))
-        (R.remaining input.old) (R.remaining input.new) (W.contents output.old) (W.contents output.new) }
-    // Status 1 comes of `run` only where its script is strict: behind the first line that a fault ended.
-    ensures stopped { fault_of forth83 (map S.text words.now) ≡ [] → result ≡ 1
+        (R.remaining input.old) (R.remaining input.new) (W.contents output.old) (W.contents output.new) result.0 }
+    // Status 1 comes of `run` alone, and only where its script is strict: behind the first line that a fault ended.
+    ensures stopped { fault_of forth83 (map S.text words.now) ≡ [] → result.1 ≡ 1
         → OrderIsStopped ⟦<SectorFile<H> as SectorDevice>⟧ (map S.text words.now)
         (λ path. IsOpened H.HostFile (O.opens files.now path))
-        (R.remaining input.old) (R.remaining input.new) (W.contents output.old) (W.contents output.new) }
+        (R.remaining input.old) (R.remaining input.new) (W.contents output.old) (W.contents output.new) result.0 }
+    // At any other status what is told of the files is what the order leaves where it failed so, or there was no memory for it.
+    ensures failed { fault_of forth83 (map S.text words.now) ≡ [] → result.1 ≢ 0 → NotOrdered
+        (R.remaining input.old) (R.remaining input.new) (W.contents output.old) (W.contents output.new) result.1 result.0
+        ⊎ OrderIsFailed ⟦<SectorFile<H> as SectorDevice>⟧ ⟦<SectorFile<K> as SectorDevice>⟧ (map S.text words.now)
+        (λ path. IsOpened H.HostFile (O.opens files.now path)) (λ path. IsMade H.HostFile (O.makes files.now path))
+        (λ path. IsUnfinished H.HostFile (O.makes files.now path))
+        (λ path. IsOpened K.HostFile (P.opens looking.now path)) (λ path. IsOpened K.HostFile (P.opens alone.now path))
+        (R.remaining input.old) (R.remaining input.new) (W.contents output.old) (W.contents output.new) result.1 result.0 }
+    // Words that are refused open and make nothing.
+    ensures unasked { fault_of forth83 (map S.text words.now) ≢ [] → result.0 ≡ Left.Nothing }
+    // Their status is 2, or 5 where there was no memory; or help was asked for, and it was shown or couldn't be.
+    ensures refused { fault_of forth83 (map S.text words.now) ≢ [] → (result.1 ≡ 2) ⊎ (result.1 ≡ 5)
+        ⊎ (AsksForHelp (fault_of forth83 (map S.text words.now)) × EndsHelp result.1) }
+    // They read nothing, and print nothing where help wasn't asked for.
+    ensures unread { fault_of forth83 (map S.text words.now) ≢ [] → R.remaining input.new ≡ R.remaining input.old }
+    ensures unwritten { fault_of forth83 (map S.text words.now) ≢ []
+        → AsksForHelp (fault_of forth83 (map S.text words.now)) ⊎ (W.contents output.new ≡ W.contents output.old) }
 {
     match order(rt.alloc(), words) {
         Ok(asked) => {
-            let outcome = perform::<H, O, K, P, F, M, R, W, E>(
+            let (left, outcome) = perform::<H, O, K, P, F, M, R, W, E>(
                 rt, files, looking, alone, asked, input, output, errors,
             );
-            told(outcome, errors)
+            (left, told(outcome, errors))
         }
-        Err(error) => explain(&error, output, errors),
+        Err(error) => (Left::Nothing, explain(&error, output, errors)),
     }
 }
 
-/// Does what is asked. What is told of a file that is to be imported goes to `errors`.
+/// Does what is asked, and gives the files back that were opened or made. What is told of files that are to be imported
+/// goes to `errors`.
 fn perform<
-    H: HostFile + Drop,
+    H: HostFile,
     O: HostFiles<H>,
-    K: HostFile + Drop,
+    K: HostFile,
     P: HostFiles<K>,
     F: Lines<SectorFile<H>>,
     M: Lines<MemoryDisk>,
@@ -153,85 +176,62 @@ fn perform<
     input: &mut R,
     output: &mut W,
     errors: &mut E,
-) -> Result<(), Failure>
+) -> (Left<SectorFile<H>, SectorFile<K>>, Result<(), Failure>)
     requires { IsInRange asked }
-    ensures well { IsForMemory asked.entry → OnOk result (CompletesInMemory ⟦<MemoryDisk as SectorDevice>⟧
+    ensures well { IsForMemory asked.entry → OnOk result.1 (CompletesInMemory ⟦<MemoryDisk as SectorDevice>⟧
         (R.remaining input.old) (R.remaining input.new) (W.contents output.old) (W.contents output.new)) }
     ensures broken { IsForMemory asked.entry
-        → IfErr result (λ e. e ≢ Failure.NoMemory → BreaksInMemory ⟦<MemoryDisk as SectorDevice>⟧
+        → IfErr result.1 (λ e. e ≢ Failure.NoMemory → BreaksInMemory ⟦<MemoryDisk as SectorDevice>⟧
         (R.remaining input.old) (R.remaining input.new) (W.contents output.old) (W.contents output.new)) }
-    ensures done { OnOk result (IsDone ⟦<SectorFile<H> as SectorDevice>⟧ ⟦<SectorFile<K> as SectorDevice>⟧
+    ensures done { OnOk result.1 (IsDone ⟦<SectorFile<H> as SectorDevice>⟧ ⟦<SectorFile<K> as SectorDevice>⟧
         (λ path. IsOpened H.HostFile (O.opens files.now path)) (λ path. IsMade H.HostFile (O.makes files.now path))
         (λ path. IsOpened K.HostFile (P.opens looking.now path)) (λ path. IsOpened K.HostFile (P.opens alone.now path)) asked.entry
-        (R.remaining input.old) (R.remaining input.new) (W.contents output.old) (W.contents output.new)) }
-    ensures stopped { IsErrOf result Failure.Stopped → IsStopped ⟦<SectorFile<H> as SectorDevice>⟧
+        (R.remaining input.old) (R.remaining input.new) (W.contents output.old) (W.contents output.new) result.0) }
+    ensures stopped { IsErrOf result.1 Failure.Stopped → IsStopped ⟦<SectorFile<H> as SectorDevice>⟧
         (λ path. IsOpened H.HostFile (O.opens files.now path)) asked.entry
+        (R.remaining input.old) (R.remaining input.new) (W.contents output.old) (W.contents output.new) result.0 }
+    ensures failed { IfErr result.1 (λ failure. IsFailed ⟦<SectorFile<H> as SectorDevice>⟧ ⟦<SectorFile<K> as SectorDevice>⟧
+        (λ path. IsOpened H.HostFile (O.opens files.now path)) (λ path. IsMade H.HostFile (O.makes files.now path))
+        (λ path. IsUnfinished H.HostFile (O.makes files.now path))
+        (λ path. IsOpened K.HostFile (P.opens looking.now path)) (λ path. IsOpened K.HostFile (P.opens alone.now path)) asked.entry
+        (R.remaining input.old) (R.remaining input.new) (W.contents output.old) (W.contents output.new) failure result.0) }
+    ensures streams { KeepsStreams asked.entry
         (R.remaining input.old) (R.remaining input.new) (W.contents output.old) (W.contents output.new) }
 {
     match asked {
-        Order::Memory => run_in_memory::<M, R, W, Untraced>(rt, input, output, &mut Untraced),
-        Order::New(path, blocks, layout) => make_by::<H, O>(files, path, blocks, layout),
-        Order::Run(path, steps, script) => run_by::<H, O, F, R, W, E>(
+        Order::Memory => (
+            Left::Nothing,
+            run_in_memory::<M, R, W, Untraced>(rt, input, output, &mut Untraced),
+        ),
+        Order::New(path, blocks, layout) => make_by(files, path, blocks, layout),
+        Order::Run(path, steps, script) => run_by::<H, O, F, R, W, E, SectorFile<K>>(
             rt, files, path, steps, &script, input, output, errors,
         ),
-        Order::List(path, block) => {
-            list_image::<H, O, K, P, W>(files, looking, path, block, output)
+        Order::List(path, block) => list_image(files, looking, path, block, output),
+        Order::Put(path, block, text) => put_into_image(rt, files, path, block, text),
+        Order::Export(path, first, last, form) => {
+            export_image(files, looking, path, first, last, form, output)
         }
-        Order::Put(path, block, text) => {
-            closed(put_into_image::<H, O>(rt, files, path, block, text))
+        Order::Import(path, first, sources, form) => {
+            import_image(rt, files, path, first, sources.as_slice(), form, errors)
         }
-        Order::Export(path, first, last, form) => export_image::<H, O, K, P, W>(
-            files, looking, path, first, last, form, output,
-        ),
-        Order::Import(path, first, sources, form) => closed(import_image::<H, O, E>(
-            rt,
-            files,
-            path,
-            first,
-            sources.as_slice(),
-            form,
-            errors,
-        )),
-        Order::CheckImport(path, first, sources, form) => closed(check_import::<H, O, E>(
-            rt,
-            files,
-            path,
-            first,
-            sources.as_slice(),
-            form,
-            errors,
-        )),
-        Order::Check(path) => closed(check_image::<K, P, W>(rt.alloc(), looking, path, output)),
-        Order::Digests(path) => closed(digest_image::<K, P, W>(rt.alloc(), looking, path, output)),
-        Order::Diff(old, new) => {
-            closed(compare_images::<K, P, W>(rt.alloc(), looking, old, new, output))
+        Order::CheckImport(path, first, sources, form) => {
+            check_import(rt, files, path, first, sources.as_slice(), form, errors)
         }
-        Order::Upgrade(old, new, layout) => upgrade_by::<H, O>(files, old, new, layout),
-        Order::Copy(old, new, asked) => {
-            closed(copy_image::<K, P, H, O>(looking, files, old, new, asked))
+        Order::Check(path) => check_image(rt.alloc(), looking, path, output),
+        Order::Digests(path) => digest_image(rt.alloc(), looking, path, output),
+        Order::Diff(old, new) => compare_images(rt.alloc(), looking, old, new, output),
+        Order::Upgrade(old, new, layout) => upgrade_by(files, old, new, layout),
+        Order::Copy(old, new, asked) => copy_image(looking, files, old, new, asked),
+        Order::Salvage(old, new, asked) => {
+            salvage_image(rt.alloc(), alone, files, old, new, asked, output)
         }
-        Order::Salvage(old, new, asked) => closed(salvage_image::<K, P, H, O, W>(
-            rt.alloc(),
-            alone,
-            files,
-            old,
-            new,
-            asked,
-            output,
-        )),
     }
 }
 
 /// Runs lines over an image. It tells of their faults where that is asked for, and at the end of changed blocks that
 /// were not saved, but nothing of the input alone.
-fn run_by<
-    H: HostFile + Drop,
-    O: HostFiles<H>,
-    F: Lines<SectorFile<H>>,
-    R: Input,
-    W: Write,
-    E: Write,
->(
+fn run_by<H: HostFile, O: HostFiles<H>, F: Lines<SectorFile<H>>, R: Input, W: Write, E: Write, K>(
     rt: &(impl Files<File = File> + AllocGlobal),
     files: &O,
     path: &str,
@@ -240,19 +240,22 @@ fn run_by<
     input: &mut R,
     output: &mut W,
     errors: &mut E,
-) -> Result<(), Failure>
+) -> (Left<SectorFile<H>, K>, Result<(), Failure>)
     requires { 0 < steps }
-    ensures done { OnOk result (DoneOn ⟦<SectorFile<H> as SectorDevice>⟧ (IsOpened H.HostFile (O.opens files.now path.now))
+    ensures done { OnOk result.1 (DoneOn ⟦<SectorFile<H> as SectorDevice>⟧ Left.Opened (IsOpened H.HostFile (O.opens files.now path.now))
         (RunsScript ⟦<SectorFile<H> as SectorDevice>⟧ steps script.now (R.remaining input.old) (R.remaining input.new)
-        (W.contents output.old) (W.contents output.new))) }
-    ensures stopped { IsErrOf result Failure.Stopped → DoneOn ⟦<SectorFile<H> as SectorDevice>⟧
+        (W.contents output.old) (W.contents output.new)) result.0) }
+    ensures stopped { IsErrOf result.1 Failure.Stopped → DoneOn ⟦<SectorFile<H> as SectorDevice>⟧ Left.Opened
         (IsOpened H.HostFile (O.opens files.now path.now))
         (StopsScript ⟦<SectorFile<H> as SectorDevice>⟧ steps script.now (R.remaining input.old) (R.remaining input.new)
-        (W.contents output.old) (W.contents output.new)) }
+        (W.contents output.old) (W.contents output.new)) result.0 }
+    ensures failed { IfErr result.1 (λ failure. ScriptFailed ⟦<SectorFile<H> as SectorDevice>⟧
+        (IsOpened H.HostFile (O.opens files.now path.now)) steps script.now (R.remaining input.old) (R.remaining input.new)
+        (W.contents output.old) (W.contents output.new) failure result.0) }
     ensures silent { is_plain script.now ≡ true → errors.new ≡ errors.old }
 {
     if script.is_traced {
-        let session = run_image::<H, O, F, R, W, Traces<'_, E>>(
+        let (left, session) = run_image::<H, O, F, R, W, Traces<'_, E>, K>(
             rt,
             files,
             path,
@@ -262,9 +265,10 @@ fn run_by<
             output,
             &mut Traces::from_line(errors, script.first_line()),
         );
-        conclude(session, script, errors)
+        let (outcome, _) = conclude(session, script, errors);
+        (left, outcome)
     } else {
-        let session = run_image::<H, O, F, R, W, Untraced>(
+        let (left, session) = run_image::<H, O, F, R, W, Untraced, K>(
             rt,
             files,
             path,
@@ -274,46 +278,55 @@ fn run_by<
             output,
             &mut Untraced,
         );
-        conclude(session, script, errors)
+        let (outcome, _) = conclude(session, script, errors);
+        (left, outcome)
     }
 }
 
 /// Makes an image of blank blocks, by a layout.
-fn make_by<H: HostFile + Drop, O: HostFiles<H>>(
+fn make_by<H: HostFile, O: HostFiles<H>, E>(
     files: &O,
     path: &str,
     blocks: u16,
     layout: Layout,
-) -> Result<(), Failure>
+) -> (Left<SectorFile<H>, E>, Result<(), Failure>)
     requires many { 32 ≤ blocks }
     requires few { blocks ≤ 3840 }
-    ensures { OnOk result (NewDone ⟦<SectorFile<H> as SectorDevice>⟧
-        (IsMade H.HostFile (O.makes files.now path.now)) blocks layout) }
+    ensures made { OnOk result.1 (NewDone ⟦<SectorFile<H> as SectorDevice>⟧
+        (IsMade H.HostFile (O.makes files.now path.now)) blocks layout result.0) }
+    ensures failed { IfErr result.1 (λ failure. NewFailed ⟦<SectorFile<H> as SectorDevice>⟧
+        (IsMade H.HostFile (O.makes files.now path.now)) (IsUnfinished H.HostFile (O.makes files.now path.now))
+        blocks layout failure result.0) }
+    ensures unstopped { IfErr result.1 (λ e. e ≢ Failure.Stopped) }
 {
     match layout {
-        Layout::Two => closed(make_image::<H, O>(files, path, blocks)),
-        Layout::Three => closed(make_newer_image::<H, O>(files, path, blocks)),
+        Layout::Two => make_image(files, path, blocks),
+        Layout::Three => make_newer_image(files, path, blocks),
     }
 }
 
 /// Makes an image of the blocks of an older one, by a layout.
-fn upgrade_by<H: HostFile + Drop, O: HostFiles<H>>(
+fn upgrade_by<H: HostFile, O: HostFiles<H>, E>(
     files: &O,
     old: &str,
     new: &str,
     layout: Layout,
-) -> Result<(), Failure>
-    ensures { OnOk result (UpgradeDone ⟦<SectorFile<H> as SectorDevice>⟧
-        (IsOpened H.HostFile (O.opens files.now old.now)) (IsMade H.HostFile (O.makes files.now new.now)) layout) }
+) -> (Left<SectorFile<H>, E>, Result<(), Failure>)
+    ensures made { OnOk result.1 (UpgradeDone ⟦<SectorFile<H> as SectorDevice>⟧
+        (IsOpened H.HostFile (O.opens files.now old.now)) (IsMade H.HostFile (O.makes files.now new.now)) layout result.0) }
+    ensures failed { IfErr result.1 (λ failure. UpgradeFailed ⟦<SectorFile<H> as SectorDevice>⟧
+        (IsOpened H.HostFile (O.opens files.now old.now)) (IsMade H.HostFile (O.makes files.now new.now))
+        (IsUnfinished H.HostFile (O.makes files.now new.now)) layout failure result.0) }
+    ensures unstopped { IfErr result.1 (λ e. e ≢ Failure.Stopped) }
 {
     match layout {
-        Layout::Two => closed(upgrade_image::<H, O>(files, old, new)),
-        Layout::Three => closed(upgrade_to_newer::<H, O>(files, old, new)),
+        Layout::Two => upgrade_image(files, old, new),
+        Layout::Three => upgrade_to_newer(files, old, new),
     }
 }
 
-/// Closes what a command gave back.
-pub(super) fn closed<T: Drop>(outcome: Result<T, Failure>) -> Result<(), Failure>
+/// Closes what a session gave back.
+fn closed<T: Drop>(outcome: Result<T, Failure>) -> Result<(), Failure>
     ensures { MatchResult outcome (λ _. IsOk result) (λ failure. result ≡ Err failure) }
 {
     match outcome {
@@ -351,6 +364,7 @@ fn run_in_memory<M: Lines<MemoryDisk>, R: Read, W: Write, T: Tracer>(
         (R.remaining input.old) (R.remaining input.new) (W.contents output.old) (W.contents output.new)) }
     ensures broken { IfErr result (λ e. e ≢ Failure.NoMemory → BreaksInMemory ⟦<MemoryDisk as SectorDevice>⟧
         (R.remaining input.old) (R.remaining input.new) (W.contents output.old) (W.contents output.new)) }
+    ensures unstopped { IfErr result (λ e. e ≢ Failure.Stopped) }
 {
     match MemoryDisk::new(rt.alloc(), 3 + 4 * BLOCKS as u32) {
         Ok(disk) => match format(disk, BLOCKS) {
@@ -389,6 +403,7 @@ pub(crate) fn run_session<D: SectorDevice + Drop, F: Lines<D>, R: Read, W: Write
     // Memory is refused before the session begins.
     ensures unread { IsErrOf result Failure.NoMemory → input.new ≡ input.old }
     ensures unwritten { IsErrOf result Failure.NoMemory → output.new ≡ output.old }
+    ensures unstopped { IfErr result (λ e. e ≢ Failure.Stopped) }
 {
     let Ok(memory) = Memory::new(alloc) else {
         return Err(Failure::NoMemory);
@@ -423,7 +438,9 @@ fn told<E: Write>(outcome: Result<(), Failure>, errors: &mut E) -> u8
 fn explain<W: Write, E: Write>(error: &Error, output: &mut W, errors: &mut E) -> u8
     ensures shown { result ≡ 0 → IsHelp (kind_of error.now) }
     ensures unshown { result ≡ 4 → IsHelp (kind_of error.now) }
-    ensures refused { (result ≡ 2) ⊎ (result ≡ 5) ⊎ IsHelp (kind_of error.now) }
+    ensures refused { (result ≡ 2) ⊎ (result ≡ 5) ⊎ (IsHelp (kind_of error.now) × EndsHelp result) }
+    ensures memory { kind_of error.now ≡ ErrorKind.OutOfMemory → result ≡ 5 }
+    ensures unwritten { IsHelp (kind_of error.now) ⊎ (output.new ≡ output.old) }
     ensures unstopped { result ≢ 1 }
 {
     match error.kind() {

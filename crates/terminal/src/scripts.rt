@@ -1,6 +1,6 @@
 //! Sessions over an image: of the input, or of files, and behind a block that is loaded.
 //! Rule: MANUAL, forth83 run IMAGE [FILE ..].
-ghost use Rattle.std.specs.Prelude.{◌≡◌, ◌≢◌, ◌⊎◌, ◌<◌, ◌≤◌, ◌++◌, ℕ, List, length, true, IfErr, IfOk, OnOk};
+ghost use Rattle.std.specs.Prelude.{◌≡◌, ◌≢◌, ◌⊎◌, ◌<◌, ◌++◌, ℕ, List, length, true, IfErr, IfOk, OnOk};
 ghost use Rattle.std.specs.Io.BufRead.{strip_last};
 ghost use Rattle.std.specs.List.{flat_map};
 ghost use Rattle.journal.specs.Maps.{Maps};
@@ -8,37 +8,42 @@ ghost use Rattle.journal.specs.Store.{StandsFor, device_of};
 ghost use Rattle.interpreter.specs.Lines.{new_forth};
 ghost use Rattle.sessions.specs.Devices.{Becomes};
 ghost use Rattle.sessions.specs.OverStore.{RunsOverBy};
-ghost use Rattle.terminal.specs.Done.{Comes};
+ghost use Rattle.terminal.specs.Done.{DoneOn};
+ghost use Rattle.terminal.specs.Failed.{FailsAfter, FailsOn, NotBegun, ScriptUnbegun};
 ghost use Rattle.terminal.specs.Files.{IsOpened};
-ghost use Rattle.terminal.specs.Scripts.{EndsScript, IsLed, lined, load_line};
+ghost use Rattle.terminal.specs.Scripts.{EndsScript, EndsSession, IsLed, lined, load_line};
 
 use super::ending::Ended;
 use super::failure::Failure;
-use super::files::open_image;
+use super::files::opened;
 use super::importing::{MOST_BYTES, read_all};
 use super::input::Input;
+use super::left::Left;
+use super::over_devices::run_over;
 use command_line::orders::Script;
 use interpreter::Memory;
 use interpreter::promise::Lines;
-use sector_disk::{HostFile, HostFiles, SectorDevice, SectorFile};
+use sector_disk::{HostFile, HostFiles, SectorDevice, SectorFile, open_disk};
 use sessions::{RunEnd, Tracer, run_over_until};
 use std::alloc::{AllocError, Global};
 use std::fs::{File, Files};
-use std::io::{BufReader, Write};
+use std::io::{BufReader, Read, Write};
 use stores::Store;
 
 /// Runs lines over an image, with at most `steps` steps a line, 1 or more: those of the files of the script, or of the
 /// input where it has none; before them its block is loaded. A fault ends the session only where the script is strict.
 /// Its failures, where no session begins: `CannotRead` where a file can't be read or has more bytes than the text of an
-/// image may have, and `NoMemory`, where nothing was opened; those of `open_image`; `NoMemory`.
+/// image may have, and `NoMemory`, where nothing was opened, read or printed; then `CannotOpen` or `InUse` where the
+/// image's file can't be opened for reading and writing, and those of `run_over`.
 /// Rule: MANUAL, forth83 run IMAGE [FILE ..].
 pub fn run_image<
-    H: HostFile + Drop,
+    H: HostFile,
     O: HostFiles<H>,
     F: Lines<SectorFile<H>>,
     R: Input,
     W: Write,
     T: Tracer,
+    E,
 >(
     rt: &(impl Files<File = File> + AllocGlobal),
     files: &O,
@@ -48,31 +53,69 @@ pub fn run_image<
     input: &mut R,
     output: &mut W,
     tracer: &mut T,
-) -> Result<Ended<Store<SectorFile<H>>>, Failure>
+) -> (Left<SectorFile<H>, E>, Result<Ended, Failure>)
     requires { 0 < steps }
     // How it ended, and whether blocks were changed and not saved.
-    ensures ends { IfOk result (λ ended. Comes ⟦<SectorFile<H> as SectorDevice>⟧
+    ensures ends { IfOk result.1 (λ ended. DoneOn ⟦<SectorFile<H> as SectorDevice>⟧ Left.Opened
         (IsOpened H.HostFile (O.opens files.now path.now))
         (EndsScript ⟦<SectorFile<H> as SectorDevice>⟧ T.hears steps script.now ended.end ended.is_unsaved
         (R.remaining input.old) (R.remaining input.new) (W.contents output.old) (W.contents output.new) tracer.old tracer.new)
-        (device_of ended.store)) }
-    ensures unstopped { IfErr result (λ e. e ≢ Failure.Stopped) }
+        result.0) }
+    ensures failed { IfErr result.1 (λ failure. ScriptUnbegun ⟦<SectorFile<H> as SectorDevice>⟧
+        (IsOpened H.HostFile (O.opens files.now path.now)) script.now (R.remaining input.old) (R.remaining input.new)
+        (W.contents output.old) (W.contents output.new) failure result.0) }
+    // No session has begun that could stop.
+    ensures unstopped { IfErr result.1 (λ e. e ≢ Failure.Stopped) }
 {
-    lead(rt, script, input)?;
-    let store = open_image(files, path)?;
-    run_until_end::<SectorFile<H>, F, R, W, T>(
-        rt.alloc(),
-        store,
-        steps,
-        script.is_strict,
-        input,
-        output,
-        tracer,
-    )
+    match lead(rt, script, input) {
+        Ok(()) => run_led::<H, O, F, R, W, T, E>(
+            rt.alloc(),
+            files,
+            path,
+            steps,
+            script.is_strict,
+            input,
+            output,
+            tracer,
+        ),
+        Err(failure) => (Left::Nothing, Err(failure)),
+    }
 }
 
-/// Runs the input over a store, strictly or not. Its failure is `NoMemory`, where no session begins.
-fn run_until_end<D: SectorDevice + Drop, F: Lines<D>, R: Input, W: Write, T: Tracer>(
+/// Runs the input over an image, strictly or not.
+fn run_led<H: HostFile, O: HostFiles<H>, F: Lines<SectorFile<H>>, R: Input, W: Write, T: Tracer, E>(
+    alloc: Global,
+    files: &O,
+    path: &str,
+    steps: u32,
+    is_strict: bool,
+    input: &mut R,
+    output: &mut W,
+    tracer: &mut T,
+) -> (Left<SectorFile<H>, E>, Result<Ended, Failure>)
+    requires { 0 < steps }
+    ensures ends { IfOk result.1 (λ ended. DoneOn ⟦<SectorFile<H> as SectorDevice>⟧ Left.Opened
+        (IsOpened H.HostFile (O.opens files.now path.now))
+        (EndsSession ⟦<SectorFile<H> as SectorDevice>⟧ T.hears steps is_strict ended.end ended.is_unsaved
+        (R.remaining input.old) (R.remaining input.new) (W.contents output.old) (W.contents output.new) tracer.old tracer.new)
+        result.0) }
+    ensures failed { IfErr result.1 (λ failure. FailsOn ⟦<SectorFile<H> as SectorDevice>⟧ Left.Opened
+        (IsOpened H.HostFile (O.opens files.now path.now)) (FailsAfter ⟦<SectorFile<H> as SectorDevice>⟧
+        (NotBegun ⟦<SectorFile<H> as SectorDevice>⟧ (R.remaining input.old) (R.remaining input.new)
+        (W.contents output.old) (W.contents output.new))) failure result.0) }
+    ensures unstopped { IfErr result.1 (λ e. e ≢ Failure.Stopped) }
+{
+    match open_disk(files, path) {
+        Ok(disk) => opened(run_over::<SectorFile<H>, F, R, W, T>(
+            alloc, disk, steps, is_strict, input, output, tracer,
+        )),
+        Err(fault) => (Left::Nothing, Err(Failure::from(fault))),
+    }
+}
+
+/// Runs the input over a store, strictly or not, and gives the store back: what was changed and not saved is given up.
+/// Its failure is `NoMemory`, where no session begins.
+pub(super) fn run_until_end<D: SectorDevice, F: Lines<D>, R: Read, W: Write, T: Tracer>(
     alloc: Global,
     store: Store<D>,
     steps: u32,
@@ -80,29 +123,26 @@ fn run_until_end<D: SectorDevice + Drop, F: Lines<D>, R: Input, W: Write, T: Tra
     input: &mut R,
     output: &mut W,
     tracer: &mut T,
-) -> Result<Ended<Store<D>>, Failure>
+) -> (Store<D>, Result<Ended, Failure>)
     requires { 0 < steps }
-    ensures session { (m : Maps) → StandsFor store m → IfOk result (λ ended. RunsOverBy T.hears D.SectorDevice is_strict (new_forth steps m)
-        store ended.store ended.end ended.is_unsaved
+    ensures session { (m : Maps) → StandsFor store m → IfOk result.1 (λ ended. RunsOverBy T.hears D.SectorDevice is_strict (new_forth steps m)
+        store result.0 ended.end ended.is_unsaved
         (R.remaining input.old) (R.remaining input.new) (W.contents output.old) (W.contents output.new) tracer.old tracer.new) }
-    ensures strict { IfOk result (λ ended. IfOk ended.end (λ end. end ≡ RunEnd.Fault → is_strict ≡ true)) }
-    ensures goes { IfOk result (λ ended. Becomes D.SectorDevice (device_of store) (device_of ended.store)) }
+    ensures strict { IfOk result.1 (λ ended. IfOk ended.end (λ end. end ≡ RunEnd.Fault → is_strict ≡ true)) }
+    ensures goes { Becomes D.SectorDevice (device_of store) (device_of result.0) }
     // Memory is refused before the session begins.
-    ensures memory { IfErr result (λ e. e ≡ Failure.NoMemory) }
-    ensures unread { IfErr result (λ _. input.new ≡ input.old) }
-    ensures unwritten { IfErr result (λ _. output.new ≡ output.old) }
+    ensures memory { IfErr result.1 (λ e. e ≡ Failure.NoMemory) }
+    ensures unread { IfErr result.1 (λ _. input.new ≡ input.old) }
+    ensures unwritten { IfErr result.1 (λ _. output.new ≡ output.old) }
+    ensures same { IfErr result.1 (λ _. result.0 ≡ store) }
 {
     let Ok(memory) = Memory::new(alloc) else {
-        return Err(Failure::NoMemory);
+        return (store, Err(Failure::NoMemory));
     };
     let (store, end, is_unsaved) = run_over_until::<D, F, R, W, T>(
         memory, store, steps, input, output, is_strict, tracer,
     );
-    Ok(Ended {
-        store,
-        end,
-        is_unsaved,
-    })
+    (store, Ok(Ended { end, is_unsaved }))
 }
 
 /// Puts before the input what a script says, or in its place.

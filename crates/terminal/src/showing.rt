@@ -7,94 +7,122 @@ ghost use Rattle.journal.specs.Calls.{BeginsAtMost, StopsLeave};
 ghost use Rattle.shadow.specs.Label.{is_known_size};
 ghost use Rattle.shadow.specs.Upgraded.{known_blocks};
 ghost use Rattle.terminal.specs.Care.{ListDone};
-ghost use Rattle.terminal.specs.Done.{Comes, DoneOn, ListsBlock};
+ghost use Rattle.terminal.specs.Done.{DoneOn, ListsBlock};
+ghost use Rattle.terminal.specs.Failed.{FailsAfter, FailsOn, ListFailed, ListFails, ShowingFails};
+ghost use Rattle.recovery.specs.Steps.{OnlyRead};
 ghost use Rattle.terminal.specs.Failures.{of_file};
 ghost use Rattle.terminal.specs.Files.{IsOpened};
 ghost use Rattle.terminal.specs.Shown.{ShowsImage, block_refusal};
 
 use super::checking::print;
 use super::failure::Failure;
-use super::images::list_over;
-use super::program::closed;
+use super::left::Left;
+use super::over_devices::list_over;
 use super::screen::listing;
 use image_care::read_block;
 use sector_disk::{FileFault, HostFile, HostFiles, SectorDevice, SectorFile, open_disk};
 use std::io::Write;
 
 /// Prints a block of an image: after its recovery where its file can be opened for writing, and by reads alone where it
-/// can't, or is in use. What was opened is closed. Its failures: `InUse` or `CannotOpen` where it can't be opened for
-/// reading either, then those of `list_over` or `show_over`.
-pub fn list_image<
-    H: HostFile + Drop,
-    O: HostFiles<H>,
-    K: HostFile + Drop,
-    P: HostFiles<K>,
-    W: Write,
->(files: &O, looking: &P, path: &str, block: u16, output: &mut W) -> Result<(), Failure>
-    ensures listed { OnOk result (ListDone ⟦<SectorFile<H> as SectorDevice>⟧ ⟦<SectorFile<K> as SectorDevice>⟧
+/// can't, or is in use. Its failures: `InUse` or `CannotOpen` where it can't be opened for reading either, then those
+/// of `list_over` or `show_over`.
+pub fn list_image<H: HostFile, O: HostFiles<H>, K: HostFile, P: HostFiles<K>, W: Write>(
+    files: &O,
+    looking: &P,
+    path: &str,
+    block: u16,
+    output: &mut W,
+) -> (Left<SectorFile<H>, SectorFile<K>>, Result<(), Failure>)
+    ensures listed { OnOk result.1 (ListDone ⟦<SectorFile<H> as SectorDevice>⟧ ⟦<SectorFile<K> as SectorDevice>⟧
         (IsOpened H.HostFile (O.opens files.now path.now)) (IsOpened K.HostFile (P.opens looking.now path.now))
-        block (W.contents output.old) (W.contents output.new)) }
+        block (W.contents output.old) (W.contents output.new) result.0) }
+    ensures failed { IfErr result.1 (λ failure. ListFailed ⟦<SectorFile<H> as SectorDevice>⟧ ⟦<SectorFile<K> as SectorDevice>⟧
+        (IsOpened H.HostFile (O.opens files.now path.now)) (IsOpened K.HostFile (P.opens looking.now path.now))
+        block failure result.0) }
+    // Nothing was printed, but where the output failed.
+    ensures unprinted { IfErr result.1 (λ e. e ≢ Failure.CannotWrite → output.new ≡ output.old) }
+    // No session has begun that could stop.
+    ensures unstopped { IfErr result.1 (λ e. e ≢ Failure.Stopped) }
 {
-    list_opened::<H, K, P, W>(open_disk(files, path), looking, path, block, output)
+    list_opened(open_disk(files, path), looking, path, block, output)
 }
 
 /// Prints a block of an image, as `list_image`, once its file was opened for writing or wasn't: only where it wasn't it
 /// is opened for reading. Its failures: `InUse` or `CannotOpen` where it can't be opened for reading either, then those
 /// of `list_over` or `show_over`.
-pub fn list_opened<H: HostFile + Drop, K: HostFile + Drop, P: HostFiles<K>, W: Write>(
+pub fn list_opened<H: HostFile, K: HostFile, P: HostFiles<K>, W: Write>(
     opened: Result<SectorFile<H>, FileFault>,
     looking: &P,
     path: &str,
     block: u16,
     output: &mut W,
-) -> Result<(), Failure>
+) -> (Left<SectorFile<H>, SectorFile<K>>, Result<(), Failure>)
     // The image on the file that could be opened for writing was recovered, and listed.
-    ensures listed { IfOk opened (λ disk. OnOk result (DoneOn ⟦<SectorFile<H> as SectorDevice>⟧ (λ device. device ≡ disk)
-        (ListsBlock ⟦<SectorFile<H> as SectorDevice>⟧ block (W.contents output.old) (W.contents output.new)))) }
+    ensures listed { IfOk opened (λ disk. OnOk result.1 (DoneOn ⟦<SectorFile<H> as SectorDevice>⟧ Left.Opened (λ device. device ≡ disk)
+        (ListsBlock ⟦<SectorFile<H> as SectorDevice>⟧ block (W.contents output.old) (W.contents output.new)) result.0)) }
+    ensures unlisted { IfOk opened (λ disk. IfErr result.1 (λ failure. DoneOn ⟦<SectorFile<H> as SectorDevice>⟧ Left.Opened
+        (λ device. device ≡ disk) (FailsAfter ⟦<SectorFile<H> as SectorDevice>⟧
+        (ListFails ⟦<SectorFile<H> as SectorDevice>⟧ block) failure) result.0)) }
     // That on one that couldn't was looked at, and shown.
-    ensures shown { IfErr opened (λ _. OnOk result (DoneOn ⟦<SectorFile<K> as SectorDevice>⟧
-        (IsOpened K.HostFile (P.opens looking.now path.now))
-        (ShowsImage ⟦<SectorFile<K> as SectorDevice>⟧ block (W.contents output.old) (W.contents output.new)))) }
+    ensures shown { IfErr opened (λ _. OnOk result.1 (DoneOn ⟦<SectorFile<K> as SectorDevice>⟧
+        Left.Looked (IsOpened K.HostFile (P.opens looking.now path.now))
+        (ShowsImage ⟦<SectorFile<K> as SectorDevice>⟧ block (W.contents output.old) (W.contents output.new)) result.0)) }
+    ensures unshown { IfErr opened (λ _. IfErr result.1 (λ failure. FailsOn ⟦<SectorFile<K> as SectorDevice>⟧ Left.Looked
+        (IsOpened K.HostFile (P.opens looking.now path.now)) (ShowingFails ⟦<SectorFile<K> as SectorDevice>⟧ (block_refusal block)) failure result.0)) }
+    ensures unprinted { IfErr result.1 (λ e. e ≢ Failure.CannotWrite → output.new ≡ output.old) }
+    ensures unstopped { IfErr result.1 (λ e. e ≢ Failure.Stopped) }
 {
     match opened {
-        Ok(disk) => closed(list_over(disk, block, output)),
-        Err(_) => closed(show_image::<K, P, W>(looking, path, block, output)),
+        Ok(disk) => {
+            let (disk, outcome) = list_over(disk, block, output);
+            (Left::Opened(disk), outcome)
+        }
+        Err(_) => show_image(looking, path, block, output),
     }
 }
 
 /// Prints a block of an image. Its file is opened for nothing but that, and is given back. Its failures: `CannotOpen`
 /// or `InUse` where the file can't be opened for reading, then those of `show_over`.
-pub fn show_image<H: HostFile + Drop, O: HostFiles<H>, W: Write>(
+pub fn show_image<H: HostFile, O: HostFiles<H>, W: Write, D>(
     files: &O,
     path: &str,
     block: u16,
     output: &mut W,
-) -> Result<SectorFile<H>, Failure>
-    ensures shown { IfOk result (λ disk. Comes ⟦<SectorFile<H> as SectorDevice>⟧
+) -> (Left<D, SectorFile<H>>, Result<(), Failure>)
+    ensures shown { OnOk result.1 (DoneOn ⟦<SectorFile<H> as SectorDevice>⟧ Left.Looked
         (IsOpened H.HostFile (O.opens files.now path.now))
-        (ShowsImage ⟦<SectorFile<H> as SectorDevice>⟧ block (W.contents output.old) (W.contents output.new)) disk) }
+        (ShowsImage ⟦<SectorFile<H> as SectorDevice>⟧ block (W.contents output.old) (W.contents output.new)) result.0) }
+    ensures unshown { IfErr result.1 (λ failure. FailsOn ⟦<SectorFile<H> as SectorDevice>⟧ Left.Looked
+        (IsOpened H.HostFile (O.opens files.now path.now)) (ShowingFails ⟦<SectorFile<H> as SectorDevice>⟧ (block_refusal block)) failure result.0) }
+    ensures unprinted { IfErr result.1 (λ e. e ≢ Failure.CannotWrite → output.new ≡ output.old) }
+    ensures unstopped { IfErr result.1 (λ e. e ≢ Failure.Stopped) }
 {
-    show_opened::<H, W>(open_disk(files, path), block, output)
+    show_opened(open_disk(files, path), block, output)
 }
 
 /// Prints a block of an image, as `show_image`, once its file was opened for reading or wasn't.
-pub fn show_opened<H: HostFile + Drop, W: Write>(
+pub fn show_opened<H: HostFile, W: Write, D>(
     opened: Result<SectorFile<H>, FileFault>,
     block: u16,
     output: &mut W,
-) -> Result<SectorFile<H>, Failure>
-    ensures shown { IfOk opened (λ disk. IfOk result (λ after. ShowsImage ⟦<SectorFile<H> as SectorDevice>⟧
-        block (W.contents output.old) (W.contents output.new) disk after)) }
+) -> (Left<D, SectorFile<H>>, Result<(), Failure>)
+    ensures shown { IfOk opened (λ disk. OnOk result.1 (DoneOn ⟦<SectorFile<H> as SectorDevice>⟧ Left.Looked (λ device. device ≡ disk)
+        (ShowsImage ⟦<SectorFile<H> as SectorDevice>⟧ block (W.contents output.old) (W.contents output.new)) result.0)) }
+    ensures unshown { IfOk opened (λ disk. IfErr result.1 (λ failure. DoneOn ⟦<SectorFile<H> as SectorDevice>⟧ Left.Looked
+        (λ device. device ≡ disk) (ShowingFails ⟦<SectorFile<H> as SectorDevice>⟧ (block_refusal block) failure) result.0)) }
     // Of a file that couldn't be opened nothing is listed.
-    ensures refused { IfErr opened (λ fault. result ≡ Err (of_file fault)) }
+    ensures refused { IfErr opened (λ fault. result.1 ≡ Err (of_file fault)) }
+    ensures unopened { IfErr opened (λ _. result.0 ≡ Left.Nothing) }
     ensures silent { IfErr opened (λ _. output.new ≡ output.old) }
+    ensures unprinted { IfErr result.1 (λ e. e ≢ Failure.CannotWrite → output.new ≡ output.old) }
+    ensures unstopped { IfErr result.1 (λ e. e ≢ Failure.Stopped) }
 {
     match opened {
-        Ok(mut disk) => match show_over(&mut disk, block, output) {
-            Ok(()) => Ok(disk),
-            Err(failure) => Err(failure),
-        },
-        Err(unopened) => Err(Failure::from(unopened)),
+        Ok(mut disk) => {
+            let outcome = show_over(&mut disk, block, output);
+            (Left::Looked(disk), outcome)
+        }
+        Err(unopened) => (Left::Nothing, Err(Failure::from(unopened))),
     }
 }
 
@@ -129,6 +157,8 @@ pub fn show_over<D: SectorDevice, W: Write>(
     ensures stops { IsTrue (D.keeps_model device.old)
         → StopsLeave D.SectorDevice device.old device.new (MayLeave (D.disk device.old)) }
     ensures begins { BeginsAtMost D.SectorDevice device.old device.new 0 0 }
+    ensures only_read { OnlyRead D.SectorDevice device.old device.new }
+    ensures unstopped { IfErr result (λ e. e ≢ Failure.Stopped) }
 {
     match read_block(device, block) {
         Ok(Some(bytes)) => print(listing(&bytes).as_slice(), output),

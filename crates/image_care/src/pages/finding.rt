@@ -3,12 +3,12 @@ ghost use Rattle.std.specs.Prelude.{◌≡◌, ◌≢◌, ◌⊎◌, ◌<◌, �
 ghost use Rattle.sector_disk.specs.Counting.{count_up};
 ghost use Rattle.sector_disk.specs.Disk.{MayLeave};
 ghost use Rattle.journal.specs.Calls.{StopsLeave, BeginsAtMost, ReadsAtMost, Proceeds};
-ghost use Rattle.journal.specs.Layout.{fewest_blocks, most_blocks, gate_open};
+ghost use Rattle.journal.specs.Layout.{fewest_blocks, most_blocks};
 ghost use Rattle.recovery.specs.Steps.{OnlyRead};
 ghost use Rattle.recovery.specs.declared.fault.OpenFault.TheVariants.{BadSize, Device};
 ghost use Rattle.journal.specs.PageImages.{record_of};
 ghost use Rattle.shadow.specs.Label.{is_known_size, blocks_in, label_refusal};
-ghost use Rattle.journal.specs.PageLayout.{sectors_for, label_of, gate_at};
+ghost use Rattle.journal.specs.PageLayout.{sectors_for, label_of, gate_at, gate_open};
 ghost use Rattle.shadow.specs.Opened.{HasMeaning};
 ghost use Rattle.stores.specs.Opened.{newer_refusal};
 

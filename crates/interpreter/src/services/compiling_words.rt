@@ -7,7 +7,7 @@ ghost use Rattle.lexicon.specs.Promise.{fault_of as refusal_fault_of};
 use crate::fault::Fault;
 use crate::forth::Forth;
 use crate::system_cells::STATE;
-use lexicon::{CompileRefusal, Refusal, TextKind};
+use lexicon::{CompileRefusal, LexiconRefusal, TextKind};
 use sector_disk::SectorDevice;
 use system_words::words::{DefinitionWord, Structure};
 
@@ -25,16 +25,16 @@ pub(crate) fn compile_fault(refusal: CompileRefusal) -> Fault
 }
 
 /// Why the lexicon refused something, as the line says it.
-pub(crate) fn lexicon_fault(refusal: Refusal) -> Fault
+pub(crate) fn lexicon_fault(refusal: LexiconRefusal) -> Fault
     ensures fault { fault_of result ≡ refusal_fault_of refusal }
     ensures tells { (count : ℕ) → fault_count result count ≡ count }
 {
     match refusal {
-        Refusal::DefinitionOpen => Fault::DefinitionOpen,
-        Refusal::Name => Fault::Name,
-        Refusal::DictionaryFull => Fault::DictionaryFull,
-        Refusal::Protected => Fault::Protected,
-        Refusal::Token => Fault::Token,
+        LexiconRefusal::DefinitionOpen => Fault::DefinitionOpen,
+        LexiconRefusal::Name => Fault::Name,
+        LexiconRefusal::DictionaryFull => Fault::DictionaryFull,
+        LexiconRefusal::Protected => Fault::Protected,
+        LexiconRefusal::Token => Fault::Token,
     }
 }
 

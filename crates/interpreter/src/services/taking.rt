@@ -6,7 +6,7 @@ ghost use Rattle.std.specs.Prelude.{◌≡◌, ◌≤◌, length, take, IfOk};
 use crate::fault::Fault;
 use crate::forth::Forth;
 use crate::services::compiling_words::lexicon_fault;
-use crate::services::looking::Cut;
+use crate::services::lookahead::Cut;
 use crate::system_cells::TO_IN;
 use sector_disk::SectorDevice;
 

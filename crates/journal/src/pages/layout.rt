@@ -3,7 +3,7 @@
 //! Rule: IMAGE, Layout 3.
 ghost use Rattle.std.specs.Prelude.{◌≡◌, ◌≢◌, ◌<◌, ◌≤◌, ◌+◌, ◌*◌, ◌%◌, ◌++◌, ℕ, not, true, false, take, replicate};
 ghost use Rattle.journal.specs.Layout.{most_blocks, listed, bits_of};
-ghost use Rattle.journal.specs.PageLayout.{sectors_for, label_of, gate_at, gate_bytes, record_at, place_at, current_at, free_at, sum_in, tag_in};
+ghost use Rattle.journal.specs.PageLayout.{sectors_for, label_of, bit_differs, bits_apart, gate_bytes, gate_open, gate_at, record_at, place_at, current_at, free_at, sum_in, tag_in};
 
 use crate::layout::{is_listed, label as older_label};
 
@@ -59,6 +59,40 @@ fn open_gate() -> [u8; 512]
     let mut bytes = [0; 512];
     bytes[..8].copy_from_slice(b"COMMIT83");
     bytes
+}
+
+// Whether two sectors differ in bit `i`, which is bit `i % 8` of byte `i / 8`.
+fn bit_differs(a: &[u8; 512], b: &[u8; 512], i: u16) -> bool
+    requires { i < most_blocks }
+    ensures { result ≡ bit_differs a.now b.now i }
+{
+    if is_listed(a, i) {
+        !is_listed(b, i)
+    } else {
+        is_listed(b, i)
+    }
+}
+
+// In how many of their first 64 bits two sectors differ.
+fn bits_apart(a: &[u8; 512], b: &[u8; 512]) -> u16
+    ensures { result ≡ bits_apart a.now b.now }
+{
+    let mut apart = 0;
+    for i in 0..64 {
+        if bit_differs(a, b, i) {
+            apart += 1;
+        }
+    }
+    apart
+}
+
+/// Whether a gate is read as open: whether fewer of its first 64 bits differ from an open gate than from a closed one.
+/// 29 bits lie between these two, so a gate of which up to 14 changed at rest is read as it was written.
+/// Rule: IMAGE, Layout 3.
+pub fn gate_is_open(gate: &[u8; 512]) -> bool
+    ensures { result ≡ gate_open gate.now }
+{
+    bits_apart(gate, &open_gate()) < bits_apart(gate, &[0; 512])
 }
 
 /// The first sector of the first or the second place of block `b`, a number below 3,840.

@@ -1,10 +1,6 @@
-use Rattle.std.proofs.Common.{◌∙◌}
-use Rattle.clap.specs.Words.{found_of}
-use Rattle.clap.proofs.WalkLemmas.{one_text-rows}
+use Rattle.std.specs.Str.Parse.{ParsesBool}
+use Rattle.command_line.proofs.Given.{flag_given}
 use Rattle.command_line.proofs.reading.flag_of.Goals as goal
 
 pub returns : goal.returns
-returns c = (
-  λ is. c.get_flag.ensures.value (one_text-rows (found_of c.args.given.now) c.args.id.now ∙ is),
-  λ is. c.get_flag.ensures.other (one_text-rows (found_of c.args.given.now) c.args.id.now ∙ is),
-)
+returns c = flag_given (λ bs r. ParsesBool bs r) c.args.given.now c.args.id.now c.get_one.result (λ u x given. given) c.get_one.ensures.none c.get_one.ensures.value

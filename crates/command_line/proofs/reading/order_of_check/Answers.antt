@@ -1,19 +1,19 @@
-use Rattle.std.proofs.Common.{◌≡◌, ◌∙◌, false, true, true≢false, refl, sym}
+use Rattle.std.proofs.Common.{refl, subst}
 use Rattle.std.specs.Prelude.{codes}
-use Rattle.clap.specs.Words.{found_of}
-use Rattle.clap.proofs.WalkLemmas.{one_text-rows}
+use Rattle.clap.specs.Words.{found_of, rows_of}
+use Rattle.command_line.specs.Commands.{HasFlag}
 use Rattle.command_line.proofs.reading.order_of_check.Goals as goal
 
-pub returns-then-get_flag-clause-given : goal.returns-then-get_flag-clause-given
-returns-then-get_flag-clause-given c = (
+pub returns-then-is_of_blocks-clause-given : goal.returns-then-is_of_blocks-clause-given
+returns-then-is_of_blocks-clause-given c = (
   refl,
   c.requires,
-  λ is. let no : true ≡ false = sym c.if-get_flag.true ∙ c.get_flag.ensures.other (one_text-rows (found_of c.args.given.now) (codes "blocks") ∙ is) in true≢false no,
+  subst (HasFlag (rows_of (found_of c.args.given.now)) (codes "blocks")) c.if-is_of_blocks.true c.in_ok-is_of_blocks.ensures,
 )
 
-pub returns-else-get_flag-clause-given : goal.returns-else-get_flag-clause-given
-returns-else-get_flag-clause-given c = (
+pub returns-else-is_of_blocks-clause-given : goal.returns-else-is_of_blocks-clause-given
+returns-else-is_of_blocks-clause-given c = (
   refl,
   c.requires,
-  λ is. let no : false ≡ true = sym c.if-get_flag.false ∙ c.get_flag.ensures.value (one_text-rows (found_of c.args.given.now) (codes "blocks") ∙ is) in true≢false (sym no),
+  subst (HasFlag (rows_of (found_of c.args.given.now)) (codes "blocks")) c.if-is_of_blocks.false c.in_ok-is_of_blocks.ensures,
 )

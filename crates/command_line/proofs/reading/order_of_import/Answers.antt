@@ -1,25 +1,25 @@
-use Rattle.std.proofs.Common.{◌≡◌, ◌∙◌, false, true, true≢false, refl, sym}
+use Rattle.std.proofs.Common.{refl, subst}
 use Rattle.std.specs.Prelude.{codes}
-use Rattle.clap.specs.Words.{found_of}
-use Rattle.clap.proofs.WalkLemmas.{one_text-rows}
+use Rattle.clap.specs.Words.{found_of, rows_of}
+use Rattle.command_line.specs.Commands.{HasFlag}
 use Rattle.command_line.proofs.reading.order_of_import.Goals as goal
 
-pub returns-then-get_flag-clause-given : goal.returns-then-get_flag-clause-given
-returns-then-get_flag-clause-given c = (
+pub returns-then-is_checked-clause-given : goal.returns-then-is_checked-clause-given
+returns-then-is_checked-clause-given c = (
   refl,
   c.requires.image,
   c.requires.first,
   c.in_ok-files.ensures,
-  c.form_of-form.ensures,
-  λ is. let no : true ≡ false = sym c.if-get_flag.true ∙ c.get_flag.ensures.other (one_text-rows (found_of c.args.given.now) (codes "check") ∙ is) in true≢false no,
+  c.in_ok-form.ensures,
+  subst (HasFlag (rows_of (found_of c.args.given.now)) (codes "check")) c.if-is_checked.true c.in_ok-is_checked.ensures,
 )
 
-pub returns-else-get_flag-clause-given : goal.returns-else-get_flag-clause-given
-returns-else-get_flag-clause-given c = (
+pub returns-else-is_checked-clause-given : goal.returns-else-is_checked-clause-given
+returns-else-is_checked-clause-given c = (
   refl,
   c.requires.image,
   c.requires.first,
   c.in_ok-files.ensures,
-  c.form_of-form.ensures,
-  λ is. let no : false ≡ true = sym c.if-get_flag.false ∙ c.get_flag.ensures.value (one_text-rows (found_of c.args.given.now) (codes "check") ∙ is) in true≢false (sym no),
+  c.in_ok-form.ensures,
+  subst (HasFlag (rows_of (found_of c.args.given.now)) (codes "check")) c.if-is_checked.false c.in_ok-is_checked.ensures,
 )

@@ -4,6 +4,6 @@ pub returns : goal.returns
 returns c = record {
   load = c.in_ok-load.ensures;
   files = c.in_ok-files.ensures;
-  strict = c.flag_of.ensures;
-  traced = c.flag_of-2.ensures;
+  strict = c.in_ok-is_strict.ensures;
+  traced = c.in_ok-is_traced.ensures;
 }

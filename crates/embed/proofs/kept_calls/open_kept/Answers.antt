@@ -62,7 +62,7 @@ returns-in-Ok-clause-goes g c =
     let new = c.ready.new.device in
     let on = c.ready.ensures.passes in
     subst (Becomes D old) (sym c.laid_to_rest.ensures.device)
-    (record { model = stays D old new on.sectors on.model on.units; time = on.time; failures = on.failures })
+    (record { model = stays D old new on.sectors on.model on.units; sectors = λ keeps. on.sectors; time = on.time; failures = on.failures })
 
 pub returns-in-Err-clause-goes : goal.returns-in-Err-clause-goes
 returns-in-Err-clause-goes g c =
@@ -70,7 +70,7 @@ returns-in-Err-clause-goes g c =
     let old = c.args.device in
     let new = c.ready.new.device in
     let on = c.ready.ensures.passes in
-    record { model = stays D old new on.sectors on.model on.units; time = on.time; failures = on.failures }
+    record { model = stays D old new on.sectors on.model on.units; sectors = λ keeps. on.sectors; time = on.time; failures = on.failures }
 
 pub returns-in-Ok-clause-stops : goal.returns-in-Ok-clause-stops
 returns-in-Ok-clause-stops g c =

@@ -17,6 +17,7 @@ returns-in-Ok-clause-goes g c =
     let G = g.D.SectorDevice in
     subst (λ d. Becomes G c.args.device d) (sym c.into_device.ensures.device) (record {
       model = stays G c.args.device _ c.in-Ok.ensures.sectors c.in-Ok.ensures.model c.in-Ok.ensures.units;
+      sectors = λ keeps. c.in-Ok.ensures.sectors;
       time = c.in-Ok.ensures.time;
       failures = c.in-Ok.ensures.failures;
     })
@@ -28,6 +29,7 @@ returns-in-Err-clause-stops g c = λ keeps fits.
 pub returns-in-Err-clause-goes : goal.returns-in-Err-clause-goes
 returns-in-Err-clause-goes g c = record {
   model = stays g.D.SectorDevice c.args.device _ c.in-Err.ensures.sectors c.in-Err.ensures.model c.in-Err.ensures.units;
+  sectors = λ keeps. c.in-Err.ensures.sectors;
   time = c.in-Err.ensures.time;
   failures = c.in-Err.ensures.failures;
 }

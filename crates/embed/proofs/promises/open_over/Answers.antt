@@ -1,7 +1,9 @@
+use Rattle.std.proofs.Common.{◌≡◌}
 use Rattle.stores.specs.Resting.{HasRested}
 use Rattle.embed.specs.Calls.{meant_by}
 use Rattle.embed.specs.Keeping.{HoldsOpen}
-use Rattle.embed.proofs.Numbers.{opens}
+use Rattle.embed.specs.declared.refusal.Refusal.TheVariants.{Device}
+use Rattle.embed.proofs.Numbers.{kept_other, opens}
 use Rattle.embed.proofs.promises.open_over.Goals as goal
 
 pub returns-clause-stays : goal.returns-clause-stays
@@ -15,3 +17,9 @@ returns-clause-done g c = λ keeps.
     opens (λ d is_open l. HoldsOpen g.D.SectorDevice d is_open l (meant_by g.D.SectorDevice c.args.device)) c.open_kept-outcome.result c.told_kept.result.0 c.told_kept.result.1 c.told_kept.new.store
     c.open_kept-outcome.new.listing c.told_kept.ensures.number c.told_kept.ensures.device c.told_kept.ensures.listing c.told_kept.ensures.open
     (c.open_kept-outcome.ensures.holds keeps)
+
+pub returns-clause-content : goal.returns-clause-content
+returns-clause-content g c = λ keeps.
+    let D = g.D.SectorDevice in
+    kept_other c.open_kept-outcome.result c.told_kept.result.0 c.told_kept.result.1 (λ d. (D.disk d).content ≡ (D.disk c.args.device).content) c.told_kept.ensures.number c.told_kept.ensures.device
+    Device (c.open_kept-outcome.ensures.content keeps)

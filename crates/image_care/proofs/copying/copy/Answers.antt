@@ -1,122 +1,146 @@
-use Rattle.std.proofs.Common.{◌≡◌, ◌∙◌, ◌+◌, ◌*◌, inl, inr, ⊎_elim, sym, ap, subst, arith, rules, IsTrue, None}
+use Rattle.std.proofs.Common.{◌≡◌, ◌∙◌, ◌≤◌, inl, inr, ⊎_elim, None, sym, ap, subst, arith, rules, IsTrue}
 use Rattle.std.proofs.lemmas.Result.{on_ok_weaker}
-use Rattle.journal.specs.Calls.{ReadsAtMost}
-use Rattle.journal.specs.Images.{meaning, Means}
-use Rattle.recovery.specs.Formatted.{MakingLeaves}
+use Rattle.journal.specs.BySize.{Means}
+use Rattle.journal.specs.Suits.{suits}
+use Rattle.journal.proofs.Suited.{stays, suits_keeps}
 use Rattle.recovery.specs.Upgraded.{of_old}
 use Rattle.recovery.specs.declared.fault.UpgradeFault.TheVariants.{Old}
-use Rattle.recovery.proofs.Formats.{half_now, making}
+use Rattle.recovery.proofs.HomesMade.{given_reads}
 use Rattle.recovery.proofs.Upgrades.{only_read_then}
-use Rattle.image_care.specs.Carried.{carried_blocks}
-use Rattle.image_care.specs.Copied.{grown, HoldsBlocks, copy_refusal}
-use Rattle.recovery.specs.Found.{found_in}
-use Rattle.image_care.specs.Examined.{reads_to_list}
-use Rattle.image_care.proofs.Copies.{carried_copy, copy_refused, length-grown, whole_means}
+use Rattle.shadow.specs.Upgraded.{known_blocks}
+use Rattle.image_care.specs.Copied.{copied_blocks, copy_refusal, copy_size_refusal}
+use Rattle.image_care.specs.Made.{IsMade, MakingLeaves}
+use Rattle.image_care.proofs.Copies.{copy_blocks, copy_refused}
+use Rattle.image_care.proofs.Makings.{by_size, nothing_made}
 use Rattle.image_care.proofs.copying.copy.Goals as goal
 
-pub returns-in_err-sizes-clause-new_stops : goal.returns-in_err-sizes-clause-new_stops
-returns-in_err-sizes-clause-new_stops g c = λ source keeps n m from to x since.
-    let d = g.B.SectorDevice.disk c.args.new.now in
-    making m d (grown m (meaning n (g.A.SectorDevice.disk c.args.old.now).content)) x (half_now m d x (g.met.B.SectorDevice.only_now c.args.new.now x since))
+pub returns-in_err-size-clause-new_stops : goal.returns-in_err-size-clause-new_stops
+returns-in_err-size-clause-new_stops g c = λ source keeps x since.
+    let A = g.A.SectorDevice in
+    let B = g.B.SectorDevice in
+    let old = c.args.old.now in
+    let new = c.args.new.now in
+    nothing_made (B.sector_count new) (copied_blocks (A.sector_count old) (B.sector_count new) (A.disk old).content) (B.disk new) x
+    (g.met.B.SectorDevice.only_now new x since)
 
 pub returns-in-Err-clause-new_stops : goal.returns-in-Err-clause-new_stops
-returns-in-Err-clause-new_stops g c = λ source keeps n m from to x since.
-    let d = g.B.SectorDevice.disk c.args.new.now in
-    making m d (grown m (meaning n (g.A.SectorDevice.disk c.args.old.now).content)) x (half_now m d x (g.met.B.SectorDevice.only_now c.args.new.now x since))
+returns-in-Err-clause-new_stops g c = λ source keeps x since.
+    let A = g.A.SectorDevice in
+    let B = g.B.SectorDevice in
+    let old = c.args.old.now in
+    let new = c.args.new.now in
+    nothing_made (B.sector_count new) (copied_blocks (A.sector_count old) (B.sector_count new) (A.disk old).content) (B.disk new) x
+    (g.met.B.SectorDevice.only_now new x since)
 
 pub returns-in-Ok-clause-new_stops : goal.returns-in-Ok-clause-new_stops
-returns-in-Ok-clause-new_stops g c = λ source keeps n m from to x since.
+returns-in-Ok-clause-new_stops g c =
     let A = g.A.SectorDevice in
-    let d = A.disk c.args.old.now in
-    let e = g.B.SectorDevice.disk c.args.new.now in
-    let a = c.in_ok-sizes.sizes.old.number in
-    let b = c.in_ok-sizes.sizes.new.number in
-    let one : a ≡ n = omega (arith, from, c.in_ok-sizes.ensures.old, c.sectors.ensures) in
-    let two : b ≡ m = omega (arith, to, c.in_ok-sizes.ensures.new, c.sectors-2.ensures) in
-    let honest : IsTrue (A.keeps_model c.find.new.device) = subst IsTrue (sym c.find.ensures.only_read.passes.model) source in
-    let same = carried_copy a b n c.in-Ok.listing d (A.disk c.find.new.device) one (c.find.ensures.only_read.disk source) (c.in-Ok.ensures.ok source) in
-    subst (λ k. MakingLeaves k (grown k (meaning n d.content)) e x) two
-    (subst (λ l. MakingLeaves b l e x) same (c.carry.ensures.stops honest keeps x since))
+    let B = g.B.SectorDevice in
+    let old = c.args.old.now in
+    let new = c.args.new.now in
+    let from = A.sector_count old in
+    let to = B.sector_count new in
+    let sizes = c.in_ok-size.ensures in
+    λ source keeps x since.
+    let honest : IsTrue (A.keeps_model c.look.new.device) = subst IsTrue (sym c.look.ensures.passes.model) source in
+    let blocks = copy_blocks c.in-Ok.view from to c.in_ok-size.size.blocks.number (A.disk old) (A.disk c.look.new.device) c.in-Ok.ensures.count
+    (sizes.count ∙ ap known_blocks c.sectors-2.ensures) (omega (arith, sizes.grows, ap known_blocks c.sectors.ensures, ap known_blocks c.sectors-2.ensures))
+    (c.look.ensures.disk source) (c.in-Ok.ensures.blocks source) in
+    subst (λ l. MakingLeaves to l (B.disk new) x) blocks (c.lay.ensures.stops honest keeps x since)
 
 pub returns-in-Ok-clause-after : goal.returns-in-Ok-clause-after
-returns-in-Ok-clause-after g c = λ source keeps.
+returns-in-Ok-clause-after g c =
     let A = g.A.SectorDevice in
     let B = g.B.SectorDevice in
-    let d = A.disk c.args.old.now in
-    let a = c.in_ok-sizes.sizes.old.number in
-    let b = c.in_ok-sizes.sizes.new.number in
-    let mid = c.find.new.device in
-    let now = c.carry.new.target in
-    let honest : IsTrue (A.keeps_model mid) = subst IsTrue (sym c.find.ensures.only_read.passes.model) source in
-    let still : IsTrue (B.keeps_sectors now) = subst IsTrue (sym c.carry.ensures.carries.passes.units) keeps in
-    on_ok_weaker c.carry.result
-    (λ whole n m from to x may.
-    let one : a ≡ n = omega (arith, from, c.in_ok-sizes.ensures.old, c.sectors.ensures) in
-    let two : b ≡ m = omega (arith, to, c.in_ok-sizes.ensures.new, c.sectors-2.ensures) in
-    subst (λ k. Means (grown k (meaning n d.content)) x) two
-    (subst (λ l. Means l x) (carried_copy a b n c.in-Ok.listing d (A.disk mid) one (c.find.ensures.only_read.disk source) (c.in-Ok.ensures.ok source))
-    (whole_means b c.in_ok-sizes.sizes.new.many c.in_ok-sizes.sizes.new.few
-    (carried_blocks a b c.in-Ok.listing (A.disk mid).content)
-    (length-grown a b c.in_ok-sizes.ensures.grows (found_in a c.in-Ok.listing (A.disk mid).content))
-    (B.disk now) (g.met.B.SectorDevice.present now (g.met.B.SectorDevice.keeps_both _ still)) whole x may)))
-    (c.carry.ensures.ok honest keeps)
+    let old = c.args.old.now in
+    let new = c.args.new.now in
+    let from = A.sector_count old in
+    let to = B.sector_count new in
+    let sizes = c.in_ok-size.ensures in
+    λ source keeps.
+    let honest : IsTrue (A.keeps_model c.look.new.device) = subst IsTrue (sym c.look.ensures.passes.model) source in
+    let blocks = copy_blocks c.in-Ok.view from to c.in_ok-size.size.blocks.number (A.disk old) (A.disk c.look.new.device) c.in-Ok.ensures.count
+    (sizes.count ∙ ap known_blocks c.sectors-2.ensures) (omega (arith, sizes.grows, ap known_blocks c.sectors.ensures, ap known_blocks c.sectors-2.ensures))
+    (c.look.ensures.disk source) (c.in-Ok.ensures.blocks source) in
+    on_ok_weaker c.lay.result (λ left x may. subst (λ l. Means to l x) blocks (left x may)) (c.lay.ensures.after honest keeps)
 
-pub returns-in-Ok-clause-filled : goal.returns-in-Ok-clause-filled
-returns-in-Ok-clause-filled g c = λ source keeps.
+pub returns-in-Ok-clause-opens : goal.returns-in-Ok-clause-opens
+returns-in-Ok-clause-opens g c = λ source keeps.
+    let B = g.B.SectorDevice in
+    let now = c.lay.new.new in
+    let run = c.lay.ensures.carries.passes in
+    let still : IsTrue (suits B now) = subst IsTrue (sym (stays B c.args.new.now now run.sectors run.model run.units)) keeps in
+    on_ok_weaker c.lay.result
+    (λ left. left (B.disk now).content (g.met.B.SectorDevice.present now (suits_keeps B g.met.B.SectorDevice.keeps_both now still)))
+    (returns-in-Ok-clause-after g c source keeps)
+
+pub returns-in-Ok-clause-made : goal.returns-in-Ok-clause-made
+returns-in-Ok-clause-made g c =
     let A = g.A.SectorDevice in
     let B = g.B.SectorDevice in
-    let d = A.disk c.args.old.now in
-    let a = c.in_ok-sizes.sizes.old.number in
-    let b = c.in_ok-sizes.sizes.new.number in
-    let mid = c.find.new.device in
-    let now = c.carry.new.target in
-    let honest : IsTrue (A.keeps_model mid) = subst IsTrue (sym c.find.ensures.only_read.passes.model) source in
-    on_ok_weaker c.carry.result
-    (λ whole n m from to.
-    let one : a ≡ n = omega (arith, from, c.in_ok-sizes.ensures.old, c.sectors.ensures) in
-    let two : b ≡ m = omega (arith, to, c.in_ok-sizes.ensures.new, c.sectors-2.ensures) in
-    subst (λ k. HoldsBlocks k (grown k (meaning n d.content)) (B.disk now).content) two
-    (subst (λ l. HoldsBlocks b l (B.disk now).content) (carried_copy a b n c.in-Ok.listing d (A.disk mid) one (c.find.ensures.only_read.disk source) (c.in-Ok.ensures.ok source))
-    whole.held))
-    (c.carry.ensures.ok honest keeps)
+    let old = c.args.old.now in
+    let new = c.args.new.now in
+    let from = A.sector_count old in
+    let to = B.sector_count new in
+    let sizes = c.in_ok-size.ensures in
+    λ source keeps.
+    let honest : IsTrue (A.keeps_model c.look.new.device) = subst IsTrue (sym c.look.ensures.passes.model) source in
+    let blocks = copy_blocks c.in-Ok.view from to c.in_ok-size.size.blocks.number (A.disk old) (A.disk c.look.new.device) c.in-Ok.ensures.count
+    (sizes.count ∙ ap known_blocks c.sectors-2.ensures) (omega (arith, sizes.grows, ap known_blocks c.sectors.ensures, ap known_blocks c.sectors-2.ensures))
+    (c.look.ensures.disk source) (c.in-Ok.ensures.blocks source) in
+    on_ok_weaker c.lay.result (λ made. subst (λ l. IsMade to l (B.disk c.lay.new.new)) blocks made) (c.lay.ensures.made honest keeps)
+
+pub returns-in-Ok-clause-new_units : goal.returns-in-Ok-clause-new_units
+returns-in-Ok-clause-new_units g c =
+    λ keeps. c.lay.ensures.carries.units (by_size g.B.SectorDevice c.args.new.now keeps)
 
 pub returns-in-Ok-clause-exact : goal.returns-in-Ok-clause-exact
 returns-in-Ok-clause-exact g c = λ source.
+    let from = g.A.SectorDevice.sector_count c.args.old.now in
+    let to = g.B.SectorDevice.sector_count c.args.new.now in
     let image = (g.A.SectorDevice.disk c.args.old.now).content in
-    let a = c.in_ok-sizes.sizes.old.number in
-    let none : copy_refusal c.sectors.result c.sectors-2.result image ≡ None =
-    copy_refused c.sectors.result c.sectors-2.result a image c.in_ok-sizes.ensures.old c.in_ok-sizes.ensures.exact ∙ ap of_old (c.in-Ok.ensures.exact source) in
+    let none : copy_refusal from to image ≡ None =
+    copy_refused from to image ((λ t. copy_size_refusal (sym c.sectors.ensures t) (sym c.sectors-2.ensures t)) ∙ c.in_ok-size.ensures.exact) ∙ ap of_old (c.in-Ok.ensures.exact source) in
     search rules
 
 pub returns-in-Err-clause-exact : goal.returns-in-Err-clause-exact
 returns-in-Err-clause-exact g c = λ source.
+    let from = g.A.SectorDevice.sector_count c.args.old.now in
+    let to = g.B.SectorDevice.sector_count c.args.new.now in
     let image = (g.A.SectorDevice.disk c.args.old.now).content in
-    let a = c.in_ok-sizes.sizes.old.number in
     ⊎_elim
     (λ device. inl (ap Old device))
     (λ found. inr (inr (
-    (λ t. copy_refusal (sym c.sectors.ensures t) (sym c.sectors-2.ensures t) image)
-    ∙ copy_refused c.sectors.result c.sectors-2.result a image c.in_ok-sizes.ensures.old c.in_ok-sizes.ensures.exact
-    ∙ ap of_old found)))
+    copy_refused from to image ((λ t. copy_size_refusal (sym c.sectors.ensures t) (sym c.sectors-2.ensures t)) ∙ c.in_ok-size.ensures.exact) ∙ ap of_old found)))
     (c.in-Err.ensures.exact source)
 
 pub returns-in-Ok-clause-old_stops : goal.returns-in-Ok-clause-old_stops
 returns-in-Ok-clause-old_stops g c =
-    only_read_then g.A.SectorDevice c.args.old.now c.find.new.device c.carry.new.source g.met.A.SectorDevice.widens
-    c.find.ensures.only_read c.carry.ensures.carries.source
+    let look = c.look.ensures in
+    only_read_then g.A.SectorDevice c.args.old.now c.look.new.device c.lay.new.old g.met.A.SectorDevice.widens
+    (record { disk = look.disk; stops = look.stops; passes = look.passes; begins = look.begins }) c.lay.ensures.carries.source
+
+pub returns-in-Err-clause-old_stops : goal.returns-in-Err-clause-old_stops
+returns-in-Err-clause-old_stops g c =
+    let look = c.look.ensures in record { disk = look.disk; stops = look.stops; passes = look.passes; begins = look.begins }
 
 pub returns-in-Ok-clause-old_reads : goal.returns-in-Ok-clause-old_reads
-returns-in-Ok-clause-old_reads g c = λ keeps n size.
+returns-in-Ok-clause-old_reads g c =
     let A = g.A.SectorDevice in
+    let B = g.B.SectorDevice in
     let old = c.args.old.now in
-    let one : c.in_ok-sizes.sizes.old.number ≡ n = omega (arith, size, c.in_ok-sizes.ensures.old, c.sectors.ensures) in
-    subst (λ k. ReadsAtMost A old c.carry.new.source (reads_to_list k (A.disk old).content + 2 * k + 1)) one
-    (omega (arith, c.find.ensures.reads keeps, c.carry.ensures.reads (subst IsTrue (sym c.find.ensures.only_read.passes.model) keeps)))
-
-pub returns-in-Err-clause-old_reads : goal.returns-in-Err-clause-old_reads
-returns-in-Err-clause-old_reads g c = λ keeps n size.
-    let A = g.A.SectorDevice in
-    let old = c.args.old.now in
-    let one : c.in_ok-sizes.sizes.old.number ≡ n = omega (arith, size, c.in_ok-sizes.ensures.old, c.sectors.ensures) in
-    subst (λ k. ReadsAtMost A old c.find.new.device (reads_to_list k (A.disk old).content + 2 * k + 1)) one
-    (omega (arith, c.find.ensures.reads keeps))
+    let new = c.args.new.now in
+    let from = A.sector_count old in
+    let to = B.sector_count new in
+    let sizes = c.in_ok-size.ensures in
+    λ source.
+    let honest : IsTrue (A.keeps_model c.look.new.device) = subst IsTrue (sym c.look.ensures.passes.model) source in
+    let within : c.in-Ok.view.blocks.number ≤ c.in_ok-size.size.blocks.number =
+    omega (arith, sizes.grows, sizes.count, ap known_blocks c.sectors.ensures, c.in-Ok.ensures.count) in
+    omega (
+      arith,
+      c.look.ensures.reads source,
+      c.lay.ensures.reads honest,
+      c.in-Ok.ensures.count,
+      given_reads c.in-Ok.view.blocks.number c.in_ok-size.size.blocks.number within,
+    )

@@ -1,5 +1,5 @@
 use Rattle.std.proofs.Common.{◌∙◌}
-use Rattle.image_care.proofs.Copies.{true_record}
+use Rattle.image_care.proofs.Salvages.{true_record}
 use Rattle.image_care.proofs.salvaging.find_true.Goals as goal
 
 pub returns-in-Ok-clause-ok : goal.returns-in-Ok-clause-ok

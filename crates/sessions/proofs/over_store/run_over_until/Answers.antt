@@ -20,8 +20,10 @@ returns-clause-goes g c =
     let before : g.F.Lines.device c.new-system.result ≡ device_of c.args.store =
     c.new-system.ensures.device (device_of c.args.store) (λ held is. ap device_of is) in
     let after : g.F.Lines.device c.run_until-end.new.forth ≡ device_of c.into_store.result = sym c.into_store.ensures.device in
+    let met = g.met.D.SectorDevice in
     record {
       model = rw (before, after) at c.run_until-end.ensures.model;
+      sectors = λ keeps. (returns-clause-session g c (own_maps c.args.store) (stands_for_own met.present met.keeps_both c.args.store keeps)).4.kept.sectors;
       time = rw (before, after) at c.run_until-end.ensures.time;
       failures = rw (before, after) at c.run_until-end.ensures.failures;
     }

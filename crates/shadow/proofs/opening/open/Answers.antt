@@ -1,10 +1,9 @@
 use Rattle.std.proofs.Common.{refl, sym, ◌∙◌, ap, subst, IsTrue}
 use Rattle.sector_disk.specs.Disk.{Disk}
-use Rattle.journal.specs.Layout.{gate_open}
 use Rattle.journal.specs.Maps.{fresh}
 use Rattle.journal.specs.PageClean.{IsClean}
 use Rattle.journal.specs.PageImages.{meaning, record_of}
-use Rattle.journal.specs.PageLayout.{gate_at}
+use Rattle.journal.specs.PageLayout.{gate_at, gate_open}
 use Rattle.shadow.specs.Opened.{HasMeaning}
 use Rattle.journal.specs.Store.{StandsFor, blocks_of}
 use Rattle.journal.specs.Technique.{is_journal}

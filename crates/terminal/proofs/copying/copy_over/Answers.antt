@@ -1,11 +1,24 @@
 use Rattle.std.proofs.Common.{◌∙◌, sym}
-use Rattle.terminal.proofs.Copies.{copied, either_failed, no_new_device, no_old_device, told_device, told_first}
+use Rattle.terminal.proofs.Copies.{becomes, either_failed, left_after, never_stopped, no_new_device, no_old_device, not_refused, tells, told_device, told_first}
 use Rattle.terminal.proofs.copying.copy_over.Goals as goal
 
 pub returns-in-Ok-clause-copies : goal.returns-in-Ok-clause-copies
 returns-in-Ok-clause-copies g c =
-    copied g.A.SectorDevice g.B.SectorDevice c.args.old.now c.copy.new.old c.args.new.now c.copy.new.new c.in-Ok.ensures.sized c.in-Ok.ensures.exact
-    c.copy.ensures.old_stops c.copy.ensures.new_passes c.copy.ensures.new_stops c.in-Ok.ensures.after c.copy.ensures.new_begins c.copy.ensures.old_reads
+    let A = g.A.SectorDevice in
+    let B = g.B.SectorDevice in
+    let old = c.args.old.now in
+    let new = c.args.new.now in
+    let did = c.in-Ok.ensures in
+    record {
+      old = did.old_stops;
+      sound = λ keeps. not_refused (A.sector_count old) (B.sector_count new) (A.disk old).content (did.exact keeps);
+      goes = becomes A B new c.copy.new.new did.new_passes;
+      stops = did.new_stops;
+      new = λ keeps keeps'. left_after A B new c.copy.new.new _ did.new_passes.sectors (did.after keeps keeps');
+      begins = did.new_begins;
+      looks = did.new_reads;
+      reads = did.old_reads;
+    }
 
 pub returns-in-Err-clause-exact : goal.returns-in-Err-clause-exact
 returns-in-Err-clause-exact g c = λ keeps. told_first c.from.result c.in-Err.fault _ c.from.ensures (c.in-Err.ensures.exact keeps)
@@ -24,3 +37,21 @@ pub returns-in-Err-clause-unasked : goal.returns-in-Err-clause-unasked
 returns-in-Err-clause-unasked g c = λ other.
     c.in-Err.ensures.new_same (no_old_device c.from.result c.in-Err.fault c.from.ensures other)
     (no_new_device c.from.result c.in-Err.fault c.from.ensures other)
+
+pub returns-in-Err-clause-failed : goal.returns-in-Err-clause-failed
+returns-in-Err-clause-failed g c =
+    let did = c.in-Err.ensures in
+    record {
+      made = record {
+        old = did.old_stops;
+        goes = becomes g.A.SectorDevice g.B.SectorDevice c.args.new.now c.copy.new.new did.new_passes;
+        stops = did.new_stops;
+        begins = did.new_begins;
+        looks = did.new_reads;
+      };
+      tells = tells g.A.SectorDevice g.B.SectorDevice _ _ c.from.result c.in-Err.fault c.args.old.now c.copy.new.old c.args.new.now c.copy.new.new
+          c.from.ensures did.old_device did.new_device did.old_well did.new_well did.new_same did.exact;
+    }
+
+pub returns-in-Err-clause-unstopped : goal.returns-in-Err-clause-unstopped
+returns-in-Err-clause-unstopped g c = λ same. never_stopped c.in-Err.fault (sym c.from.ensures ∙ same)

@@ -1,5 +1,5 @@
 use Rattle.std.proofs.Common.{◌≡◌, ◌≤◌, length, take}
-use Rattle.cell_machine.specs.Effects.{trimmed}
+use Rattle.data_space.specs.Blanks.{trimmed}
 use Rattle.terminal.proofs.exporting.text_length.Given as goal
 
 abbrev pub invariant-loop-count : goal.invariant-loop-count

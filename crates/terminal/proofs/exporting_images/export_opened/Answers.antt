@@ -1,12 +1,20 @@
 use Rattle.std.proofs.Common.{refl}
-use Rattle.journal.specs.Store.{device_of}
-use Rattle.terminal.proofs.Closing.{done_of}
+use Rattle.terminal.proofs.Ended.{done_err, done_on, if_ok}
+use Rattle.terminal.specs.declared.left.Left.TheVariants.{Opened}
 use Rattle.terminal.proofs.exporting_images.export_opened.Goals as goal
 
 pub returns-in-Ok-clause-exported : goal.returns-in-Ok-clause-exported
 returns-in-Ok-clause-exported g c =
-    rw c.in-Ok.is (done_of c.export_over.result c.closed.result c.closed.ensures _ _ (λ store exported. (device_of store, (c.in-Ok.disk, refl, exported))) c.export_over.ensures.exported)
+    let ended = c.export_over-disk in
+    if_ok _ _ c.in-Ok.is (done_on (λ d. Opened d) _ _ c.in-Ok.disk ended.result.0 ended.result.1 ended.result.1 _ refl refl refl ended.ensures.exported)
+
+pub returns-in-Ok-clause-unexported : goal.returns-in-Ok-clause-unexported
+returns-in-Ok-clause-unexported g c =
+    let ended = c.export_over-disk in
+    if_ok _ _ c.in-Ok.is (done_err (λ d. Opened d) _ _ c.in-Ok.disk ended.result.0 ended.result.1 _ refl refl ended.ensures.failed)
 
 pub returns-in-Err-clause-shown : goal.returns-in-Err-clause-shown
-returns-in-Err-clause-shown g c =
-    rw c.in-Err.is (done_of c.show_blocks.result c.closed-in-Err.result c.closed-in-Err.ensures _ _ (λ disk shown. (disk, shown)) c.show_blocks.ensures.shown)
+returns-in-Err-clause-shown g c = rw c.in-Err.is c.show_blocks.ensures.shown
+
+pub returns-in-Err-clause-unshown : goal.returns-in-Err-clause-unshown
+returns-in-Err-clause-unshown g c = rw c.in-Err.is c.show_blocks.ensures.unshown

@@ -1,7 +1,7 @@
 use Rattle.std.proofs.Common.{IsTrue, arith, subst, sym}
 use Rattle.recovery.proofs.Upgrades.{only_read_then}
 use Rattle.terminal.specs.Done.{maps_on}
-use Rattle.terminal.proofs.BlocksShown.{found_of, shows_or_not, told_or_not}
+use Rattle.terminal.proofs.BlocksShown.{found_of, refused_first, shows_or_not, told_or_not}
 use Rattle.terminal.proofs.exporting_images.show_blocks_over.Goals as goal
 
 pub returns-in-Ok-clause-only_read : goal.returns-in-Ok-clause-only_read
@@ -34,4 +34,14 @@ returns-in-Ok-clause-shows g c =
     (λ isnt. let first = one.few isnt in omega (arith, first, shown.reads))
 
 pub returns-in-Ok-clause-exact : goal.returns-in-Ok-clause-exact
-returns-in-Ok-clause-exact g c = λ keeps. told_or_not c.show_found.result _ _ (c.in-Ok.ensures.exact keeps) c.show_found.ensures.only
+returns-in-Ok-clause-exact g c = λ keeps.
+    let D = g.D.SectorDevice in
+    let shown = c.show_found.ensures in
+    told_or_not c.show_found.result c.args.first c.args.last c.in-Ok.view.blocks.number (D.sector_count c.args.device.now) (D.disk c.args.device.now).content
+    (c.in-Ok.ensures.exact keeps) c.in-Ok.ensures.count shown.ordered shown.there shown.only shown.no_block
+
+pub returns-in-Err-clause-exact : goal.returns-in-Err-clause-exact
+returns-in-Err-clause-exact g c = λ keeps.
+    let D = g.D.SectorDevice in
+    refused_first c.from.result c.in-Err.fault c.args.first c.args.last (D.sector_count c.args.device.now) (D.disk c.args.device.now).content
+    c.from.ensures (c.in-Err.ensures.exact keeps)

@@ -1,14 +1,17 @@
-use Rattle.std.proofs.Common.{length}
-use Rattle.terminal.proofs.Becoming.{imported}
+use Rattle.std.proofs.Common.{inl, refl}
+use Rattle.terminal.specs.declared.left.Left.TheVariants.{Opened}
+use Rattle.terminal.proofs.Ended.{done_on, failed_on, unopened}
 use Rattle.terminal.proofs.files.import_image.Goals as goal
 
-pub returns-in-Ok : goal.returns-in-Ok
-returns-in-Ok g c =
-    let opened = c.in_ok-store.ensures.opened in
-    record {
-      imported = (
-        opened.0,
-        opened.1,
-        imported _ opened.0 c.in_ok-store.store c.import_files.new.store c.args.form c.args.first (length c.args.sources.now) opened.2 c.import_files.ensures.continues c.in-Ok.ensures.imported,
-      );
-    }
+pub returns-in-Ok-clause-imported : goal.returns-in-Ok-clause-imported
+returns-in-Ok-clause-imported g c =
+    done_on (λ d. Opened d) _ _ c.in-Ok.disk c.import_over.result.0 c.import_over.result.1 c.opened.result.1 c.opened.result.0
+    (record { file = c.in-Ok.ensures.file; sectors = c.in-Ok.ensures.sectors; counts = c.in-Ok.ensures.counts; failures = c.in-Ok.ensures.failures }) c.opened.ensures.left c.opened.ensures.outcome c.import_over.ensures.imported
+
+pub returns-in-Ok-clause-failed : goal.returns-in-Ok-clause-failed
+returns-in-Ok-clause-failed g c =
+    failed_on (λ d. Opened d) _ _ c.in-Ok.disk c.import_over.result.0 c.import_over.result.1 c.opened.result.1 c.opened.result.0
+    (record { file = c.in-Ok.ensures.file; sectors = c.in-Ok.ensures.sectors; counts = c.in-Ok.ensures.counts; failures = c.in-Ok.ensures.failures }) c.opened.ensures.left c.opened.ensures.outcome c.import_over.ensures.failed
+
+pub returns-in-Err-clause-failed : goal.returns-in-Err-clause-failed
+returns-in-Err-clause-failed g c = inl (refl, unopened c.in-Err.fault c.from.result c.in-Err.ensures.refusal c.from.ensures)

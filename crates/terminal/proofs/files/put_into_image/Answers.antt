@@ -1,14 +1,17 @@
-use Rattle.terminal.proofs.Becoming.{puts}
+use Rattle.std.proofs.Common.{inl, refl}
+use Rattle.terminal.specs.declared.left.Left.TheVariants.{Opened}
+use Rattle.terminal.proofs.Ended.{done_on, failed_on, unopened}
 use Rattle.terminal.proofs.files.put_into_image.Goals as goal
 
-pub returns-in-Ok : goal.returns-in-Ok
-returns-in-Ok g c =
-    let opened = c.in_ok-store.ensures.opened in
-    record {
-      put = (
-        opened.0,
-        opened.1,
-        puts _ opened.0 c.in_ok-store.store c.put_file.new.store c.args.block opened.2 c.in-Ok.ensures.there
-            c.put_file.ensures.continues c.in-Ok.ensures.some c.put_file.ensures.begins c.put_file.ensures.reads,
-      );
-    }
+pub returns-in-Ok-clause-put : goal.returns-in-Ok-clause-put
+returns-in-Ok-clause-put g c =
+    done_on (λ d. Opened d) _ _ c.in-Ok.disk c.put_over.result.0 c.put_over.result.1 c.opened.result.1 c.opened.result.0
+    (record { file = c.in-Ok.ensures.file; sectors = c.in-Ok.ensures.sectors; counts = c.in-Ok.ensures.counts; failures = c.in-Ok.ensures.failures }) c.opened.ensures.left c.opened.ensures.outcome c.put_over.ensures.put
+
+pub returns-in-Ok-clause-failed : goal.returns-in-Ok-clause-failed
+returns-in-Ok-clause-failed g c =
+    failed_on (λ d. Opened d) _ _ c.in-Ok.disk c.put_over.result.0 c.put_over.result.1 c.opened.result.1 c.opened.result.0
+    (record { file = c.in-Ok.ensures.file; sectors = c.in-Ok.ensures.sectors; counts = c.in-Ok.ensures.counts; failures = c.in-Ok.ensures.failures }) c.opened.ensures.left c.opened.ensures.outcome c.put_over.ensures.failed
+
+pub returns-in-Err-clause-failed : goal.returns-in-Err-clause-failed
+returns-in-Err-clause-failed g c = inl (refl, unopened c.in-Err.fault c.from.result c.in-Err.ensures.refusal c.from.ensures)

@@ -1,28 +1,21 @@
-use Rattle.std.proofs.Common.{◌≡◌, ◌∙◌, ℕ, subst, sym}
-use Rattle.journal.specs.Layout.{sectors_for}
-use Rattle.recovery.specs.Label.{blocks_in}
-use Rattle.sector_disk.specs.Opening.{AreZeros}
-use Rattle.terminal.proofs.Becoming.{upgrades}
+use Rattle.std.proofs.Common.{inl, refl}
+use Rattle.command_line.specs.declared.orders.Layout.TheVariants.{Two}
+use Rattle.terminal.proofs.Ended.{unopened}
+use Rattle.terminal.proofs.Upgrading.{upgrade_done, upgrade_failed}
 use Rattle.terminal.proofs.files.upgrade_image.Goals as goal
 
 pub returns-in-Ok-clause-made : goal.returns-in-Ok-clause-made
 returns-in-Ok-clause-made g c =
-    let counted : c.sectors-sectors.result ≡ c.in_ok-source.source.sectors = c.sectors-sectors.ensures in
-    let made = c.in_ok-target.ensures.made in
-    let n = c.in-Some.field-0 in
-    let are : n ≡ blocks_in c.in_ok-source.source.sectors = c.in-Some.ensures.count ∙ (λ i. blocks_in (counted i)) in
-    let size : c.in_ok-source.source.sectors ≡ sectors_for n = sym counted ∙ c.in-Some.ensures.size in
-    let same : c.in_ok-target.target.sectors ≡ c.in_ok-source.source.sectors = c.in_ok-target.ensures.sectors ∙ counted in (
-      c.in_ok-source.source,
-      record { file = c.in_ok-source.ensures.file; sectors = c.in_ok-source.ensures.sectors },
-      c.in_ok-target.target,
-      record {
-        file = made.0;
-        made = made.1;
-        goes = made.2;
-        sectors_are = same;
-        zeros = λ keeps. subst (λ (k : ℕ). AreZeros k (g.H.HostFile.bytes c.in_ok-target.target.file)) counted (c.in_ok-target.ensures.zeros keeps);
-      },
-      upgrades _ c.in_ok-source.source c.upgrade.new.old c.in_ok-target.target c.upgrade.new.new n are size same
-          c.upgrade.ensures.old_passes c.upgrade.ensures.new_passes c.upgrade.ensures.old_stops c.upgrade.ensures.new_stops c.in-Ok.ensures.after,
-    )
+    upgrade_done _ Two c.upgrade_into.result.1 c.upgrade_into.result.0 c.in-Ok.source _ _ (record { file = c.in-Ok.ensures.file; sectors = c.in-Ok.ensures.sectors; counts = c.in-Ok.ensures.counts; failures = c.in-Ok.ensures.failures })
+    c.upgrade_into.ensures.made
+
+pub returns-in-Ok-clause-failed : goal.returns-in-Ok-clause-failed
+returns-in-Ok-clause-failed g c =
+    upgrade_failed _ Two c.upgrade_into.result.1 c.upgrade_into.result.0 c.in-Ok.source _ _ _ (record { file = c.in-Ok.ensures.file; sectors = c.in-Ok.ensures.sectors; counts = c.in-Ok.ensures.counts; failures = c.in-Ok.ensures.failures })
+    c.upgrade_into.ensures.failed
+
+pub returns-in-Ok-clause-well : goal.returns-in-Ok-clause-well
+returns-in-Ok-clause-well g c = c.upgrade_into.ensures.well c.in-Ok.ensures.failures
+
+pub returns-in-Err-clause-failed : goal.returns-in-Err-clause-failed
+returns-in-Err-clause-failed g c = inl (inl (inl (refl, unopened c.in-Err.fault c.from.result c.in-Err.ensures.refusal c.from.ensures)))

@@ -52,13 +52,19 @@ returns-in-Ok-put_block-clause-some g c =
     }
 
 pub returns-in-Ok-put_block-clause-kept : goal.returns-in-Ok-put_block-clause-kept
-returns-in-Ok-put_block-clause-kept g c = record {
-  left = λ m stands live image left.
-      ⊎_elim (λ old. inl old) (λ new. inr (c.as_slice-in-Some.result.now, new)) (c.in-Ok-put_block.ensures.stops m stands live image left);
-}
+returns-in-Ok-put_block-clause-kept g c =
+    let said : screen_of c.in-Ok.text.items ≡ Some c.as_slice-in-Some.result.now =
+    ap screen_of (sym c.as_slice.ensures.value) ∙ sym c.in-Some.ensures ∙ ap (λ l. Some l) (sym c.as_slice-in-Some.ensures.value) in
+    record {
+      left = λ m stands live image left.
+          ⊎_elim (λ old. inl old) (λ new. inr (c.in-Ok.text.items, c.as_slice-in-Some.result.now, said, new)) (c.in-Ok-put_block.ensures.stops m stands live image left);
+    }
 
 pub returns-in-Err-put_block-clause-kept : goal.returns-in-Err-put_block-clause-kept
-returns-in-Err-put_block-clause-kept g c = record {
-  left = λ m stands live image left.
-      ⊎_elim (λ old. inl old) (λ new. inr (c.as_slice-in-Some.result.now, new)) (c.in-Err-put_block.ensures.stops m stands live image left);
-}
+returns-in-Err-put_block-clause-kept g c =
+    let said : screen_of c.in-Ok.text.items ≡ Some c.as_slice-in-Some.result.now =
+    ap screen_of (sym c.as_slice.ensures.value) ∙ sym c.in-Some.ensures ∙ ap (λ l. Some l) (sym c.as_slice-in-Some.ensures.value) in
+    record {
+      left = λ m stands live image left.
+          ⊎_elim (λ old. inl old) (λ new. inr (c.in-Ok.text.items, c.as_slice-in-Some.result.now, said, new)) (c.in-Err-put_block.ensures.stops m stands live image left);
+    }

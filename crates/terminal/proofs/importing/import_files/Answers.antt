@@ -1,4 +1,4 @@
-use Rattle.std.proofs.Common.{◌≡◌, ◌∙◌, ◌+◌, ◌-◌, ◌<◌, ◌≤◌, ℕ, List, inl, inr, ⊎_elim, length, subst}
+use Rattle.std.proofs.Common.{◌≡◌, ◌∙◌, ◌+◌, ◌-◌, ◌<◌, ◌≤◌, ℕ, List, ap, arith, inl, inr, ⊎_elim, length, subst}
 use Rattle.std.proofs.lemmas.Result.{on_ok_weaker}
 use Rattle.journal.specs.Store.{MeansBy}
 use Rattle.journal.specs.Maps.{latest}
@@ -39,3 +39,14 @@ returns-in-Ok-clause-kept g c = λ m stands live image left.
 pub returns-in-Err-clause-kept : goal.returns-in-Err-clause-kept
 returns-in-Err-clause-kept g c = λ m stands live image left.
     inl (keeps_none g.met.D.SectorDevice.only_now c.args.store.now m stands live image left)
+
+pub returns-in-Ok-clause-begins : goal.returns-in-Ok-clause-begins
+returns-in-Ok-clause-begins g c =
+    let count = ap (λ (l : List ℕ). blocks_for (length l)) c.as_slice.ensures.value in
+    let few = c.import_bytes.ensures.begins in
+    record { few_writes = omega (arith, count, c.blocks-2.ensures.value, c.in-Ok.ensures.there, few.few_writes); few_syncs = few.few_syncs }
+
+pub returns-in-Ok-clause-reads : goal.returns-in-Ok-clause-reads
+returns-in-Ok-clause-reads g c =
+    let count = ap (λ (l : List ℕ). blocks_for (length l)) c.as_slice.ensures.value in
+    omega (arith, count, c.blocks-2.ensures.value, c.in-Ok.ensures.there, c.import_bytes.ensures.reads)

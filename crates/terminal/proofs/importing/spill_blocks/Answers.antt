@@ -6,7 +6,7 @@ use Rattle.journal.specs.Maps.{spilled}
 use Rattle.journal.specs.Store.{StandsFor, device_of}
 use Rattle.terminal.specs.Imported.{Spills}
 use Rattle.terminal.specs.Transfer.{as_blocks, block_of, spilled_from}
-use Rattle.terminal.proofs.Saving.{blocks_done, blocks_next, keeps_none, keeps_then, none_left, spilled_more}
+use Rattle.terminal.proofs.Saving.{blocks_done, blocks_next, blocks_so_far, keeps_none, keeps_then, none_left, one_block_more, spilled_more}
 use Rattle.terminal.proofs.importing.spill_blocks.Goals as goal
 
 pub loop-block-init : goal.loop-block-init
@@ -83,3 +83,26 @@ loop-block-preserved g c =
       };
       reads = omega (arith, inv.reads, c.spill_next.ensures.reads);
     }
+
+pub returns-then-is_empty-clause-begins : goal.returns-then-is_empty-clause-begins
+returns-then-is_empty-clause-begins g c =
+    let inv = c.loop-block.invariant in
+    record { few_writes = omega (arith, blocks_so_far inv.done c.loop-block.left.now c.args.bytes.now inv.rest, inv.begins.few_writes); few_syncs = inv.begins.few_syncs }
+
+pub returns-clause-begins : goal.returns-clause-begins
+returns-clause-begins g c =
+    let inv = c.loop-block.invariant in
+    record { few_writes = omega (arith, blocks_so_far inv.done c.loop-block.left.now c.args.bytes.now inv.rest, inv.begins.few_writes); few_syncs = inv.begins.few_syncs }
+
+pub returns-in_err-left-clause-begins : goal.returns-in_err-left-clause-begins
+returns-in_err-left-clause-begins g c =
+    let inv = c.loop-block.invariant in
+    let some : 0 < length c.loop-block.left.now = grind (arith, common_steps) in
+    let next = c.spill_next.ensures.begins in
+    record {
+      few_writes = omega (arith, one_block_more c.loop-block.left.now some, blocks_so_far inv.done c.loop-block.left.now c.args.bytes.now inv.rest, inv.begins.few_writes, next.few_writes);
+      few_syncs = omega (arith, inv.begins.few_syncs, next.few_syncs);
+    }
+
+pub returns-in_err-left-clause-reads : goal.returns-in_err-left-clause-reads
+returns-in_err-left-clause-reads g c = omega (arith, c.loop-block.invariant.reads, c.spill_next.ensures.reads)

@@ -14,3 +14,7 @@ pub returns-in-Ok-format-clause-broken : goal.returns-in-Ok-format-clause-broken
 returns-in-Ok-format-clause-broken g c =
     failed_of c.run_session.result c.closed.result c.closed.ensures _ _ (λ e run other. let broken = run other in (broken.0, broken.1, broken.2, _, broken.3, refl, refl, broken.4))
     (c.run_session.ensures.broken (fresh (blank_blocks 32)) (c.in-Ok-format.ensures.ok c.in-Ok.ensures.model))
+
+pub returns-in-Ok-format-clause-unstopped : goal.returns-in-Ok-format-clause-unstopped
+returns-in-Ok-format-clause-unstopped g c =
+    failed_of c.run_session.result c.closed.result c.closed.ensures _ _ (λ e other. other) c.run_session.ensures.unstopped

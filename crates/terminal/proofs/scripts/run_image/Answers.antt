@@ -1,8 +1,17 @@
-use Rattle.terminal.proofs.ScriptEnding.{ends_on}
+use Rattle.std.proofs.Common.{ap, inl, refl}
+use Rattle.terminal.proofs.ScriptEnding.{ends_on, unbegun_on}
 use Rattle.terminal.proofs.scripts.run_image.Goals as goal
 
-pub returns-clause-ends : goal.returns-clause-ends
-returns-clause-ends g c =
-    let opened = c.in_ok-store.ensures.opened in
-    ends_on _ g.T.Tracer.hears c.args.steps c.args.script.now _ _ _ _ _ _ _ _ opened.0 c.in_ok-store.store opened.1 opened.2 c.in_ok-lead.ensures.led
-    c.run_until_end.result c.run_until_end.ensures.session c.run_until_end.ensures.strict c.run_until_end.ensures.goes
+pub returns-in-Ok-clause-ends : goal.returns-in-Ok-clause-ends
+returns-in-Ok-clause-ends g c =
+    let ran = c.run_led in
+    ends_on _ g.T.Tracer.hears c.args.steps c.args.script.now _ _ _ _ _ _ _ _ ran.result.0 ran.result.1 c.in-Ok.ensures.led ran.ensures.ends
+
+pub returns-in-Ok-clause-failed : goal.returns-in-Ok-clause-failed
+returns-in-Ok-clause-failed g c =
+    let ran = c.run_led in
+    unbegun_on _ g.T.Tracer.hears c.args.steps c.args.script.now _ _ _ _ c.args.tracer.now ran.new.tracer _ _ ran.result.0 ran.result.1 c.in-Ok.ensures.led ran.ensures.failed
+
+pub returns-in-Err-clause-failed : goal.returns-in-Err-clause-failed
+returns-in-Err-clause-failed g c =
+    inl (record { unopened = refl; told = c.in-Err.ensures.only; unread = ap g.R.Read.remaining c.in-Err.ensures.same; unwritten = refl })

@@ -1,12 +1,20 @@
 use Rattle.std.proofs.Common.{refl}
-use Rattle.journal.specs.Store.{device_of}
-use Rattle.terminal.proofs.Closing.{done_of}
+use Rattle.terminal.proofs.Ended.{done_err, done_on, if_ok}
+use Rattle.terminal.specs.declared.left.Left.TheVariants.{Opened}
 use Rattle.terminal.proofs.showing.list_opened.Goals as goal
 
 pub returns-in-Ok-clause-listed : goal.returns-in-Ok-clause-listed
 returns-in-Ok-clause-listed g c =
-    rw c.in-Ok.is (done_of c.list_over.result c.closed.result c.closed.ensures _ _ (λ store listed. (device_of store, (c.in-Ok.disk, refl, listed))) c.list_over.ensures.listed)
+    let ended = c.list_over-disk in
+    if_ok _ _ c.in-Ok.is (done_on (λ d. Opened d) _ _ c.in-Ok.disk ended.result.0 ended.result.1 ended.result.1 _ refl refl refl ended.ensures.listed)
+
+pub returns-in-Ok-clause-unlisted : goal.returns-in-Ok-clause-unlisted
+returns-in-Ok-clause-unlisted g c =
+    let ended = c.list_over-disk in
+    if_ok _ _ c.in-Ok.is (done_err (λ d. Opened d) _ _ c.in-Ok.disk ended.result.0 ended.result.1 _ refl refl ended.ensures.failed)
 
 pub returns-in-Err-clause-shown : goal.returns-in-Err-clause-shown
-returns-in-Err-clause-shown g c =
-    rw c.in-Err.is (done_of c.show_image.result c.closed-in-Err.result c.closed-in-Err.ensures _ _ (λ disk shown. (disk, shown)) c.show_image.ensures.shown)
+returns-in-Err-clause-shown g c = rw c.in-Err.is c.show_image.ensures.shown
+
+pub returns-in-Err-clause-unshown : goal.returns-in-Err-clause-unshown
+returns-in-Err-clause-unshown g c = rw c.in-Err.is c.show_image.ensures.unshown

@@ -1,12 +1,19 @@
-use Rattle.terminal.proofs.BlockShown.{both_ok, shown_of}
+use Rattle.terminal.proofs.Begun.{opened_are}
+use Rattle.terminal.proofs.BlockShown.{shown_of, unshown_of}
 use Rattle.terminal.proofs.showing.show_image.Goals as goal
 
-pub returns : goal.returns
-returns g c =
+pub returns-clause-shown : goal.returns-clause-shown
+returns-clause-shown g c =
     let opened = c.open_disk.ensures in
     let done = c.show_opened.ensures in
-    record {
-      shown = shown_of _ c.open_disk.result c.show_opened.result _ c.args.block _ _
-          (both_ok c.open_disk.result _ _ _ (λ disk file sectors. record { file = file; sectors = sectors }) opened.file opened.sectors)
-          done.shown done.refused;
-    }
+    shown_of _ c.open_disk.result c.show_opened.result.1 c.show_opened.result.0 _ c.args.block _ _
+    (opened_are g.H.HostFile _ c.open_disk.result opened.file opened.sectors opened.counts opened.failures)
+    done.shown done.refused
+
+pub returns-clause-unshown : goal.returns-clause-unshown
+returns-clause-unshown g c =
+    let opened = c.open_disk.ensures in
+    let done = c.show_opened.ensures in
+    unshown_of _ c.open_disk.result c.show_opened.result.1 c.show_opened.result.0 _ _
+    (opened_are g.H.HostFile _ c.open_disk.result opened.file opened.sectors opened.counts opened.failures)
+    opened.refusal done.unshown done.refused done.unopened

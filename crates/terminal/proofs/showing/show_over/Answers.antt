@@ -19,3 +19,15 @@ returns-in-Ok-Some-clause-exact g c = λ keeps.
     printed_or_not c.print.result _
     (block_there c.args.block (g.D.SectorDevice.sector_count c.args.device.now) (g.D.SectorDevice.disk c.args.device.now).content (found.exact keeps)
     (rw c.in-Ok-Some.field-0-is at found.there)) c.print.ensures.only
+
+pub returns-in-Ok-Some-clause-only_read : goal.returns-in-Ok-Some-clause-only_read
+returns-in-Ok-Some-clause-only_read g c =
+    let read = c.read_block.ensures in record { disk = read.disk; stops = read.stops; passes = read.passes; begins = read.begins }
+
+pub returns-in-Ok-None-clause-only_read : goal.returns-in-Ok-None-clause-only_read
+returns-in-Ok-None-clause-only_read g c =
+    let read = c.read_block.ensures in record { disk = read.disk; stops = read.stops; passes = read.passes; begins = read.begins }
+
+pub returns-in-Err-clause-only_read : goal.returns-in-Err-clause-only_read
+returns-in-Err-clause-only_read g c =
+    let read = c.read_block.ensures in record { disk = read.disk; stops = read.stops; passes = read.passes; begins = read.begins }

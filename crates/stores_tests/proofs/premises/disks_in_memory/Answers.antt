@@ -1,7 +1,0 @@
-use Rattle.std.proofs.Common.{refl}
-use Rattle.sector_disk.specs.contracts.memory.MemoryDiskSectorDevice.TheImpl.{ghosts}
-use Rattle.stores_tests.proofs.Suited.{both}
-use Rattle.stores_tests.proofs.premises.disks_in_memory.Goals as goal
-
-pub returns : goal.returns
-returns c = both ghosts c.args.device.now refl refl

@@ -1,0 +1,56 @@
+-- A file that was opened, or made and not finished, and the commands that were to make an image on it.
+use Rattle.std.proofs.Common.{◌≡◌, ◌⊎◌, ◌∙◌, IsTrue, Option, None, Some, Result, Ok, Err, ap, inl, inr, refl}
+use Rattle.std.specs.Prelude.{IfOk, IfSome, MatchOption}
+use Rattle.sector_disk.specs.Opening.{WentOn, sectors_in}
+use Rattle.sector_disk.specs.SectorFile.{file_of, sectors_of}
+use Rattle.sector_disk.specs.declared.sector_file.SectorFile.{SectorFile}
+use Rattle.sector_disk.specs.declared.host_file.HostFile.{Ghosts}
+use Rattle.sector_disk.specs.declared.host_files.FileFault.{FileFault}
+use Rattle.sector_disk.specs.declared.host_files.FileFault.TheVariants as file
+use Rattle.terminal.specs.Failed.{IsUnmade, IsUnopened}
+use Rattle.terminal.specs.Failures.{of_file}
+use Rattle.terminal.specs.Files.{IsOpened, IsUnfinished}
+use Rattle.terminal.specs.declared.failure.Failure.{Failure}
+use Rattle.terminal.specs.declared.failure.Failure.TheVariants.{CannotOpen}
+use Rattle.terminal.specs.declared.left.Left.{Left}
+use Rattle.terminal.specs.declared.left.Left.TheVariants.{Made, Nothing, Opened, Upgraded}
+
+pub opened_are : {H E : Type 0} (G : Ghosts H) (opens : H → Type 0) (r : Result (SectorFile H G) E) → IfOk r (λ d. opens (file_of d))
+    → IfOk r (λ d. IsTrue (G.keeps_model (file_of d)) → sectors_of d ≡ sectors_in (G.extent (file_of d)))
+    → IfOk r (λ d. d.counts ≡ record { reads = 0; writes = 0; syncs = 0 }) → IfOk r (λ d. d.failures ≡ 0) → IfOk r (IsOpened G opens)
+opened_are G opens (Ok d) file sectors counts failures = record { file = file; sectors = sectors; counts = counts; failures = failures }
+opened_are G opens (Err e) file sectors counts failures = tt
+
+pub unfinished_are : {H : Type 0} (G : Ghosts H) (makes : H → Type 0) (o : Option (SectorFile H G))
+    → IfSome o (λ d. (file : H) × makes file × WentOn G file (file_of d)) → IfSome o (λ d. sectors_of d ≡ 0) → IfSome o (IsUnfinished G makes)
+unfinished_are G makes (Some d) made empty = record { file = made.0; made = made.1; goes = made.2; empty = empty }
+unfinished_are G makes None made empty = tt
+
+-- It is told as one that can't be opened.
+pub told_cannot : {D : Type 0} (o : Option D) (fault : FileFault) (failure : Failure) → failure ≡ of_file fault
+    → IfSome o (λ _. fault ≡ file.Cannot) → IfSome o (λ _. failure ≡ CannotOpen)
+told_cannot (Some d) fault failure is cannot = is ∙ ap of_file cannot
+told_cannot None fault failure is cannot = tt
+
+-- The clauses `NotFinished` and `NotUpgraded`, over no model of the device.
+pub not_finished : {D E : Type 0} (unfinished : Option D) (left : Left D E) (failure : Failure) (begun : D → Type 0)
+    → MatchOption unfinished (left ≡ Nothing) (λ device. left ≡ Made device) → IsUnmade failure → IfSome unfinished begun
+    → IfSome unfinished (λ _. failure ≡ CannotOpen)
+    → ((left ≡ Nothing) × IsUnmade failure) ⊎ ((failure ≡ CannotOpen) × (device : D) × begun device × (left ≡ Made device))
+not_finished None left failure begun at unmade is told = inl (at, unmade)
+not_finished (Some device) left failure begun at unmade is told = inr (told, device, is, at)
+
+pub not_upgraded : {D E : Type 0} (unfinished : Option D) (left : Left D E) (failure : Failure) (opened begun : D → Type 0) (source : D) → opened source
+    → MatchOption unfinished (left ≡ Opened source) (λ device. left ≡ Upgraded source device) → IfSome unfinished begun
+    → IfSome unfinished (λ _. failure ≡ CannotOpen)
+    → (((left ≡ Nothing) × IsUnopened failure) ⊎ ((after : D) × (left ≡ Opened after) × (device : D) × opened device × (after ≡ device)))
+    ⊎ ((failure ≡ CannotOpen) × (source : D) × opened source × (device : D) × begun device × (left ≡ Upgraded source device))
+not_upgraded None left failure opened begun source is at made told = inl (inr (source, at, source, is, refl))
+not_upgraded (Some device) left failure opened begun source is at made told = inr (told, source, is, device, made, at)
+
+-- No image was made on it, and of the old one no call was made.
+pub begun_in_part : {A B : Type 0} (unfinished : Option B) (failure : Failure) (begun P : B → Type 0) (source : A)
+    → IfSome unfinished begun → IfSome unfinished (λ _. failure ≡ CannotOpen)
+    → IfSome unfinished (λ after. ((failure ≡ CannotOpen) × (source ≡ source) × begun after) ⊎ P after)
+begun_in_part (Some after) failure begun P source made told = inl (told, refl, made)
+begun_in_part None failure begun P source made told = tt

@@ -1,0 +1,32 @@
+use Rattle.std.proofs.Common.{◌∙◌, ap, inr, refl, sym}
+use Rattle.std.proofs.lemmas.Result.{IfErr-weaker, on_ok_weaker}
+use Rattle.terminal.proofs.Begun.{begun_in_part}
+use Rattle.terminal.specs.Copying.{sectors_for_salvage}
+use Rattle.terminal.proofs.salvaging.salvage_into.Goals as goal
+
+pub returns-in-Ok-clause-made : goal.returns-in-Ok-clause-made
+returns-in-Ok-clause-made g c =
+    let done = c.salvage_over-outcome in
+    on_ok_weaker done.result
+    (λ did.
+    let sized : sectors_for_salvage (g.A.SectorDevice.sector_count c.args.source.now) c.args.asked ≡ Some c.in-Some.sectors =
+    sym (c.in-Some.ensures ∙ ap (λ s. sectors_for_salvage s c.args.asked) c.sectors.ensures) in
+    (done.new.new, refl, (c.in-Some.sectors, sized, c.in-Ok.target, c.in-Ok.ensures.made, did)))
+    done.ensures.salvages
+
+pub returns-in-Ok-clause-failed : goal.returns-in-Ok-clause-failed
+returns-in-Ok-clause-failed g c =
+    let done = c.salvage_over-outcome in
+    IfErr-weaker done.result _ _
+    (λ e did. inr (
+      c.in-Some.sectors,
+      sym (c.in-Some.ensures ∙ ap (λ s. sectors_for_salvage s c.args.asked) c.sectors.ensures),
+      c.in-Ok.target,
+      c.in-Ok.ensures.made,
+      did,
+    ))
+    done.ensures.failed
+
+pub returns-in-Err-clause-failed : goal.returns-in-Err-clause-failed
+returns-in-Err-clause-failed g c =
+    begun_in_part c.in-Err.unfinished c.in-Err.failure _ _ c.args.source.now c.in-Err.ensures.unfinished c.in-Err.ensures.refused

@@ -1,0 +1,398 @@
+-- What a command over images leaves where it failed, on any device: from the device that it opened or made to what that has become.
+use Rattle.std.specs.Prelude.{◌≡◌, ◌≢◌, ◌⊎◌, ℕ, Bool, true, ◌+◌, ◌-◌, ◌*◌, ◌≤◌, ◌<◌, IsTrue, List, Option, Some, IfSome, length, option_map}
+use Rattle.std.specs.Io.KnownBytes.{Appends}
+use Rattle.sector_disk.specs.Counting.{count_up}
+use Rattle.sector_disk.specs.declared.device.SectorDevice.{Ghosts}
+use Rattle.journal.specs.Calls.{BeginsAtMost, ReadsAtMost, StopsLeave}
+use Rattle.journal.specs.Images as older_images
+use Rattle.journal.specs.Layout as older_layout
+use Rattle.journal.specs.Maps.{Maps, latest, spilled}
+use Rattle.journal.specs.PageLayout as newer_layout
+use Rattle.journal.specs.Suits.{suits}
+use Rattle.interpreter.specs.Lines.{new_forth}
+use Rattle.recovery.specs.Formatted as older_making
+use Rattle.recovery.specs.Steps.{OnlyRead, WentWell}
+use Rattle.recovery.specs.Upgraded as older_upgrade
+use Rattle.recovery.specs.Upgraded.{OldLeaves}
+use Rattle.recovery.specs.declared.fault.UpgradeFault.{UpgradeFault}
+use Rattle.shadow.specs.Formatted as newer_making
+use Rattle.shadow.specs.Upgraded as newer_upgrade
+use Rattle.sector_disk.specs.Disk.{Image, MayLeave}
+use Rattle.stores.specs.Opened.{image_refusal}
+use Rattle.image_care.specs.Copied.{copied_blocks, copy_refusal}
+use Rattle.image_care.specs.Made.{MakingLeaves, writes_to_make}
+use Rattle.image_care.specs.Salvaged.{salvage_refusal, salvaged_blocks}
+use Rattle.sessions.specs.Devices.{Becomes}
+use Rattle.sessions.specs.Sessions.{AreFaultless}
+use Rattle.sessions.specs.declared.run_fault.RunFault.{RunFault}
+use Rattle.command_line.specs.declared.orders.Form.{Form}
+use Rattle.command_line.specs.declared.orders.Layout.{Layout}
+use Rattle.command_line.specs.declared.orders.Layout.TheVariants.{Two, Three}
+use Rattle.command_line.specs.declared.orders.Script.{Script}
+use Rattle.terminal.specs.Checked.{layout_by_size}
+use Rattle.terminal.specs.Compared.{OneFailed, refusal_of_either}
+use Rattle.terminal.specs.Copying.{MadeOf, sectors_for_copy, sectors_for_salvage}
+use Rattle.terminal.specs.Damage.{damage_report}
+use Rattle.terminal.specs.Done.{BreaksFrom, DoneOn, LeavesBlocks, MeansOn, Recovers, blocks_on, maps_on, meant_by}
+use Rattle.terminal.specs.Failures.{of_image, of_run, of_upgrade}
+use Rattle.terminal.specs.Findings.{AreSound, said_all}
+use Rattle.terminal.specs.Layout3.{meant_by_older}
+use Rattle.terminal.specs.Layout2 as older
+use Rattle.terminal.specs.Screen.{screen_of}
+use Rattle.terminal.specs.Scripts.{IsLed, StopsFrom, load_line}
+use Rattle.terminal.specs.Shown.{block_refusal, blocks_refusal}
+use Rattle.terminal.specs.Transfer.{as_blocks, spilled_from}
+use Rattle.terminal.specs.declared.failure.Failure.{Failure}
+use Rattle.terminal.specs.declared.failure.Failure.TheVariants.{BadSize, CannotOpen, CannotRead, CannotWrite, Damaged, Device, Exists, InUse, NoBlock, NoMemory, Stopped}
+use Rattle.terminal.specs.declared.left.Left.{Left}
+use Rattle.terminal.specs.declared.left.Left.TheVariants as files
+
+-- ---- which files were opened
+
+-- the system didn't open the file
+abbrev pub IsUnopened : Failure → Type 0
+IsUnopened failure = (failure ≡ CannotOpen) ⊎ (failure ≡ InUse)
+
+-- the system didn't make the file
+abbrev pub IsUnmade : Failure → Type 0
+IsUnmade failure = (failure ≡ Exists) ⊎ IsUnopened failure
+
+-- The device is as it was opened or made: no call of it was made.
+abbrev pub IsUntouched : {D : Type 0} (failure : Failure) (device after : D) → Type 0
+IsUntouched failure device after = after ≡ device
+
+-- ---- what is told
+
+-- what was found couldn't be printed
+abbrev pub IsUnprinted : Failure → Type 0
+IsUnprinted failure = failure ≡ CannotWrite
+
+-- what was found couldn't be told: there was no memory for it, or it couldn't be printed
+abbrev pub IsUntold : Failure → Type 0
+IsUntold failure = (failure ≡ NoMemory) ⊎ IsUnprinted failure
+
+-- A call of the device failed.
+abbrev pub CallFailed : {D : Type 0} (G : Ghosts D) (old new : D) → Type 0
+CallFailed G old new = G.failures new ≡ count_up (G.failures old)
+
+-- A fault of the device is told just where a call of it failed.
+pub record TellsFault {D : Type 0} (G : Ghosts D) (failure : Failure) (old new : D) : Type 0 where
+  pub failed : failure ≡ Device → CallFailed G old new
+  pub well : failure ≢ Device → G.failures new ≡ G.failures old
+
+-- An image was to be made of another one. A fault of a device is told just where a call of either failed; anything else is this
+-- refusal, by what holds of the old image where it keeps the model, and no call of the new one was made.
+pub record TellsRefusal {A B : Type 0} (G : Ghosts A) (H : Ghosts B) (keeps : Bool) (refusal : Option UpgradeFault) (failure : Failure)
+    (source source' : A) (device after : B) : Type 0 where
+  pub failed : failure ≡ Device → CallFailed G source source' ⊎ CallFailed H device after
+  pub well : failure ≢ Device → WentWell G H source source' device after
+  pub unasked : failure ≢ Device → after ≡ device
+  pub told : IsTrue keeps → (failure ≡ Device) ⊎ (Some failure ≡ option_map of_upgrade refusal)
+
+-- `upgrade` to layout 3, from the one device to the other: the old image was written nowhere, and synced at most once.
+pub record NewerUpgradeFails {A B : Type 0} (G : Ghosts A) (H : Ghosts B) (failure : Failure) (source source' : A) (device after : B) : Type 0 where
+  pub old : Becomes G source source'
+  pub left : IsTrue (G.keeps_model source) → StopsLeave G source source' (MayLeave (G.disk source))
+  pub unwritten : BeginsAtMost G source source' 0 1
+  pub goes : Becomes H device after
+  pub stops : IsTrue (G.keeps_model source) → IsTrue (H.keeps_model device) → StopsLeave H device after
+      (newer_making.MakingLeaves (blocks_on G source) (meant_by_older G source) (H.disk device))
+  pub tells : TellsRefusal G H (G.keeps_model source)
+      (newer_upgrade.upgrade_refusal (G.sector_count source) (H.sector_count device) (G.disk source).content) failure source source' device after
+
+module _ {D : Type 0} (G : Ghosts D) where
+  -- A command over an image that is opened has failed: the file wasn't opened, and nothing is left; or what is left is the device,
+  -- which has become this by what P says.
+  abbrev pub FailsOn : {A B : Type 0} (keep : D → Left A B) (opened : D → Type 0) (P : Failure → D → D → Type 0)
+      → Failure → Left A B → Type 0
+  FailsOn keep opened P failure left = ((left ≡ files.Nothing) × IsUnopened failure) ⊎ DoneOn G keep opened (P failure) left
+
+  -- ---- of an image that is opened for writing too
+
+  -- The image was refused for this, or a call of the device failed while it was opened. A stop at any moment of it, however it
+  -- ended, leaves what one of a recovery may leave.
+  pub record RefusesImage (failure : Failure) (device after : D) : Type 0 where
+    pub recovers : Recovers G device after
+    pub told : IsTrue (suits G device) → (failure ≡ Device)
+        ⊎ (Some failure ≡ option_map of_image (image_refusal (G.sector_count device) (G.disk device).content))
+    pub faults : TellsFault G failure device after
+    pub unasked : failure ≡ BadSize → after ≡ device
+    pub unwritten : failure ≢ Device → BeginsAtMost G device after 0 1
+
+  -- The image was opened, after its recovery, of which no call failed, and then was done what P says.
+  pub record OpensThen (P : (device begun after : D) → Type 0) (device after : D) : Type 0 where
+    pub begun : D
+    pub recovers : Recovers G device begun
+    pub well : G.failures begun ≡ G.failures device
+    pub same : IsTrue (suits G device) → LeavesBlocks G begun (meant_by G device)
+    pub goes : Becomes G begun after
+    pub done : P device begun after
+
+  -- A command failed: the image was refused, or it was opened, and then was done what P says.
+  abbrev pub FailsAfter : (P : Failure → (device begun after : D) → Type 0) → Failure → (device after : D) → Type 0
+  FailsAfter P failure device after = RefusesImage failure device after ⊎ OpensThen (P failure) device after
+
+  -- `run`: there was no memory for a system, and nothing was done or read or printed.
+  pub record NotBegun (left left' written written' : Option (List ℕ)) (failure : Failure) (device begun after : D) : Type 0 where
+    pub memory : failure ≡ NoMemory
+    pub same : after ≡ begun
+    pub unread : left' ≡ left
+    pub unwritten : written' ≡ written
+
+  -- `run`: the input or the output failed in a session over the blocks of the image, which keeps what it had saved. In a strict one
+  -- no fault had ended a line.
+  pub record BreaksSession (steps : ℕ) (is_strict : Bool) (left left' written written' : Option (List ℕ)) (failure : Failure)
+      (device begun after : D) : Type 0 where
+    pub fault : RunFault
+    pub told : failure ≡ of_run fault
+    pub breaks : IsTrue (suits G device) → BreaksFrom G fault (new_forth steps (maps_on G device)) left left' written written' begun after
+    pub faultless : is_strict ≡ true → (keeps : IsTrue (suits G device)) → AreFaultless (breaks keeps).breaks.turns
+
+  -- `run`: a strict session over the blocks of the image ended with the first line that a fault ended, and keeps what it had saved.
+  pub record StopsSession (steps : ℕ) (is_strict : Bool) (left left' written written' : Option (List ℕ)) (failure : Failure)
+      (device begun after : D) : Type 0 where
+    pub told : failure ≡ Stopped
+    pub strict : is_strict ≡ true
+    pub stops : IsTrue (suits G device) → StopsFrom G (new_forth steps (maps_on G device)) left left' written written' begun after
+
+  abbrev pub RunFails : (steps : ℕ) (is_strict : Bool) (left left' written written' : Option (List ℕ)) → Failure
+      → (device begun after : D) → Type 0
+  RunFails steps is_strict left left' written written' failure device begun after =
+      NotBegun left left' written written' failure device begun after
+      ⊎ BreaksSession steps is_strict left left' written written' failure device begun after
+      ⊎ StopsSession steps is_strict left left' written written' failure device begun after
+
+  -- The image was read by so many calls at most, and nothing was written: a stop at any moment, and at the end, leaves the blocks
+  -- as they were.
+  pub record OnlyReads (most : ℕ) (device begun after : D) : Type 0 where
+    pub stops : IsTrue (suits G device) → StopsLeave G begun after (MeansOn G device (meant_by G device))
+    pub same : IsTrue (suits G device) → LeavesBlocks G after (meant_by G device)
+    pub begins : BeginsAtMost G begun after 0 0
+    pub reads : ReadsAtMost G begun after most
+
+  -- `list`: no block is told just where it isn't there.
+  pub record ListFails (b : ℕ) (failure : Failure) (device begun after : D) : Type 0 where
+    pub reads : OnlyReads 2 device begun after
+    pub failed : failure ≡ Device → CallFailed G begun after
+    pub no_block : failure ≡ NoBlock → blocks_on G device ≤ b
+
+  -- `export`: the same of the last block, or the last comes before the first.
+  pub record ExportFails (first last : ℕ) (failure : Failure) (device begun after : D) : Type 0 where
+    pub reads : OnlyReads (2 * (last + 1 - first)) device begun after
+    pub failed : failure ≡ Device → CallFailed G begun after
+    pub no_block : failure ≡ NoBlock → (last < first) ⊎ (blocks_on G device ≤ last)
+
+  -- `put`: only a failed save made a call of the device. A stop at any moment of it leaves the blocks as they were, or these with
+  -- the lines of some text in that block.
+  pub record PutFails (b : ℕ) (failure : Failure) (device begun after : D) : Type 0 where
+    pub unsaved : failure ≢ Device → after ≡ begun
+    pub stops : IsTrue (suits G device) → StopsLeave G begun after (λ image. MeansOn G device (meant_by G device) image
+        ⊎ ((text : List ℕ) × (bytes : List ℕ) × (screen_of text ≡ Some bytes)
+        × MeansOn G device (latest (spilled (maps_on G device) b bytes)) image))
+    pub faults : TellsFault G failure begun after
+    pub begins : BeginsAtMost G begun after 7 4
+    pub reads : ReadsAtMost G begun after 4
+
+  -- `import`: the same with the blocks that so many files say, of which nothing is refused: all of them, or none.
+  pub record ImportFails (form : Form) (first count : ℕ) (failure : Failure) (device begun after : D) : Type 0 where
+    pub unsaved : failure ≢ Device → after ≡ begun
+    pub stops : IsTrue (suits G device) → StopsLeave G begun after (λ image. MeansOn G device (meant_by G device) image
+        ⊎ ((files : List (List ℕ)) × (length files ≡ count) × AreSound form (blocks_on G device - first) files
+        × MeansOn G device (latest (spilled_from (maps_on G device) first (as_blocks (said_all form files)))) image))
+    pub faults : TellsFault G failure begun after
+    pub begins : BeginsAtMost G begun after (4 * (blocks_on G device - first) + 3) 4
+    pub reads : ReadsAtMost G begun after (4 * (blocks_on G device - first))
+
+  -- ---- of an image that is opened for reading alone
+
+  -- The image was only read: nothing was written or synced, so a stop at any moment leaves what one could leave before. It was
+  -- refused for this, or a call of the device failed, or what was found couldn't be told.
+  pub record ReadingFails (untold : Failure → Type 0) (refusal : (sectors : ℕ) → Image → Option Failure) (failure : Failure)
+      (device after : D) : Type 0 where
+    pub reads : OnlyRead G device after
+    pub faults : TellsFault G failure device after
+    pub told : IsTrue (G.keeps_model device) → (failure ≡ Device) ⊎ untold failure
+        ⊎ (refusal (G.sector_count device) (G.disk device).content ≡ Some failure)
+
+  -- `check --blocks`: the image is refused as an opening refuses it.
+  abbrev pub LookingFails : Failure → (device after : D) → Type 0
+  LookingFails = ReadingFails IsUntold (λ sectors image. option_map of_image (image_refusal sectors image))
+
+  -- `check`: of a damaged image of layout 3 each damaged block was told, and of one of layout 2 nothing was printed.
+  pub record CheckFails (written written' : Option (List ℕ)) (failure : Failure) (device after : D) : Type 0 where
+    pub looks : LookingFails failure device after
+    pub damaged : IsTrue (G.keeps_model device) → layout_by_size (G.sector_count device) ≡ Three → failure ≡ Damaged
+        → Appends written written' (damage_report (G.sector_count device) (G.disk device).content)
+    pub silent : layout_by_size (G.sector_count device) ≡ Two → failure ≢ CannotWrite → written' ≡ written
+
+  -- `list`, `export`: the image is refused, or a block isn't there.
+  abbrev pub ShowingFails : (refusal : (sectors : ℕ) → Image → Option Failure) → Failure → (device after : D) → Type 0
+  ShowingFails = ReadingFails IsUnprinted
+
+  -- `diff`: the same of two images, of which the first is refused before the second one.
+  pub record DiffFails (failure : Failure) (old old' new new' : D) : Type 0 where
+    pub old_reads : OnlyRead G old old'
+    pub new_reads : OnlyRead G new new'
+    pub failed : failure ≡ Device → OneFailed G old old' new new'
+    pub well : failure ≢ Device → WentWell G G old old' new new'
+    pub told : IsTrue (G.keeps_model old) → IsTrue (G.keeps_model new) → (failure ≡ Device) ⊎ IsUntold failure
+        ⊎ (option_map of_image (refusal_of_either G old new) ≡ Some failure)
+
+  -- `diff`: neither file was opened, or the first alone, of which no call was made, or both were only read.
+  abbrev pub DiffFailed : {A : Type 0} (first second : D → Type 0) → Failure → Left A D → Type 0
+  DiffFailed first second failure left = FailsOn files.Looked first (λ failure device after. IsUnopened failure × (after ≡ device)) failure left
+      ⊎ ((old : D) × first old × (new : D) × second new × (old' : D) × (new' : D) × (left ≡ files.Compared old' new')
+      × DiffFails failure old old' new new')
+
+  -- ---- of an image that is made
+
+  -- `new`: a call of the device failed, and a stop at any moment leaves what one of a format by layout 2 may leave.
+  pub record MakingFails (n : ℕ) (failure : Failure) (device after : D) : Type 0 where
+    pub goes : Becomes G device after
+    pub told : failure ≡ Device
+    pub failed : CallFailed G device after
+    pub stops : IsTrue (G.keeps_sectors device) → StopsLeave G device after (older_making.FormatLeaves n (G.disk device))
+    pub begins : BeginsAtMost G device after (2 * n + 4) 4
+    pub reads : ReadsAtMost G device after 1
+
+  -- the same by layout 3
+  pub record NewerMakingFails (n : ℕ) (failure : Failure) (device after : D) : Type 0 where
+    pub goes : Becomes G device after
+    pub told : failure ≡ Device
+    pub failed : CallFailed G device after
+    pub stops : IsTrue (G.keeps_model device) → StopsLeave G device after (newer_making.FormatLeaves n (G.disk device))
+    pub begins : BeginsAtMost G device after (4 * n + 5) 4
+    pub reads : ReadsAtMost G device after 1
+
+  -- The file wasn't made, and nothing is left; or it was made and not finished, and no call of it was made after that.
+  abbrev pub NotFinished : {E : Type 0} (begun : D → Type 0) → Failure → Left D E → Type 0
+  NotFinished begun failure left = ((left ≡ files.Nothing) × IsUnmade failure)
+      ⊎ ((failure ≡ CannotOpen) × (device : D) × begun device × (left ≡ files.Made device))
+
+  -- The file wasn't made, or not finished, or the image on it wasn't made by this layout.
+  abbrev pub NewFailed : {E : Type 0} (made : ℕ → D → Type 0) (begun : D → Type 0) → ℕ → Layout → Failure → Left D E → Type 0
+  NewFailed made begun n Two failure left = NotFinished begun failure left
+      ⊎ DoneOn G files.Made (made (older_layout.sectors_for n)) (MakingFails n failure) left
+  NewFailed made begun n Three failure left = NotFinished begun failure left
+      ⊎ DoneOn G files.Made (made (newer_layout.sectors_for n)) (NewerMakingFails n failure) left
+
+  -- `upgrade` to layout 2: a stop at any moment of it leaves of the old image one that means the same, and of the new one no
+  -- image, or the whole one, or what could be left before.
+  pub record UpgradeFails (failure : Failure) (source source' device after : D) : Type 0 where
+    pub reads : Becomes G source source'
+    pub old : IsTrue (G.keeps_sectors source) → StopsLeave G source source' (OldLeaves (older.blocks_on G source) (G.disk source))
+    pub goes : Becomes G device after
+    pub stops : IsTrue (G.keeps_sectors source) → IsTrue (G.keeps_sectors device) → StopsLeave G device after
+        (older_making.MakingLeaves (older.blocks_on G source) (older.meant_by G source) (G.disk device))
+    pub tells : TellsRefusal G G (G.keeps_sectors source)
+        (older_upgrade.upgrade_refusal (G.sector_count source) (G.sector_count device) ((G.disk source).content 0)) failure source source' device after
+
+  -- The old file wasn't opened; or the new one wasn't made, or not finished, and no call of the old one was made.
+  abbrev pub NotUpgraded : {E : Type 0} (opened begun : D → Type 0) → Failure → Left D E → Type 0
+  NotUpgraded opened begun failure left = FailsOn files.Opened opened IsUntouched failure left
+      ⊎ ((failure ≡ CannotOpen) × (source : D) × opened source × (device : D) × begun device × (left ≡ files.Upgraded source device))
+
+  -- The same, or the image was upgraded in part.
+  abbrev pub UpgradeFailed : {E : Type 0} (opened : D → Type 0) (made : ℕ → D → Type 0) (begun : D → Type 0) → Layout → Failure
+      → Left D E → Type 0
+  UpgradeFailed opened made begun Two failure left = NotUpgraded opened begun failure left
+      ⊎ ((source : D) × opened source × (device : D) × made (G.sector_count source) device × (source' : D) × (after : D)
+      × (left ≡ files.Upgraded source' after) × UpgradeFails failure source source' device after)
+  UpgradeFailed opened made begun Three failure left = NotUpgraded opened begun failure left
+      ⊎ ((source : D) × opened source × (device : D) × made (newer_layout.sectors_for (blocks_on G source)) device × (source' : D)
+      × (after : D) × (left ≡ files.Upgraded source' after) × NewerUpgradeFails G G failure source source' device after)
+
+module _ {D E : Type 0} (G : Ghosts D) (L : Ghosts E) where
+  -- A block wasn't listed: no file of its image was opened, or the one for writing was, or the one for reading alone.
+  abbrev pub ListFailed : (opened : D → Type 0) (looked : E → Type 0) (b : ℕ) → Failure → Left D E → Type 0
+  ListFailed opened looked b failure left = FailsOn G files.Opened opened (FailsAfter G (ListFails G b)) failure left
+      ⊎ DoneOn L files.Looked looked (ShowingFails L (block_refusal b) failure) left
+
+  -- Blocks weren't exported: the same.
+  abbrev pub ExportFailed : (opened : D → Type 0) (looked : E → Type 0) (first last : ℕ) → Failure → Left D E → Type 0
+  ExportFailed opened looked first last failure left =
+      FailsOn G files.Opened opened (FailsAfter G (ExportFails G first last)) failure left
+      ⊎ DoneOn L files.Looked looked (ShowingFails L (blocks_refusal first last) failure) left
+
+-- ---- of a script, which is read before its image is opened
+
+-- A file of the script can't be read, or there was no memory for the files: nothing is left, and nothing was read or printed.
+pub record NotLed {A B : Type 0} (left left' written written' : Option (List ℕ)) (failure : Failure) (ends : Left A B) : Type 0 where
+  pub unopened : ends ≡ files.Nothing
+  pub told : (failure ≡ CannotRead) ⊎ (failure ≡ NoMemory)
+  pub unread : left' ≡ left
+  pub unwritten : written' ≡ written
+
+module _ {D : Type 0} (G : Ghosts D) where
+  -- A session of a script failed: the script wasn't read, or with what it says the image wasn't opened, or P says what was done then.
+  abbrev pub ScriptFails : {E : Type 0} (opened : D → Type 0) (script : Script)
+      (P : (led left' written written' : Option (List ℕ)) → Failure → (device begun after : D) → Type 0)
+      (left left' written written' : Option (List ℕ)) → Failure → Left D E → Type 0
+  ScriptFails opened script P left left' written written' failure ends = NotLed left left' written written' failure ends
+      ⊎ ((led : Option (List ℕ)) × IsLed (load_line script.load) script.files.items left led
+      × FailsOn G files.Opened opened (FailsAfter G (P led left' written written')) failure ends)
+
+  -- No session of it began.
+  abbrev pub ScriptUnbegun : {E : Type 0} (opened : D → Type 0) (script : Script) (left left' written written' : Option (List ℕ))
+      → Failure → Left D E → Type 0
+  ScriptUnbegun opened script = ScriptFails opened script (NotBegun G)
+
+  -- `run`: no session of it began, or one didn't come to the end of its input.
+  abbrev pub ScriptFailed : {E : Type 0} (opened : D → Type 0) (steps : ℕ) (script : Script) (left left' written written' : Option (List ℕ))
+      → Failure → Left D E → Type 0
+  ScriptFailed opened steps script = ScriptFails opened script (RunFails G steps script.is_strict)
+
+-- ---- of an image that is made of another one: G is of those that are copied or salvaged, H of those that are made
+
+module _ {A B : Type 0} (G : Ghosts A) (H : Ghosts B) where
+  -- An image of these blocks was made in part: nothing of the old one was written or synced, and a stop at any moment leaves of the
+  -- new one no image, or the whole one, or what could be left before.
+  pub record MakesInPart (blocks : List (List ℕ)) (source source' : A) (device after : B) : Type 0 where
+    pub old : OnlyRead G source source'
+    pub goes : Becomes H device after
+    pub stops : IsTrue (G.keeps_model source) → IsTrue (suits H device)
+        → StopsLeave H device after (MakingLeaves (H.sector_count device) blocks (H.disk device))
+    pub begins : BeginsAtMost H device after (writes_to_make (H.sector_count device)) 4
+    pub looks : ReadsAtMost H device after 1
+
+  -- `copy`: of the blocks of the old image
+  pub record CopyFails (failure : Failure) (source source' : A) (device after : B) : Type 0 where
+    pub made : MakesInPart (copied_blocks (G.sector_count source) (H.sector_count device) (G.disk source).content) source source' device after
+    pub tells : TellsRefusal G H (G.keeps_model source)
+        (copy_refusal (G.sector_count source) (H.sector_count device) (G.disk source).content) failure source source' device after
+
+  -- `salvage`: of those that could be had, all of which are there where that alone couldn't be told
+  pub record SalvageFails (failure : Failure) (source source' : A) (device after : B) : Type 0 where
+    pub made : MakesInPart (salvaged_blocks (H.sector_count device) (G.disk source).content) source source' device after
+    pub whole : IsTrue (G.keeps_model source) → IsTrue (suits H device) → IsUntold failure
+        → LeavesBlocks H after (salvaged_blocks (H.sector_count device) (G.disk source).content)
+    pub failed : failure ≡ Device → CallFailed G source source' ⊎ CallFailed H device after
+    pub well : failure ≢ Device → WentWell G H source source' device after
+    pub told : (failure ≡ Device) ⊎ IsUntold failure
+        ⊎ (Some failure ≡ option_map of_upgrade (salvage_refusal (G.sector_count source) (H.sector_count device)))
+
+  -- The new file was made and not finished, and no call of the old one was made; or P says what was made.
+  abbrev pub MakesSome : (begun : B → Type 0) (P : A → A → B → Type 0) → Failure → (source source' : A) (after : B) → Type 0
+  MakesSome begun P failure source source' after =
+      ((failure ≡ CannotOpen) × (source' ≡ source) × begun after) ⊎ P source source' after
+
+  -- A copy of as many blocks as were asked for was made in part.
+  abbrev pub MakesCopyInPart : (made : ℕ → B → Type 0) (begun : B → Type 0) (asked : Option ℕ) → Failure → (source source' : A) (after : B) → Type 0
+  MakesCopyInPart made begun asked failure source source' after =
+      MakesSome begun (MadeOf G H made (sectors_for_copy (G.sector_count source) asked) (CopyFails failure)) failure source source' after
+
+  -- A salvage was.
+  abbrev pub MakesSalvageInPart : (made : ℕ → B → Type 0) (begun : B → Type 0) (asked : Option ℕ) → Failure → (source source' : A) (after : B) → Type 0
+  MakesSalvageInPart made begun asked failure source source' after =
+      MakesSome begun (MadeOf G H made (sectors_for_salvage (G.sector_count source) asked) (SalvageFails failure)) failure source source' after
+
+  -- The old file wasn't opened; or the new one wasn't made, and no call of the old one was made; or P says what was made.
+  abbrev pub FailsToMake : (P : A → A → B → Type 0) (looked : A → Type 0) → Failure → Left B A → Type 0
+  FailsToMake P looked failure left = FailsOn G files.Looked looked IsUntouched failure left
+      ⊎ ((source : A) × looked source × (source' : A) × (after : B) × (left ≡ files.Copied source' after) × P source source' after)
+
+  abbrev pub CopyFailed : (looked : A → Type 0) (made : ℕ → B → Type 0) (begun : B → Type 0) (asked : Option ℕ) → Failure → Left B A → Type 0
+  CopyFailed looked made begun asked failure left = FailsToMake (MakesCopyInPart made begun asked failure) looked failure left
+
+  abbrev pub SalvageFailed : (looked : A → Type 0) (made : ℕ → B → Type 0) (begun : B → Type 0) (asked : Option ℕ) → Failure → Left B A → Type 0
+  SalvageFailed looked made begun asked failure left = FailsToMake (MakesSalvageInPart made begun asked failure) looked failure left

@@ -1,0 +1,17 @@
+pub mod Playing
+pub mod Lines
+pub mod Arithmetic
+pub mod Memory
+pub mod Structures
+pub mod Definitions
+pub mod Screens
+pub mod Loads
+pub mod Limits
+pub mod Saves
+pub mod Wears
+pub mod Images
+pub mod Stops
+pub mod Openings
+pub mod Formats
+pub mod Layout3Stops
+pub mod Layout3Sessions

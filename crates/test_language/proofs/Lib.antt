@@ -1,0 +1,4 @@
+pub mod Ready
+pub mod Sound
+pub mod Callees
+pub mod Enters

@@ -1,0 +1,443 @@
+//! Images of layout 3 on disks in memory, whose calls fail and are stopped, that are checked, copied, salvaged, and listed and exported by reads alone.
+use super::layout_3_images::{LENGTH, NAMED};
+use super::stopping::{Disk, FATES, Fate, OneDisk, Opened};
+use super::support::{
+    DEVICE_FAULT, Left, call_over, call_over_both, check, overwrite, run_over_files, told_of_making,
+};
+use super::systems::{BOTH, SAVED, SEVENS};
+use crate::assertions::{Assert, assert_same};
+use sector_disk::{FileFault, HostFault, HostFiles};
+use sha2::{Digest, Sha256};
+use std::alloc::Global;
+use std::fs::File;
+use std::process::Abort;
+use std::rt::Files;
+use std::test::Fail;
+
+/// What the blocks begin with once 7 was saved in two of them.
+const BOTH_SEVENS: &[(u16, &str)] = &[(1, "\x07\x00"), (2, "\x07\x00")];
+
+/// What `check` prints of an image of so many blocks, which are blank but for these, of which each begins so.
+fn report(alloc: Global, blocks: u16, starts: &[(u16, &str)]) -> Result<String, Fail> {
+    let mut hasher = Sha256::new();
+    for b in 0..blocks {
+        let mut bytes = [b' '; 1024];
+        for (block, start) in starts {
+            if *block == b {
+                overwrite(&mut bytes, 0, start.as_bytes());
+            }
+        }
+        hasher.update(bytes.as_slice());
+    }
+    let digest: [u8; 32] = hasher.finalize();
+    let length = 512 * (32 + 16 * blocks as u32);
+    let mut text = format!(in alloc;
+        "bytes: {length}\nlayout: 3\nblocks: {blocks}\nsave under way: none\nsha256: "
+    )?;
+    for byte in digest {
+        let digits = format!(in alloc; "{byte:02x}")?;
+        text.push_str(&digits)?;
+    }
+    text.push_str("\n")?;
+    Ok(text)
+}
+
+/// Changes a byte of a sector.
+fn change(bytes: &mut [u8], sector: usize, at: usize) {
+    let place = sector.saturating_mul(512).saturating_add(at);
+    if let Some(byte) = bytes.get_mut(place) {
+        *byte ^= 255;
+    }
+}
+
+/// A disk with an image of 32 blocks, of which two were saved at once.
+fn with_sevens(rt: &(impl Files<File = File> + AllocGlobal + Abort)) -> Result<Disk, Fail> {
+    let disk = Disk::of_length(rt, LENGTH)?;
+    let files = OneDisk::new(&disk);
+    let words = ["forth83", "new", "A", "--blocks", "32", "--layout", "3"];
+    let left = call_over(rt, &files, &words, b"");
+    assert_same!(rt; (left.status, left.errors.as_slice()), (0, b"".as_slice()));
+    run_over_files(rt, &files, SAVED)?;
+    disk.begin(u64::MAX);
+    Ok(disk)
+}
+
+/// Saves 8 in both blocks at once.
+const EIGHTS: &[u8] = b"8 1 BLOCK ! UPDATE 8 2 BLOCK ! UPDATE SAVE-BUFFERS\n";
+
+/// A session that saves is stopped at each call of the save, and at the last one with each fate: in what a check tells no save is under way, and
+/// the blocks are those before it, or as saved.
+#[test]
+fn saves_that_were_stopped_are_checked(rt: HostRuntime) -> Result<(), Fail> {
+    let disk = with_sevens(&rt)?;
+    let made = disk.copy(&rt)?;
+    let before = report(rt.alloc(), 32, BOTH_SEVENS)?;
+    let after = report(rt.alloc(), 32, &[(1, "\x08\x00"), (2, "\x08\x00")])?;
+    let known = [before.as_str(), after.as_str()];
+    let _ = call_over(&rt, &OneDisk::new(&disk), &["forth83", "run", "A"], EIGHTS);
+    // An opening makes a sync and 99 reads; four sectors are read and four written, and a save makes 6 reads, 4 writes and 2 syncs.
+    assert_same!(rt; disk.calls(), 100 + 8 + 12);
+    for (k, fate) in (104..120).zip(FATES.iter().cycle()) {
+        save_is_stopped(&rt, &disk, made.as_slice(), k, *fate, known)?;
+    }
+    for fate in FATES {
+        save_is_stopped(&rt, &disk, made.as_slice(), 119, fate, known)?;
+    }
+    Ok(())
+}
+
+/// What is told of the image then is one of what is known, and the same is told of a copy and of a salvage, which are made now and then.
+fn save_is_stopped(
+    rt: &(impl Files<File = File> + AllocGlobal + Abort),
+    disk: &Disk,
+    made: &[u8],
+    k: u64,
+    fate: Fate,
+    known: [&str; 2],
+) -> Result<(), Fail> {
+    let files = OneDisk::new(disk);
+    disk.set(made);
+    disk.begin(k);
+    let _ = call_over(rt, &files, &["forth83", "run", "A"], EIGHTS);
+    disk.restart(fate);
+    let left = call_over(rt, &files, &["forth83", "check", "A"], b"");
+    assert_same!(rt; left.status, 0, "{fate:?} at {k}");
+    let told = str::from_utf8(left.output.as_slice()).unwrap_or("?");
+    assert!(rt; known.contains(&told), "{fate:?} at {k}");
+    if k % 5 == 4 {
+        check_copies(rt, disk, left.output.as_slice())?;
+    }
+    Ok(())
+}
+
+/// A copy and a salvage of the image on this disk are told so.
+fn check_copies(
+    rt: &(impl Files<File = File> + AllocGlobal + Abort),
+    old: &Disk,
+    told: &[u8],
+) -> Result<(), Fail> {
+    for name in ["copy", "salvage"] {
+        let new = Disk::of_length(rt, LENGTH)?;
+        let (looking, files) = (OneDisk::new(old), OneDisk::new(&new));
+        let left = call_over_both(rt, &files, &looking, &["forth83", name, "A", "A"], b"");
+        assert_same!(rt; left.status, 0, "{name}");
+        let left = call_over(rt, &files, &["forth83", "check", "A"], b"");
+        assert_same!(rt; left.output.as_slice(), told, "{name}");
+    }
+    Ok(())
+}
+
+/// Of 32 blocks label, gate, record and three sectors each are read, and two for the digest. Each sixth of these reads fails: that alone is told.
+#[test]
+fn checks_whose_reads_fail(rt: HostRuntime) -> Result<(), Fail> {
+    let disk = with_sevens(&rt)?;
+    let files = OneDisk::new(&disk);
+    let before = disk.copy(&rt)?;
+    let words = ["forth83", "check", "A"];
+    let left = call_over(&rt, &files, &words, b"");
+    let wanted = report(rt.alloc(), 32, BOTH_SEVENS)?;
+    assert_same!(rt; left.output.as_slice(), wanted.as_bytes());
+    assert_same!(rt; disk.calls(), 163);
+    for k in (0..163).step_by(6) {
+        disk.begin(k);
+        let left = call_over(&rt, &files, &words, b"");
+        check_fault(&rt, &left, k);
+        assert!(rt; left.output.is_empty(), "at {k}");
+    }
+    assert!(rt; disk.copy(&rt)? == before);
+    Ok(())
+}
+
+/// And so do those of a check of a damaged image: of what it printed before that each line is true.
+#[test]
+fn checks_of_damage_whose_reads_fail(rt: HostRuntime) -> Result<(), Fail> {
+    let disk = with_sevens(&rt)?;
+    let files = OneDisk::new(&disk);
+    let mut bytes = disk.copy(&rt)?;
+    // Both blocks count in their second places.
+    change(bytes.as_mut_slice(), 56, 0);
+    change(bytes.as_mut_slice(), 73, 0);
+    disk.set(bytes.as_slice());
+    let words = ["forth83", "check", "A"];
+    disk.begin(u64::MAX);
+    let left = call_over(&rt, &files, &words, b"");
+    let told =
+        b"block 1: damaged, whole in its other place\nblock 2: damaged, whole in its other place\n".as_slice();
+    assert_same!(rt; (left.status, left.output.as_slice()), (3, told));
+    let calls = disk.calls();
+    for k in (0..calls).step_by(7) {
+        disk.begin(k);
+        let left = call_over(&rt, &files, &words, b"");
+        check_fault(&rt, &left, k);
+        assert!(rt; told.starts_with(left.output.as_slice()), "at {k}");
+    }
+    assert!(rt; disk.copy(&rt)? == bytes);
+    Ok(())
+}
+
+/// A call of the device failed, and that was told.
+fn check_fault(rt: &impl Abort, left: &Left, k: u64) {
+    assert_same!(rt;
+        (left.status, left.errors.as_slice()),
+        (3, DEVICE_FAULT.as_bytes()),
+        "at {k}"
+    );
+}
+
+/// A copy is stopped at each eleventh call of either device, and at the last ones with each fate: the old image stays byte for byte as it was, and
+/// the new one is none, or whole.
+#[test]
+fn copies_of_layout_3_that_are_stopped(rt: HostRuntime) -> Result<(), Fail> {
+    // Of the old image label, gate, record and each block with its tag, and each once more.
+    makings_are_stopped(&rt, "copy", 195)
+}
+
+/// And so is a salvage.
+#[test]
+fn salvages_of_layout_3_that_are_stopped(rt: HostRuntime) -> Result<(), Fail> {
+    // Of the old image gate, record and each block with its tag.
+    makings_are_stopped(&rt, "salvage", 98)
+}
+
+fn makings_are_stopped(
+    rt: &(impl Files<File = File> + AllocGlobal + Abort),
+    name: &str,
+    reads: u32,
+) -> Result<(), Fail> {
+    let old = with_sevens(rt)?;
+    let before = old.copy(rt)?;
+    let new = Disk::of_length(rt, LENGTH)?;
+    let (looking, files) = (OneDisk::beside(&old, &new), OneDisk::new(&new));
+    let left = call_over_both(rt, &files, &looking, &["forth83", name, "A", "A"], b"");
+    let calls = new.calls();
+    assert_same!(rt; left.status, 0, "{name}");
+    // The file is made first; then come a sync and a read of the label, four sectors of each block, gate and records, a sync, the label and a sync.
+    let made = NAMED + 1;
+    assert_same!(rt;
+        calls,
+        made + reads as u64 + 2 + 4 * 32 + 3 + 1 + 2,
+        "{name}"
+    );
+    for (k, fate) in (0..calls).step_by(11).zip(FATES.iter().cycle()) {
+        making_is_stopped(rt, name, &old, k, *fate)?;
+    }
+    for k in calls.saturating_sub(6)..calls {
+        for fate in FATES {
+            making_is_stopped(rt, name, &old, k, fate)?;
+        }
+    }
+    assert!(rt; old.copy(rt)? == before, "{name}");
+    Ok(())
+}
+
+fn making_is_stopped(
+    rt: &(impl Files<File = File> + AllocGlobal + Abort),
+    name: &str,
+    old: &Disk,
+    k: u64,
+    fate: Fate,
+) -> Result<(), Fail> {
+    let new = Disk::of_length(rt, LENGTH)?;
+    let (looking, files) = (OneDisk::beside(old, &new), OneDisk::new(&new));
+    new.begin(k);
+    let left = call_over_both(rt, &files, &looking, &["forth83", name, "A", "A"], b"");
+    assert_same!(rt;
+        (left.status, left.output.is_empty()),
+        (3, true),
+        "{name} at {k}"
+    );
+    let told = told_of_making(k, NAMED).as_bytes();
+    assert_same!(rt; left.errors.as_slice(), told, "{name} at {k}");
+    new.restart(fate);
+    let left = call_over(rt, &files, &["forth83", "run", "A"], BOTH.as_bytes());
+    let is_none = left.status == 3
+        && left.errors.as_slice() == b"forth83: image: no label\n".as_slice();
+    let is_whole = left.status == 0 && left.output.as_slice() == SEVENS.as_bytes();
+    assert!(rt; is_none || is_whole, "{name}, {fate:?} at {k}");
+    Ok(())
+}
+
+/// The disk, as a system of files of which none is opened for writing.
+#[derive(Drop)]
+struct Unwritable<'a> {
+    files: OneDisk<'a>,
+    // Another program has it open. Else it is the right to write it that lacks.
+    is_in_use: bool,
+}
+
+impl<'a> HostFiles<Opened<'a>> for Unwritable<'a> {
+    ghost opens = { λ files path file. Unit {0} };
+
+    ghost makes = { λ files path file. Unit {0} };
+
+    fn open(&self, _path: &str) -> Result<Opened<'a>, FileFault> {
+        Err(if self.is_in_use {
+            FileFault::InUse
+        } else {
+            FileFault::Cannot
+        })
+    }
+
+    fn make(&self, path: &str) -> Result<Opened<'a>, FileFault> {
+        self.files.make(path)
+    }
+
+    fn keep_name(&self, path: &str) -> Result<(), HostFault> {
+        self.files.keep_name(path)
+    }
+}
+
+/// Lists a block of the image on a disk that may only be read.
+fn list_unwritable(rt: &(impl Files<File = File> + AllocGlobal), disk: &Disk, block: &str) -> Left {
+    call_unwritable(rt, disk, false, &["forth83", "list", "A", block])
+}
+
+/// Calls the program over the image on a disk that isn't opened for writing, since it is in use or may only be read.
+fn call_unwritable(
+    rt: &(impl Files<File = File> + AllocGlobal),
+    disk: &Disk,
+    is_in_use: bool,
+    words: &[&str],
+) -> Left {
+    let files = Unwritable {
+        files: OneDisk::new(disk),
+        is_in_use,
+    };
+    call_over_both(rt, &files, &OneDisk::new(disk), words, b"")
+}
+
+/// A block of an image that may only be read is listed as after an opening, and nothing is written.
+#[test]
+fn listings_by_reads_alone(rt: HostRuntime) -> Result<(), Fail> {
+    let disk = with_sevens(&rt)?;
+    let before = disk.copy(&rt)?;
+    for block in ["0", "1", "2", "31"] {
+        disk.begin(u64::MAX);
+        let left = list_unwritable(&rt, &disk, block);
+        // Label, gate, record, each block with its tag, and the block once more.
+        assert_same!(rt; (left.status, disk.calls()), (0, 101), "{block}");
+        assert!(rt; left.errors.is_empty(), "{block}");
+        assert!(rt; disk.copy(&rt)? == before);
+        let files = OneDisk::new(&disk);
+        let opened = call_over(&rt, &files, &["forth83", "list", "A", block], b"");
+        assert_same!(rt; left.output.as_slice(), opened.output.as_slice(), "{block}");
+        let is_seven = left.output.as_slice().starts_with(b".. ");
+        assert_same!(rt; is_seven, block == "1" || block == "2");
+    }
+    assert!(rt; disk.copy(&rt)? == before);
+    Ok(())
+}
+
+/// Such an image is refused as by an opening, a damaged one whichever block is asked for, and then for its block. Nothing is printed.
+#[test]
+fn listings_by_reads_alone_that_are_refused(rt: HostRuntime) -> Result<(), Fail> {
+    let disk = with_sevens(&rt)?;
+    let whole = disk.copy(&rt)?;
+    check_unlisted(&rt, &disk, "32", "no block")?;
+    check_unlisted(&rt, &disk, "65535", "no block")?;
+    for k in [0, 1, 2, 3, 50, 98, 99, 100] {
+        disk.begin(k);
+        check_unlisted(&rt, &disk, "1", "device fault")?;
+    }
+    disk.begin(u64::MAX);
+    for (sector, at, text) in [
+        (56, 0, "damaged"),
+        (58, 0, "damaged"),
+        (16, 480, "damaged"),
+        (0, 0, "no label"),
+        (0, 8, "other version"),
+        (0, 10, "wrong count"),
+    ] {
+        let mut bytes = whole.clone()?;
+        change(bytes.as_mut_slice(), sector, at);
+        disk.set(bytes.as_slice());
+        for block in ["0", "1", "32"] {
+            check_unlisted(&rt, &disk, block, text)?;
+        }
+        assert!(rt; disk.copy(&rt)? == bytes, "{text}");
+    }
+    // So many sectors no image has: 542.
+    let cut = Disk::of_length(&rt, 277_504)?;
+    let _ = OneDisk::new(&cut).make("A");
+    cut.set(whole.as_slice());
+    check_unlisted(&rt, &cut, "1", "bad size")?;
+    assert_same!(rt; cut.calls(), 0);
+    Ok(())
+}
+
+/// What a listing of an image that may only be read tells, and that nothing was printed.
+fn check_unlisted(
+    rt: &(impl Files<File = File> + AllocGlobal + Abort),
+    disk: &Disk,
+    block: &str,
+    text: &str,
+) -> Result<(), Fail> {
+    let left = list_unwritable(rt, disk, block);
+    let wanted = format!(in rt.alloc(); "forth83: image: {text}\n")?;
+    assert_same!(rt; (left.status, left.output.is_empty()), (3, true), "{text}");
+    assert_same!(rt; left.errors.as_slice(), wanted.as_bytes(), "{text}");
+    Ok(())
+}
+
+/// Blocks of an image that can't be opened for writing, or is in use, are exported as after an opening, and nothing is
+/// written.
+#[test]
+fn exports_by_reads_alone(rt: HostRuntime) -> Result<(), Fail> {
+    let disk = with_sevens(&rt)?;
+    let before = disk.copy(&rt)?;
+    // Label, gate, record, each block with its tag, and each block that is asked for once more.
+    for (first, last, calls) in [("0", "31", 163), ("2", "2", 101), ("1", "3", 105)] {
+        let words = ["forth83", "export", "A", first, last];
+        check_exported(&rt, &disk, &words, calls)?;
+        let words = ["forth83", "export", "A", first, last, "--raw"];
+        check_exported(&rt, &disk, &words, calls)?;
+    }
+    assert!(rt; disk.copy(&rt)? == before);
+    Ok(())
+}
+
+/// What is exported by reads alone, and by so many calls.
+fn check_exported(
+    rt: &(impl Files<File = File> + AllocGlobal + Abort),
+    disk: &Disk,
+    words: &[&str],
+    calls: u64,
+) -> Result<(), Fail> {
+    for is_in_use in [false, true] {
+        disk.begin(u64::MAX);
+        let left = call_unwritable(rt, disk, is_in_use, words);
+        assert_same!(rt; (left.status, disk.calls()), (0, calls), "{words:?}");
+        assert!(rt; left.errors.is_empty(), "{words:?}");
+        let opened = call_over(rt, &OneDisk::new(disk), words, b"");
+        assert_same!(rt; left.output.as_slice(), opened.output.as_slice(), "{words:?}");
+    }
+    Ok(())
+}
+
+/// Such an export is refused as by an opening, and then where a block isn't there; a fault of a read ends it.
+#[test]
+fn exports_by_reads_alone_that_are_refused(rt: HostRuntime) -> Result<(), Fail> {
+    let disk = with_sevens(&rt)?;
+    for (first, last) in [("31", "32"), ("2", "1"), ("32", "65535")] {
+        let words = ["forth83", "export", "A", first, last];
+        let left = call_unwritable(&rt, &disk, true, &words);
+        assert_same!(rt; (left.status, left.output.is_empty()), (3, true), "{first}");
+        assert_same!(rt; left.errors.as_slice(), b"forth83: image: no block\n".as_slice(), "{first}");
+    }
+    for k in [0, 1, 2, 3, 98, 99, 100, 104] {
+        disk.begin(k);
+        let words = ["forth83", "export", "A", "1", "3"];
+        let left = call_unwritable(&rt, &disk, true, &words);
+        assert_same!(rt; left.status, 3, "{k}");
+        assert_same!(rt; left.errors.as_slice(), DEVICE_FAULT.as_bytes(), "{k}");
+    }
+    let mut bytes = disk.copy(&rt)?;
+    change(bytes.as_mut_slice(), 56, 0);
+    disk.begin(u64::MAX);
+    disk.set(bytes.as_slice());
+    let words = ["forth83", "export", "A", "31", "32"];
+    let left = call_unwritable(&rt, &disk, true, &words);
+    assert_same!(rt; (left.status, left.output.is_empty()), (3, true));
+    assert_same!(rt; left.errors.as_slice(), b"forth83: image: damaged\n".as_slice());
+    Ok(())
+}

@@ -1,0 +1,9 @@
+//! Devices in memory, failing, recording and with larger units, and files as devices.
+mod coarse;
+mod file_disk;
+mod files;
+mod fused;
+mod memory;
+mod recorded;
+mod sectors;
+mod short_calls;

@@ -1,0 +1,4 @@
+//! Stores of either layout.
+mod openings;
+mod resting;
+mod saves;

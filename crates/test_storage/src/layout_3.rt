@@ -1,0 +1,11 @@
+//! Images of layout 3: formats, openings, saves, upgrades, examinations, copies and salvages. The digests are Python's.
+mod copies;
+mod examinations;
+mod formats;
+mod images;
+mod openings;
+mod salvages;
+mod saved_images;
+mod saves;
+mod tags;
+mod upgrades;
