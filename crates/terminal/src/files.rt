@@ -239,10 +239,11 @@ fn check_files<D: SectorDevice, W: Write>(
     let Some(blocks) = blocks_of_size(device.sectors()) else {
         return Err(Failure::BadSize);
     };
-    match read_blocks(rt, blocks, first, sources, form, true, errors) {
-        Ok(_) => Ok(()),
-        Err(failure) => Err(failure),
-    }
+    let _bytes = match read_blocks(rt, blocks, first, sources, form, true, errors) {
+        Ok(bytes) => bytes,
+        Err(failure) => return Err(failure),
+    };
+    Ok(())
 }
 
 /// Makes an image of layout 2, in a new file, of the blocks of one of layout 1, and gives both files. Nothing is made
