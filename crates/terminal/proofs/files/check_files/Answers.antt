@@ -3,8 +3,8 @@ use Rattle.shadow.specs.Upgraded.{known_blocks}
 use Rattle.terminal.specs.Findings.{AreSound, blocks_for, said_all}
 use Rattle.terminal.proofs.files.check_files.Goals as goal
 
-pub returns-in-Ok-clause-looked : goal.returns-in-Ok-clause-looked
-returns-in-Ok-clause-looked g c =
+pub returns-clause-looked : goal.returns-clause-looked
+returns-clause-looked g c =
     let are : c.in-Some.blocks ≡ known_blocks (g.D.SectorDevice.sector_count c.args.device.now) = c.in-Some.ensures.count ∙ ap known_blocks c.sectors.ensures in
     let read = c.in-Ok.ensures.said in
     record {
