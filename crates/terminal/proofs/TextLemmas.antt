@@ -49,10 +49,12 @@ first_unread_of is_unread paths rest others path e one so_far told =
     ⊎_elim (λ no. inl (no.0, first_unread is_unread paths rest others path one so_far no.1)) (λ memory. inr memory) told
 
 -- It is one of the others.
-pub others_unread : (is_unread : (path : List ℕ) → Type 0) (paths rest others : List (Bor (List ℕ))) (path : Bor (List ℕ)) → rest ≡ path ∷ others
-    → (OneIsUnread is_unread rest → OneIsUnread is_unread paths) → OneIsUnread is_unread others → OneIsUnread is_unread paths
-others_unread is_unread paths rest others path one so_far unread =
-    so_far (subst (λ (l : List (Bor (List ℕ))). OneIsUnread is_unread l) (sym one) (inr unread))
+pub others_unread : (is_unread : (path : List ℕ) → Type 0) (paths rest : List (Bor (List ℕ))) → 1 ≤ length rest
+    → (OneIsUnread is_unread rest → OneIsUnread is_unread paths)
+    → OneIsUnread is_unread (take (length rest - 1) (drop 1 rest)) → OneIsUnread is_unread paths
+others_unread is_unread paths [] some so_far unread = absurd (omega arith)
+others_unread is_unread paths (path ∷ rest) some so_far unread =
+    so_far (inr (subst (λ (l : List (Bor (List ℕ))). OneIsUnread is_unread l) (take_all (length (path ∷ rest) - 1) rest (omega arith)) unread))
 
 -- ---- a text that was put
 

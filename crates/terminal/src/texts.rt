@@ -65,8 +65,8 @@ impl<R: Files<File = File> + AllocGlobal> TextFiles<BufReader<File>> for StdText
 
     ghost refuses = { λ texts path. Unit {0} };
 
-    // With another file it would meet its clauses all the same. Tests over files of the system see it:
-    // `a_script_reads_the_files_that_are_named` of `test_program`.
+    // With another file it would meet its clauses all the same. What sees it are `what_is_left_of_the_input` of
+    // `test_program`, whose script is a file, and the pages of `test_transcripts` that put and import some.
     fn open(&self, path: &str) -> Result<BufReader<File>, TextFault> {
         let file = File::open(self.rt, path).map_err(|_| TextFault::Cannot)?;
         BufReader::new(self.rt.alloc(), file).map_err(|_| TextFault::NoMemory)

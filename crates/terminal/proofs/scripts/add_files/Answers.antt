@@ -10,7 +10,7 @@ loop-rest-init g c = record { lines = λ more are. (more, are, refl); unread = �
 pub loop-rest-preserved : goal.loop-rest-preserved
 loop-rest-preserved g c = record {
   lines = lines_next _ _ _ _ _ _ _ _ (first_and_others _ c.loop-rest.rest.now c.in-len1-up.len_at_least) c.in_ok-add_file.ensures.added c.loop-rest.invariant.lines;
-  unread = λ some. others_unread _ _ _ _ _ (first_and_others _ c.loop-rest.rest.now c.in-len1-up.len_at_least) c.loop-rest.invariant.unread some;
+  unread = λ some. others_unread _ _ c.loop-rest.rest.now c.in-len1-up.len_at_least c.loop-rest.invariant.unread some;
 }
 
 pub returns-clause-added : goal.returns-clause-added
