@@ -192,7 +192,7 @@ fn read_file<B: Read + Drop, Q: TextFiles<B>, E: Write>(
 {
     match open_text(texts, path) {
         Ok(mut reader) => read_said(alloc, room, path, form, all, &mut reader, errors),
-        Err(failure) => Err(failure),
+        Err(unread) => Err(unread),
     }
 }
 

@@ -219,15 +219,7 @@ fn perform<
         ),
         Order::New(path, blocks, layout) => make_by(files, path, blocks, layout),
         Order::Run(path, steps, script) => run_by::<H, O, B, Q, F, R, W, E, SectorFile<K>>(
-            rt.alloc(),
-            texts,
-            files,
-            path,
-            steps,
-            &script,
-            input,
-            output,
-            errors,
+            rt, texts, files, path, steps, &script, input, output, errors,
         ),
         Order::List(path, block) => list_image(files, looking, path, block, output),
         Order::Put(path, block, text) => put_into_image(texts, files, path, block, text),
@@ -282,7 +274,7 @@ fn run_by<
     E: Write,
     K,
 >(
-    alloc: Global,
+    rt: &impl AllocGlobal,
     texts: &Q,
     files: &O,
     path: &str,
@@ -310,7 +302,7 @@ fn run_by<
 {
     if script.is_traced {
         let (left, session) = run_image::<H, O, B, Q, F, R, W, Traces<'_, E>, K>(
-            alloc,
+            rt.alloc(),
             texts,
             files,
             path,
@@ -324,7 +316,7 @@ fn run_by<
         (left, outcome)
     } else {
         let (left, session) = run_image::<H, O, B, Q, F, R, W, Untraced, K>(
-            alloc,
+            rt.alloc(),
             texts,
             files,
             path,
