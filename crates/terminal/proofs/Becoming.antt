@@ -75,9 +75,9 @@ module _ {D : Type 0} (G : Ghosts D) where
   }
 
   -- Blocks were imported into a store that was opened on a device.
-  pub imported : (device : D) (old new : Store D G) (form : Form) (first count : ℕ) → OpensAs G device old → Continues old new
-      → ImportsSome form first count old new → ImportsBlocks G form first count device (device_of new)
-  imported device old new form first count opens on some =
+  pub imported : (device : D) (old new : Store D G) (form : Form) (first : ℕ) (are_texts : List (List ℕ) → Type 0) → OpensAs G device old → Continues old new
+      → ImportsSome form first are_texts old new → ImportsBlocks G form first are_texts device (device_of new)
+  imported device old new form first are_texts opens on some =
       let many = length_blocks (said_all form some.files) in
       record {
         begun = device_of old;
@@ -96,17 +96,17 @@ module _ {D : Type 0} (G : Ghosts D) where
       }
 
   -- A block was put into a store that was opened on a device.
-  pub puts : (device : D) (old new : Store D G) (b : ℕ) → OpensAs G device old → b < blocks_of old → Continues old new
-      → PutsSome old new b → DeviceBegins old new (2 * pending_count old + 7) 4 → DeviceReads old new (4 * pending_count old + 4)
-      → PutsBlock G b device (device_of new)
-  puts device old new b opens below on some few reads = record {
+  pub puts : (is_text : List ℕ → Type 0) (device : D) (old new : Store D G) (b : ℕ) → OpensAs G device old → b < blocks_of old → Continues old new
+      → PutsSome is_text old new b → DeviceBegins old new (2 * pending_count old + 7) 4 → DeviceReads old new (4 * pending_count old + 4)
+      → PutsBlock G b is_text device (device_of new)
+  puts is_text device old new b opens below on some few reads = record {
     begun = device_of old;
     recovers = opens.recovers;
     well = opens.well;
     meant = opens.meant;
     goes = continued old new on;
     there = there_on device old b opens below;
-    saves = λ keeps. let saved = some.saved (maps_on G device) (opens.stands keeps) in (saved.0, saved.1, saved.2, saved.4);
+    saves = λ keeps. let saved = some.saved (maps_on G device) (opens.stands keeps) in (saved.0, saved.1, saved.2, saved.3, saved.5);
     begins = record { few_writes = omega (arith, opens.pending, few.few_writes); few_syncs = few.few_syncs };
     reads = omega (arith, opens.pending, reads);
   }

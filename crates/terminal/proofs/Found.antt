@@ -149,8 +149,9 @@ module _ {D : Type 0} (G : Ghosts D) (present : (d : D) → IsTrue (G.keeps_mode
       subst (λ (blocks : List (List ℕ)). Appends written written' (exported form (fresh blocks) first (last + 1 - first)))
       (given (exports.meant keeps)) (exports.printed keeps)
 
-  imports_over : (next : D) (blocks : List (List ℕ)) → IsTrue (suits G next) → GivesBlocks G next blocks → ImportsOver G next blocks
-  imports_over next blocks keeps given = λ form first count after imports.
+  imports_over : (is_text : (path text : List ℕ) → Type 0) (next : D) (blocks : List (List ℕ)) → IsTrue (suits G next) → GivesBlocks G next blocks
+      → ImportsOver G is_text next blocks
+  imports_over is_text next blocks keeps given = λ form first sources after imports.
       subst (λ (blocks : List (List ℕ)). LeavesBlocks G after (latest (spilled_from (fresh blocks) first (as_blocks (said_all form imports.files)))))
       (given (imports.meant keeps)) (imports.saves keeps).after
 
@@ -177,29 +178,30 @@ module _ {D : Type 0} (G : Ghosts D) (present : (d : D) → IsTrue (G.keeps_mode
   new_suits Two n device after made keeps = suits_begun device after made.1.goes keeps
   new_suits Three n device after made keeps = suits_begun device after made.1.goes keeps
 
-  pub new_then_import : NewThenImport G
-  new_then_import layout n device after next many few made found keeps =
+  pub new_then_import : (is_text : (path text : List ℕ) → Type 0) → NewThenImport G is_text
+  new_then_import is_text layout n device after next many few made found keeps =
       let now = new_suits layout n device after made keeps in
-      imports_over next (blank_blocks n) (still (G.time after) after next found now)
+      imports_over is_text next (blank_blocks n) (still (G.time after) after next found now)
       (ended after next (blank_blocks n) (new_blocks layout n device after many few made keeps) found now).0
 
-  pub import_then_run : ImportThenRun G
-  import_then_run form first count device after next imports found keeps =
+  pub import_then_run : (is_text : (path text : List ℕ) → Type 0) → ImportThenRun G is_text
+  import_then_run is_text form first sources device after next imports found keeps =
       then_runs after next (with_files (meant_by G device) form first imports.files) (imports.saves keeps).after found
       (suits_after device imports.begun after imports.recovers.goes imports.goes keeps)
 
-  pub put_then_run : PutThenRun G
-  put_then_run b device after next put found keeps =
+  pub put_then_run : (is_text : (path text : List ℕ) → Type 0) → PutThenRun G is_text
+  put_then_run is_text b path device after next put found keeps =
       let saves = put.saves keeps in (
         saves.0,
         saves.1,
         saves.2,
-        then_runs after next (latest (spilled (maps_on G device) b saves.1)) saves.3.after found
+        saves.3,
+        then_runs after next (latest (spilled (maps_on G device) b saves.2)) saves.4.after found
             (suits_after device put.begun after put.recovers.goes put.goes keeps),
       )
 
-  pub stopped_put_then_run : StoppedPutThenRun G
-  stopped_put_then_run b device after next put found keeps =
+  pub stopped_put_then_run : (is_text : (path text : List ℕ) → Type 0) → StoppedPutThenRun G is_text
+  stopped_put_then_run is_text b path device after next put found keeps =
       let saves = put.saves keeps in
       let now = suits_after device put.begun after put.recovers.goes put.goes keeps in
       let sized = put.goes.sectors (suits_begun device put.begun put.recovers.goes keeps) in
@@ -209,8 +211,9 @@ module _ {D : Type 0} (G : Ghosts D) (present : (d : D) → IsTrue (G.keeps_mode
         saves.0,
         saves.1,
         saves.2,
-        ⊎_elim (λ old. inl (runs (meant_by G device) old)) (λ new. inr (runs (latest (spilled (maps_on G device) b saves.1)) new))
-            (saves.3.stops (G.disk next).content (stopped (G.time put.begun) after next found now)),
+        saves.3,
+        ⊎_elim (λ old. inl (runs (meant_by G device) old)) (λ new. inr (runs (latest (spilled (maps_on G device) b saves.2)) new))
+            (saves.4.stops (G.disk next).content (stopped (G.time put.begun) after next found now)),
       )
 
   pub run_then_run : RunThenRun G
@@ -259,8 +262,8 @@ module _ {D : Type 0} (G : Ghosts D) (present : (d : D) → IsTrue (G.keeps_mode
       λ returned. let later = kept.1 returned in (later.0, omega (arith, later.1, le), later.2, later.3),
     )
 
-  pub stopped_import_then_run : StoppedImportThenRun G
-  stopped_import_then_run form first count device after next imports found keeps =
+  pub stopped_import_then_run : (is_text : (path text : List ℕ) → Type 0) → StoppedImportThenRun G is_text
+  stopped_import_then_run is_text form first sources device after next imports found keeps =
       let now = suits_after device imports.begun after imports.recovers.goes imports.goes keeps in
       let sized = imports.goes.sectors (suits_begun device imports.begun imports.recovers.goes keeps) in
       let since = stopped (G.time imports.begun) after next found now in
@@ -282,8 +285,8 @@ module _ {D : Type 0} (G : Ghosts D) (present : (d : D) → IsTrue (G.keeps_mode
       (earlier ran.begun after now sized (meant_by G device) (ran.runs keeps).made (G.time device) (G.time ran.begun) ran.recovers.goes.time.later
       (since_before device ran.begun after ran.recovers ran.goes keeps (meant_by G device) leaves) (ran.runs keeps).keeps.kept.leaves)
 
-  pub any_moment_import_then_run : AnyMomentImportThenRun G
-  any_moment_import_then_run form first count device after next imports leaves found keeps =
+  pub any_moment_import_then_run : (is_text : (path text : List ℕ) → Type 0) → AnyMomentImportThenRun G is_text
+  any_moment_import_then_run is_text form first sources device after next imports leaves found keeps =
       let now = suits_after device imports.begun after imports.recovers.goes imports.goes keeps in
       let sized = imports.goes.sectors (suits_begun device imports.begun imports.recovers.goes keeps) in
       let all = with_files (meant_by G device) form first imports.files in
@@ -295,20 +298,21 @@ module _ {D : Type 0} (G : Ghosts D) (present : (d : D) → IsTrue (G.keeps_mode
       (since_before device imports.begun after imports.recovers imports.goes keeps (meant_by G device) leaves (G.disk next).content
       (stopped (G.time device) after next found now))
 
-  pub any_moment_put_then_run : AnyMomentPutThenRun G
-  any_moment_put_then_run b device after next put leaves found keeps =
+  pub any_moment_put_then_run : (is_text : (path text : List ℕ) → Type 0) → AnyMomentPutThenRun G is_text
+  any_moment_put_then_run is_text b path device after next put leaves found keeps =
       let saves = put.saves keeps in
       let now = suits_after device put.begun after put.recovers.goes put.goes keeps in
       let sized = put.goes.sectors (suits_begun device put.begun put.recovers.goes keeps) in
-      let with_text = latest (spilled (maps_on G device) b saves.1) in
+      let with_text = latest (spilled (maps_on G device) b saves.2) in
       let old : MeansOn G put.begun (meant_by G device) (G.disk next).content → RunsOver G next (meant_by G device) ⊎ RunsOver G next with_text =
       λ means. inl (found_runs put.begun after now sized (G.time device) next (meant_by G device) found means) in (
         saves.0,
         saves.1,
         saves.2,
+        saves.3,
         ⊎_elim old
             (λ later. ⊎_elim old (λ new. inr (found_runs put.begun after now sized (G.time device) next with_text found new))
-            (saves.3.stops (G.disk next).content later))
+            (saves.4.stops (G.disk next).content later))
             (since_before device put.begun after put.recovers put.goes keeps (meant_by G device) leaves (G.disk next).content
             (stopped (G.time device) after next found now)),
       )
@@ -321,18 +325,18 @@ module _ {D : Type 0} (G : Ghosts D) (present : (d : D) → IsTrue (G.keeps_mode
             (meant_by G device) (broke.done.breaks keeps).made (G.time broke.begun) (broke.done.breaks keeps).keeps.kept.leaves,
       )
 
-  pub fault_then_run : FaultThenRun G
-  fault_then_run steps script left left' written written' device after ran keeps =
+  pub fault_then_run : (is_text : (path text : List ℕ) → Type 0) → FaultThenRun G is_text
+  fault_then_run is_text steps script left left' written written' device after ran keeps =
       let now = suits_after device ran.begun after ran.recovers.goes ran.goes keeps in (
         λ next found live. then_runs after next (ran.stops keeps).closing.world.maps.saved ((ran.stops keeps).saved live) found now,
         kept_runs ran.begun after now (ran.goes.sectors (suits_begun device ran.begun ran.recovers.goes keeps))
             (meant_by G device) (ran.stops keeps).made (G.time ran.begun) (ran.stops keeps).keeps.kept.leaves,
       )
 
-  pub chain : Chain G
-  chain layout n first count form file made image filled opened saved again stopped_run later done last many few makes suited found_image imports found_opened one keeps live found_again two keeps' found_later three keeps'' live' found_last =
+  pub chain : (is_text : (path text : List ℕ) → Type 0) → Chain G is_text
+  chain is_text layout n first sources form file made image filled opened saved again stopped_run later done last many few makes suited found_image imports found_opened one keeps live found_again two keeps' found_later three keeps'' live' found_last =
       let image_suits = still (G.time made) made image found_image (new_suits layout n file made makes suited) in
-      let files_in = new_then_import layout n file made image many few makes found_image suited form first count filled imports in
+      let files_in = new_then_import is_text layout n file made image many few makes found_image suited form first sources filled imports in
       let filled_suits = suits_after image imports.begun filled imports.recovers.goes imports.goes image_suits in
       let saved_suits = suits_after opened one.session.begun saved one.session.recovers.goes one.session.goes keeps in
       let kept = (one.session.runs keeps).closing.world.maps.saved in

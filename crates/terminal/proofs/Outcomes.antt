@@ -89,7 +89,7 @@ not_help e memory (inl (inr version)) = absurd (let no : OutOfMemory ≡ Display
 
 -- Help that an error shows was asked for.
 pub asked_for : {kinds : Kinds} (e : Error) → HasKind kinds e → IsHelp (kind_of e) → AsksForHelp kinds
-asked_for {kinds} e (inl memory) help = not_help {AsksForHelp kinds} e memory (inl help)
+asked_for {kinds} e (inl memory) help = not_help {P = AsksForHelp kinds} e memory (inl help)
 asked_for {kinds} e (inr among) (inl help) = inl (subst (λ (k : ErrorKind). IsAmong k kinds) help among)
 asked_for {kinds} e (inr among) (inr version) = inr (subst (λ (k : ErrorKind). IsAmong k kinds) version among)
 

@@ -5,11 +5,12 @@ use Rattle.std.proofs.Math.ListN.{get_or-map}
 use Rattle.std.proofs.lemmas.Grind.{common_steps}
 use Rattle.std.proofs.lemmas.Bool.{leb-true, ltb-true, ltb-false}
 use Rattle.std.specs.Io.KnownBytes.{Consumes, IsAtEnd}
-use Rattle.std.specs.Prelude.{slice_index}
+use Rattle.std.specs.Prelude.{IfSome, slice_index}
 use Rattle.std.specs.Io.BufRead.{strip_last, ends_with_byte}
 use Rattle.number_io.specs.Taking.{up_to, from, after_text}
 use Rattle.sessions.specs.Cut.{blank_for_tab, line_text}
 use Rattle.terminal.specs.Screen.{longer, lines_of, texts_of, row, rows, screen_of, shown, printed}
+use Rattle.terminal.proofs.TextLemmas.{read_whole}
 
 longer_cut : (b : ℕ) (bytes : List ℕ) → longer b (lines_of bytes) ≡ (b ∷ up_to 10 bytes) ∷ lines_of (drop 1 (from 10 bytes))
 longer_cut b [] = refl
@@ -156,6 +157,12 @@ none_by (Some block) never = absurd (never block refl)
 -- a longer one is none
 pub too_long : (bytes : List ℕ) → 1056 < length bytes → screen_of bytes ≡ None
 too_long bytes long = none_by (screen_of bytes) (λ block e. let short = rows_length 16 bytes block e in omega arith)
+
+-- what says a screen was read to its end, since there was room for more
+pub screen_whole : (before after : Option (List ℕ)) (items block : List ℕ) → Consumes before after items → (length items < 1057 → IsAtEnd after)
+    → screen_of items ≡ Some block → IfSome before (λ left. items ≡ left)
+screen_whole before after items block read end said =
+    let short = rows_length 16 items block said in read_whole before after items read (end (omega (arith, short)))
 
 -- as many bytes of a text as there is room for say what the whole text says
 pub same_screen : (input items : List ℕ) (left : Option (List ℕ)) → Consumes (Some input) left items → (length items < 1057 → IsAtEnd left)

@@ -117,10 +117,10 @@ module _ {D T : Type 0} (G : Ghosts D) (hears : (old new : T) → LineEnd → Op
     })
 
   -- The session of a script.
-  module _ (steps : ℕ) (script : Script) (left left' written written' : Option (List ℕ)) (tracer tracer' : T) where
+  module _ (is_text : (path text : List ℕ) → Type 0) (steps : ℕ) (script : Script) (left left' written written' : Option (List ℕ)) (tracer tracer' : T) where
     module _ (end : Result RunEnd RunFault) (is_unsaved : Bool) (device after : D)
-        (ended : EndsScript G hears steps script end is_unsaved left left' written written' tracer tracer' device after) where
-      runs_script : end ≡ Ok Input → RunsScript G steps script left left' written written' device after
+        (ended : EndsScript G hears is_text steps script end is_unsaved left left' written written' tracer tracer' device after) where
+      runs_script : end ≡ Ok Input → RunsScript G is_text steps script left left' written written' device after
       runs_script is =
           let session = ended.session in
           let ran = λ (keeps : IsTrue (suits G device)).
@@ -140,7 +140,7 @@ module _ {D T : Type 0} (G : Ghosts D) (hears : (old new : T) → LineEnd → Op
       strict_of : end ≡ Ok Fault → script.is_strict ≡ true
       strict_of is = subst (λ (e : Result RunEnd RunFault). IfOk e (λ end. end ≡ Fault → script.is_strict ≡ true)) is ended.session.strict refl
 
-      stops_script : end ≡ Ok Fault → StopsScript G steps script left left' written written' device after
+      stops_script : end ≡ Ok Fault → StopsScript G is_text steps script left left' written written' device after
       stops_script is = record {
         strict = strict_of is;
         led = ended.led;
@@ -188,9 +188,9 @@ module _ {D T : Type 0} (G : Ghosts D) (hears : (old new : T) → LineEnd → Op
     module _ {E : Type 0} (opened : D → Type 0) where
       -- It went so over an image that was opened on such a device, of which this is left.
       abbrev EndsOn : Left D E → Ended → Type 0
-      EndsOn ends ended = DoneOn G (λ d. Opened d) opened (EndsScript G hears steps script ended.end ended.is_unsaved left left' written written' tracer tracer') ends
+      EndsOn ends ended = DoneOn G (λ d. Opened d) opened (EndsScript G hears is_text steps script ended.end ended.is_unsaved left left' written written' tracer tracer') ends
 
-      pub ends_on : (led : Option (List ℕ)) (ends : Left D E) (r : Result Ended Failure) → IsLed (load_line script.load) script.files.items left led
+      pub ends_on : (led : Option (List ℕ)) (ends : Left D E) (r : Result Ended Failure) → IsLed is_text (load_line script.load) script.files.items left led
           → IfOk r (λ ended. DoneOn G (λ d. Opened d) opened
           (EndsSession G hears steps script.is_strict ended.end ended.is_unsaved led left' written written' tracer tracer') ends)
           → IfOk r (EndsOn ends)
@@ -199,11 +199,11 @@ module _ {D T : Type 0} (G : Ghosts D) (hears : (old new : T) → LineEnd → Op
       ends_on led ends (Err e) leads session = tt
 
       -- No session began.
-      pub unbegun_on : (led : Option (List ℕ)) (ends : Left D E) (r : Result Ended Failure) → IsLed (load_line script.load) script.files.items left led
+      pub unbegun_on : (is_unread : (path : List ℕ) → Type 0) (led : Option (List ℕ)) (ends : Left D E) (r : Result Ended Failure) → IsLed is_text (load_line script.load) script.files.items left led
           → IfErr r (λ failure. FailsOn G (λ d. Opened d) opened (FailsAfter G (NotBegun G led left' written written')) failure ends)
-          → IfErr r (λ failure. ScriptUnbegun G opened script left left' written written' failure ends)
-      unbegun_on led ends (Ok ended) leads fails = tt
-      unbegun_on led ends (Err e) leads fails = inr (led, leads, fails)
+          → IfErr r (λ failure. ScriptUnbegun G opened is_text is_unread script left left' written written' failure ends)
+      unbegun_on is_unread led ends (Ok ended) leads fails = tt
+      unbegun_on is_unread led ends (Err e) leads fails = inr (led, leads, fails)
 
       unbegun_after : (led : Option (List ℕ)) (failure : Failure) (device after : D) → FailsAfter G (NotBegun G led left' written written') failure device after
           → FailsAfter G (RunFails G steps script.is_strict led left' written written') failure device after
@@ -211,10 +211,10 @@ module _ {D T : Type 0} (G : Ghosts D) (hears : (old new : T) → LineEnd → Op
       unbegun_after led failure device after (inr opens) =
           inr (record { begun = opens.begun; recovers = opens.recovers; well = opens.well; same = opens.same; goes = opens.goes; done = inl opens.done })
 
-      unbegun_fails : (failure : Failure) (ends : Left D E) → ScriptUnbegun G opened script left left' written written' failure ends
-          → ScriptFailed G opened steps script left left' written written' failure ends
-      unbegun_fails failure ends (inl unled) = inl unled
-      unbegun_fails failure ends (inr led) = inr (led.0, led.1, go led.2)
+      unbegun_fails : (is_unread : (path : List ℕ) → Type 0) (failure : Failure) (ends : Left D E) → ScriptUnbegun G opened is_text is_unread script left left' written written' failure ends
+          → ScriptFailed G opened is_text is_unread steps script left left' written written' failure ends
+      unbegun_fails is_unread failure ends (inl unled) = inl unled
+      unbegun_fails is_unread failure ends (inr led) = inr (led.0, led.1, go led.2)
         where
           go : FailsOn G (λ d. Opened d) opened (FailsAfter G (NotBegun G led.0 left' written written')) failure ends
               → FailsOn G (λ d. Opened d) opened (FailsAfter G (RunFails G steps script.is_strict led.0 left' written written')) failure ends
@@ -225,42 +225,42 @@ module _ {D T : Type 0} (G : Ghosts D) (hears : (old new : T) → LineEnd → Op
       module _ {U : Type 0} (ends : Left D E) (r : Result Ended Failure) (told : Result U Failure)
           (is : MatchResult r (λ ended. MatchResult told (λ _. of_end ended.end ≡ None) (λ e. of_end ended.end ≡ Some e)) (λ failure. told ≡ Err failure))
           (session : IfOk r (EndsOn ends)) where
-        pub told_done : OnOk told (DoneOn G (λ d. Opened d) opened (RunsScript G steps script left left' written written') ends)
+        pub told_done : OnOk told (DoneOn G (λ d. Opened d) opened (RunsScript G is_text steps script left left' written written') ends)
         told_done = go r told is session
           where
             go : (r : Result Ended Failure) (told : Result U Failure)
                 → MatchResult r (λ ended. MatchResult told (λ _. of_end ended.end ≡ None) (λ e. of_end ended.end ≡ Some e)) (λ failure. told ≡ Err failure)
-                → IfOk r (EndsOn ends) → OnOk told (DoneOn G (λ d. Opened d) opened (RunsScript G steps script left left' written written') ends)
+                → IfOk r (EndsOn ends) → OnOk told (DoneOn G (λ d. Opened d) opened (RunsScript G is_text steps script left left' written written') ends)
             go (Ok ended) (Ok u) is ran =
                 (ran.0, ran.1, ran.2.0, ran.2.1, runs_script ended.end ended.is_unsaved ran.2.0 ran.0 ran.2.2 (at_input ended.end is))
             go (Err e) (Ok u) is session = absurd (cc)
             go r (Err e) is session = tt
 
         pub told_stopped : IfErr r (λ e. e ≢ Stopped) → told ≡ Err Stopped
-            → DoneOn G (λ d. Opened d) opened (StopsScript G steps script left left' written written') ends
+            → DoneOn G (λ d. Opened d) opened (StopsScript G is_text steps script left left' written written') ends
         told_stopped begun stopped = go r is session begun
           where
             go : (r : Result Ended Failure)
                 → MatchResult r (λ ended. MatchResult told (λ _. of_end ended.end ≡ None) (λ e. of_end ended.end ≡ Some e)) (λ failure. told ≡ Err failure)
                 → IfOk r (EndsOn ends) → IfErr r (λ e. e ≢ Stopped)
-                → DoneOn G (λ d. Opened d) opened (StopsScript G steps script left left' written written') ends
+                → DoneOn G (λ d. Opened d) opened (StopsScript G is_text steps script left left' written written') ends
             go (Ok ended) is ran begun =
                 let end : of_end ended.end ≡ Some Stopped = rw stopped at is in
                 (ran.0, ran.1, ran.2.0, ran.2.1, stops_script ended.end ended.is_unsaved ran.2.0 ran.0 ran.2.2 (at_fault ended.end end))
             go (Err e) is session begun = let same : e ≡ Stopped = cc in absurd (begun same)
 
-        pub told_failed : IfErr r (λ failure. ScriptUnbegun G opened script left left' written written' failure ends)
-            → IfErr told (λ failure. ScriptFailed G opened steps script left left' written written' failure ends)
-        told_failed unbegun = go r told is session unbegun
+        pub told_failed : (is_unread : (path : List ℕ) → Type 0) → IfErr r (λ failure. ScriptUnbegun G opened is_text is_unread script left left' written written' failure ends)
+            → IfErr told (λ failure. ScriptFailed G opened is_text is_unread steps script left left' written written' failure ends)
+        told_failed is_unread unbegun = go r told is session unbegun
           where
             go : (r : Result Ended Failure) (told : Result U Failure)
                 → MatchResult r (λ ended. MatchResult told (λ _. of_end ended.end ≡ None) (λ e. of_end ended.end ≡ Some e)) (λ failure. told ≡ Err failure)
-                → IfOk r (EndsOn ends) → IfErr r (λ failure. ScriptUnbegun G opened script left left' written written' failure ends)
-                → IfErr told (λ failure. ScriptFailed G opened steps script left left' written written' failure ends)
+                → IfOk r (EndsOn ends) → IfErr r (λ failure. ScriptUnbegun G opened is_text is_unread script left left' written written' failure ends)
+                → IfErr told (λ failure. ScriptFailed G opened is_text is_unread steps script left left' written written' failure ends)
             go r (Ok u) is session unbegun = tt
             go (Ok ended) (Err e) is ran unbegun =
                 let by = ran.2.2 in
                 inr (by.led, by.leads, inr (ran.0, ran.1, ran.2.0, ran.2.1, fails_by ended.end ended.is_unsaved ran.2.0 ran.0 by ended.end refl e is))
             go (Err e) (Err e') is session unbegun =
                 let same : e ≡ e' = cc in
-                subst (λ (f : Failure). ScriptFailed G opened steps script left left' written written' f ends) same (unbegun_fails e ends unbegun)
+                subst (λ (f : Failure). ScriptFailed G opened is_text is_unread steps script left left' written written' f ends) same (unbegun_fails is_unread e ends unbegun)

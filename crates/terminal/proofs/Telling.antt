@@ -51,9 +51,9 @@ room_for_all form room (file ∷ files) sound =
     omega (arith, fits, rest, count)
 
 -- what is said has its place behind the blocks before it
-pub room_for : (form : Form) (blocks first : ℕ) (bytes : List ℕ) (count : ℕ) → first < blocks
-    → (files : List (List ℕ)) × (length files ≡ count) × AreSound form (blocks - first) files × (bytes ≡ said_all form files) → first + blocks_for (length bytes) ≤ blocks
-room_for form blocks first bytes count below read =
+pub room_for : (form : Form) (blocks first : ℕ) (bytes : List ℕ) (are_texts : List (List ℕ) → Type 0) → first < blocks
+    → (files : List (List ℕ)) × are_texts files × AreSound form (blocks - first) files × (bytes ≡ said_all form files) → first + blocks_for (length bytes) ≤ blocks
+room_for form blocks first bytes are_texts below read =
     let few : blocks_for (length bytes) ≤ blocks - first = subst (λ (l : List ℕ). blocks_for (length l) ≤ blocks - first) (sym read.3) (room_for_all form (blocks - first) read.0 read.2) in
     omega (arith, below, few)
 

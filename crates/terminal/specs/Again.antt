@@ -1,5 +1,6 @@
 -- One command after another: what the one left, when it ended or when it was stopped, is what the next one opens.
 use Rattle.std.specs.Prelude.{◌≡◌, ◌⊎◌, ℕ, ◌+◌, ◌-◌, ◌≤◌, Bool, IsTrue, List, Option, Some, false}
+use Rattle.std.specs.Borrow.{Bor}
 use Rattle.std.specs.Io.KnownBytes.{Appends}
 use Rattle.sector_disk.specs.Disk.{Image, MayLeave}
 use Rattle.sector_disk.specs.declared.device.SectorDevice.{Ghosts}
@@ -22,6 +23,7 @@ use Rattle.terminal.specs.Findings.{said_all}
 use Rattle.terminal.specs.Layout3.{MakesNewer}
 use Rattle.terminal.specs.Screen.{screen_of}
 use Rattle.terminal.specs.Scripts.{IsLed, RunsScript, StopsScript, load_line}
+use Rattle.terminal.specs.Texts.{AreTexts}
 use Rattle.terminal.specs.Transfer.{as_blocks, exports, spilled_from}
 use Rattle.terminal.specs.declared.failure.Failure.{Failure}
 
@@ -67,8 +69,9 @@ module _ {D : Type 0} (G : Ghosts D) where
       → Appends written written' (exports form (fresh blocks) first (last + 1 - first))
 
   -- Each `import` into it leaves these blocks, with those that its files say.
-  abbrev pub ImportsOver : D → List (List ℕ) → Type 0
-  ImportsOver next blocks = (form : Form) (first count : ℕ) (after : D) (imports : ImportsBlocks G form first count next after)
+  abbrev pub ImportsOver : (is_text : (path text : List ℕ) → Type 0) → D → List (List ℕ) → Type 0
+  ImportsOver is_text next blocks = (form : Form) (first : ℕ) (sources : List (Bor (List ℕ))) (after : D)
+      (imports : ImportsBlocks G form first (AreTexts is_text sources) next after)
       → LeavesBlocks G after (with_files blocks form first imports.files)
 
   -- `new`: an image of n blank blocks was made on a device of its size, by this layout.
@@ -103,45 +106,50 @@ module _ {D : Type 0} (G : Ghosts D) where
       → IsFoundAgain (G.time device) begun next → IsTrue (suits G device) → GivesBlocks next blocks
 
   -- `new`, and then `import`: the import goes into blank blocks.
-  abbrev pub NewThenImport : Type 0
-  NewThenImport = (layout : Layout) (n : ℕ) (device after next : D) → fewest_blocks ≤ n → n ≤ most_blocks → MakesBy layout n device after
-      → IsFoundAsItEnded after next → IsTrue (suits G device) → ImportsOver next (blank_blocks n)
+  abbrev pub NewThenImport : (is_text : (path text : List ℕ) → Type 0) → Type 0
+  NewThenImport is_text = (layout : Layout) (n : ℕ) (device after next : D) → fewest_blocks ≤ n → n ≤ most_blocks → MakesBy layout n device after
+      → IsFoundAsItEnded after next → IsTrue (suits G device) → ImportsOver is_text next (blank_blocks n)
 
   -- `import`, and then `run`: the session is one over the blocks as they were, with those that the files say.
-  abbrev pub ImportThenRun : Type 0
-  ImportThenRun = (form : Form) (first count : ℕ) (device after next : D) (imports : ImportsBlocks G form first count device after)
+  abbrev pub ImportThenRun : (is_text : (path text : List ℕ) → Type 0) → Type 0
+  ImportThenRun is_text = (form : Form) (first : ℕ) (sources : List (Bor (List ℕ))) (device after next : D)
+      (imports : ImportsBlocks G form first (AreTexts is_text sources) device after)
       → IsFoundAsItEnded after next → IsTrue (suits G device)
       → RunsOver next (with_files (meant_by G device) form first imports.files)
 
   -- `import` that was stopped at some moment after its recovery, and then `run`: over these blocks, or over those as they were.
-  abbrev pub StoppedImportThenRun : Type 0
-  StoppedImportThenRun = (form : Form) (first count : ℕ) (device after next : D) (imports : ImportsBlocks G form first count device after)
+  abbrev pub StoppedImportThenRun : (is_text : (path text : List ℕ) → Type 0) → Type 0
+  StoppedImportThenRun is_text = (form : Form) (first : ℕ) (sources : List (Bor (List ℕ))) (device after next : D)
+      (imports : ImportsBlocks G form first (AreTexts is_text sources) device after)
       → IsFoundAgain (G.time imports.begun) after next → IsTrue (suits G device)
       → RunsOver next (meant_by G device) ⊎ RunsOver next (with_files (meant_by G device) form first imports.files)
 
   -- The same of one that was stopped at any moment, in its recovery or after it, where a stop before left the blocks of its image.
-  abbrev pub AnyMomentImportThenRun : Type 0
-  AnyMomentImportThenRun = (form : Form) (first count : ℕ) (device after next : D) (imports : ImportsBlocks G form first count device after)
+  abbrev pub AnyMomentImportThenRun : (is_text : (path text : List ℕ) → Type 0) → Type 0
+  AnyMomentImportThenRun is_text = (form : Form) (first : ℕ) (sources : List (Bor (List ℕ))) (device after next : D)
+      (imports : ImportsBlocks G form first (AreTexts is_text sources) device after)
       → LeavesBlocks G device (meant_by G device) → IsFoundAgain (G.time device) after next → IsTrue (suits G device)
       → RunsOver next (meant_by G device) ⊎ RunsOver next (with_files (meant_by G device) form first imports.files)
 
   -- `put`, and then `run`: the session is one over the blocks as they were, with the lines of the text in that one.
-  abbrev pub PutThenRun : Type 0
-  PutThenRun = (b : ℕ) (device after next : D) → PutsBlock G b device after → IsFoundAsItEnded after next → IsTrue (suits G device)
-      → (text : List ℕ) × (bytes : List ℕ) × (screen_of text ≡ Some bytes)
+  abbrev pub PutThenRun : (is_text : (path text : List ℕ) → Type 0) → Type 0
+  PutThenRun is_text = (b : ℕ) (path : List ℕ) (device after next : D) → PutsBlock G b (is_text path) device after
+      → IsFoundAsItEnded after next → IsTrue (suits G device)
+      → (text : List ℕ) × is_text path text × (bytes : List ℕ) × (screen_of text ≡ Some bytes)
       × RunsOver next (latest (spilled (maps_on G device) b bytes))
 
   -- `put` that was stopped at some moment after its recovery, and then `run`: over these blocks, or over those as they were.
-  abbrev pub StoppedPutThenRun : Type 0
-  StoppedPutThenRun = (b : ℕ) (device after next : D) (put : PutsBlock G b device after) → IsFoundAgain (G.time put.begun) after next
-      → IsTrue (suits G device) → (text : List ℕ) × (bytes : List ℕ) × (screen_of text ≡ Some bytes)
+  abbrev pub StoppedPutThenRun : (is_text : (path text : List ℕ) → Type 0) → Type 0
+  StoppedPutThenRun is_text = (b : ℕ) (path : List ℕ) (device after next : D) (put : PutsBlock G b (is_text path) device after)
+      → IsFoundAgain (G.time put.begun) after next → IsTrue (suits G device)
+      → (text : List ℕ) × is_text path text × (bytes : List ℕ) × (screen_of text ≡ Some bytes)
       × (RunsOver next (meant_by G device) ⊎ RunsOver next (latest (spilled (maps_on G device) b bytes)))
 
   -- The same of one that was stopped at any moment, in its recovery or after it, where a stop before left the blocks of its image.
-  abbrev pub AnyMomentPutThenRun : Type 0
-  AnyMomentPutThenRun = (b : ℕ) (device after next : D) → PutsBlock G b device after → LeavesBlocks G device (meant_by G device)
-      → IsFoundAgain (G.time device) after next → IsTrue (suits G device)
-      → (text : List ℕ) × (bytes : List ℕ) × (screen_of text ≡ Some bytes)
+  abbrev pub AnyMomentPutThenRun : (is_text : (path text : List ℕ) → Type 0) → Type 0
+  AnyMomentPutThenRun is_text = (b : ℕ) (path : List ℕ) (device after next : D) → PutsBlock G b (is_text path) device after
+      → LeavesBlocks G device (meant_by G device) → IsFoundAgain (G.time device) after next → IsTrue (suits G device)
+      → (text : List ℕ) × is_text path text × (bytes : List ℕ) × (screen_of text ≡ Some bytes)
       × (RunsOver next (meant_by G device) ⊎ RunsOver next (latest (spilled (maps_on G device) b bytes)))
 
   -- `run`, and then `run`: the second session is one over the blocks that the first one saved last, where no fault closed its store.
@@ -177,9 +185,9 @@ module _ {D : Type 0} (G : Ghosts D) where
       (meant_by G device) (broke.done.breaks keeps).made (G.time broke.begun)
 
   -- `run` that a fault ended, since it was strict, and then `run`: the same.
-  abbrev pub FaultThenRun : Type 0
-  FaultThenRun = (steps : ℕ) (script : Script) (left left' written written' : Option (List ℕ)) (device after : D)
-      (ran : StopsScript G steps script left left' written written' device after) (keeps : IsTrue (suits G device))
+  abbrev pub FaultThenRun : (is_text : (path text : List ℕ) → Type 0) → Type 0
+  FaultThenRun is_text = (steps : ℕ) (script : Script) (left left' written written' : Option (List ℕ)) (device after : D)
+      (ran : StopsScript G is_text steps script left left' written written' device after) (keeps : IsTrue (suits G device))
       → ((next : D) → IsFoundAsItEnded after next → (ran.stops keeps).closing.world.maps.closed ≡ false
       → RunsOver next (ran.stops keeps).closing.world.maps.saved)
       × KeptFrom RunsOver (λ since next. IsFoundAgain since after next) (G.time after)
@@ -195,10 +203,10 @@ module _ {D : Type 0} (G : Ghosts D) where
   -- is one over blank blocks with those that the files say; the second one is over the blocks that the first one saved last; the third
   -- one is over these, or over those of a save of the second one, none from before a save that had returned; and what is printed are the
   -- blocks that the third one saved last.
-  abbrev pub Chain : Type 0
-  Chain = (layout : Layout) (n first count : ℕ) (form : Form) (file made image filled opened saved again stopped later done last : D)
+  abbrev pub Chain : (is_text : (path text : List ℕ) → Type 0) → Type 0
+  Chain is_text = (layout : Layout) (n first : ℕ) (sources : List (Bor (List ℕ))) (form : Form) (file made image filled opened saved again stopped later done last : D)
       → fewest_blocks ≤ n → n ≤ most_blocks → MakesBy layout n file made → IsTrue (suits G file)
-      → IsFoundAsItEnded made image → (imports : ImportsBlocks G form first count image filled)
+      → IsFoundAsItEnded made image → (imports : ImportsBlocks G form first (AreTexts is_text sources) image filled)
       → IsFoundAsItEnded filled opened → (one : Run opened saved) (keeps : IsTrue (suits G opened))
       → (one.session.runs keeps).closing.world.maps.closed ≡ false
       → IsFoundAsItEnded saved again → (two : Run again stopped) (keeps' : IsTrue (suits G again))
@@ -213,25 +221,27 @@ module _ {D : Type 0} (G : Ghosts D) where
   -- ---- orders on what an opening gave
 
   -- `run` of what a script asks for was a session over these blocks.
-  abbrev pub RanOver : (steps : ℕ) (script : Script) (left left' written written' : Option (List ℕ)) → List (List ℕ) → (after : D) → Type 0
-  RanOver steps script left left' written written' blocks after = (led : Option (List ℕ)) × (begun : D)
-      × IsLed (load_line script.load) script.files.items left led
+  abbrev pub RanOver : (is_text : (path text : List ℕ) → Type 0) (steps : ℕ) (script : Script) (left left' written written' : Option (List ℕ))
+      → List (List ℕ) → (after : D) → Type 0
+  RanOver is_text steps script left left' written written' blocks after = (led : Option (List ℕ)) × (begun : D)
+      × IsLed is_text (load_line script.load) script.files.items left led
       × RunsFrom G (new_forth steps (fresh blocks)) led left' written written' begun after
 
   -- `put` was done on a device that an opening gave, it is given again as it was left, and then `run` was done on what an opening gave:
-  -- over the blocks as they were, with the lines of a text in that one.
-  abbrev pub PutThenRunOn : (opened opened' : D → Type 0) → Type 0
-  PutThenRunOn opened opened' = (b steps : ℕ) (script : Script) (left left' written written' : Option (List ℕ)) (after last : D)
-      (put : Comes G opened (PutsBlock G b) after) → GivesAgain opened' (G.time after) after
-      → Comes G opened' (RunsScript G steps script left left' written written') last → IsTrue (suits G put.0)
-      → (text : List ℕ) × (bytes : List ℕ) × (screen_of text ≡ Some bytes)
-      × RanOver steps script left left' written written' (latest (spilled (maps_on G put.0) b bytes)) last
+  -- over the blocks as they were, with the lines of the text in that one. `is_text` is of the texts of `put`, `is_text'` of those of `run`.
+  abbrev pub PutThenRunOn : (opened opened' : D → Type 0) (is_text is_text' : (path text : List ℕ) → Type 0) → Type 0
+  PutThenRunOn opened opened' is_text is_text' = (b steps : ℕ) (path : List ℕ) (script : Script)
+      (left left' written written' : Option (List ℕ)) (after last : D)
+      (put : Comes G opened (PutsBlock G b (is_text path)) after) → GivesAgain opened' (G.time after) after
+      → Comes G opened' (RunsScript G is_text' steps script left left' written written') last → IsTrue (suits G put.0)
+      → (text : List ℕ) × is_text path text × (bytes : List ℕ) × (screen_of text ≡ Some bytes)
+      × RanOver is_text' steps script left left' written written' (latest (spilled (maps_on G put.0) b bytes)) last
 
   -- The same of `run`, and then `run`: over the blocks that the first session saved last, where no fault closed its store.
-  abbrev pub RunThenRunOn : (opened opened' : D → Type 0) → Type 0
-  RunThenRunOn opened opened' = (first_steps steps : ℕ) (first_script script : Script)
+  abbrev pub RunThenRunOn : (opened opened' : D → Type 0) (is_text is_text' : (path text : List ℕ) → Type 0) → Type 0
+  RunThenRunOn opened opened' is_text is_text' = (first_steps steps : ℕ) (first_script script : Script)
       (unread unread' shown shown' left left' written written' : Option (List ℕ)) (after last : D)
-      (ran : Comes G opened (RunsScript G first_steps first_script unread unread' shown shown') after) → GivesAgain opened' (G.time after) after
-      → Comes G opened' (RunsScript G steps script left left' written written') last → (keeps : IsTrue (suits G ran.0))
+      (ran : Comes G opened (RunsScript G is_text first_steps first_script unread unread' shown shown') after) → GivesAgain opened' (G.time after) after
+      → Comes G opened' (RunsScript G is_text' steps script left left' written written') last → (keeps : IsTrue (suits G ran.0))
       → (ran.2.session.runs keeps).closing.world.maps.closed ≡ false
-      → RanOver steps script left left' written written' (ran.2.session.runs keeps).closing.world.maps.saved last
+      → RanOver is_text' steps script left left' written written' (ran.2.session.runs keeps).closing.world.maps.saved last

@@ -122,19 +122,20 @@ module _ {D : Type 0} (G : Ghosts D) where
         (λ image. MeansOn old m.saved image ⊎ MeansOn old (latest (spilled_from m b blocks)) image)
     pub after : LeavesBlocks new (latest (spilled_from m b blocks))
 
-  -- The same of the lines of some text.
-  abbrev pub SavesText : Maps → ℕ → (old new : D) → Type 0
-  SavesText m b old new = (text : List ℕ) × (bytes : List ℕ) × (screen_of text ≡ Some bytes) × SavesBlock m b bytes old new
+  -- The same of the lines of such a text.
+  abbrev pub SavesText : Maps → ℕ → (is_text : List ℕ → Type 0) → (old new : D) → Type 0
+  SavesText m b is_text old new =
+      (text : List ℕ) × is_text text × (bytes : List ℕ) × (screen_of text ≡ Some bytes) × SavesBlock m b bytes old new
 
-  -- `put`: a recovery, and the lines of some text were made a block that is there, in one save, and no other block was changed.
-  pub record PutsBlock (b : ℕ) (device after : D) : Type 0 where
+  -- `put`: a recovery, and the lines of the text were made a block that is there, in one save, and no other block was changed.
+  pub record PutsBlock (b : ℕ) (is_text : List ℕ → Type 0) (device after : D) : Type 0 where
     pub begun : D
     pub recovers : Recovers device begun
     pub well : G.failures begun ≡ G.failures device
     pub meant : IsTrue (suits G device) → HasMeaning (G.sector_count device) (G.disk device).content
     pub goes : Becomes G begun after
     pub there : b < blocks_on device
-    pub saves : IsTrue (suits G device) → SavesText (maps_on device) b begun after
+    pub saves : IsTrue (suits G device) → SavesText (maps_on device) b is_text begun after
     pub begins : BeginsAtMost G begun after 7 4
     pub reads : ReadsAtMost G begun after 4
 
@@ -155,16 +156,16 @@ module _ {D : Type 0} (G : Ghosts D) where
     pub begins : BeginsAtMost G begun after 0 0
     pub reads : ReadsAtMost G begun after (2 * (last + 1 - first))
 
-  -- `import`: a recovery, and the blocks that so many files say, of which nothing is refused, were made those from the first on,
-  -- in one save, and no other block was changed. Each file begins a block.
-  pub record ImportsBlocks (form : Form) (first count : ℕ) (device after : D) : Type 0 where
+  -- `import`: a recovery, and the blocks that the files say, of which nothing is refused, were made those from the first on, in one
+  -- save, and no other block was changed. Each file begins a block.
+  pub record ImportsBlocks (form : Form) (first : ℕ) (are_texts : List (List ℕ) → Type 0) (device after : D) : Type 0 where
     pub begun : D
     pub recovers : Recovers device begun
     pub well : G.failures begun ≡ G.failures device
     pub meant : IsTrue (suits G device) → HasMeaning (G.sector_count device) (G.disk device).content
     pub goes : Becomes G begun after
     pub files : List (List ℕ)
-    pub each : length files ≡ count
+    pub each : are_texts files
     pub sound : AreSound form (blocks_on device - first) files
     pub below : first < blocks_on device
     pub there : first + blocks_for (length (said_all form files)) ≤ blocks_on device
@@ -172,12 +173,11 @@ module _ {D : Type 0} (G : Ghosts D) where
     pub begins : BeginsAtMost G begun after (4 * blocks_for (length (said_all form files)) + 3) 4
     pub reads : ReadsAtMost G begun after (4 * blocks_for (length (said_all form files)))
 
-  -- `import --check`: nothing is refused of so many files, for which there are blocks from the first on. No call of the device was
-  -- made.
-  pub record LooksAt (form : Form) (first count : ℕ) (device after : D) : Type 0 where
+  -- `import --check`: nothing is refused of the files, for which there are blocks from the first on. No call of the device was made.
+  pub record LooksAt (form : Form) (first : ℕ) (are_texts : List (List ℕ) → Type 0) (device after : D) : Type 0 where
     pub same : after ≡ device
     pub files : List (List ℕ)
-    pub each : length files ≡ count
+    pub each : are_texts files
     pub sound : AreSound form (blocks_on device - first) files
     pub below : first < blocks_on device
     pub there : first + blocks_for (length (said_all form files)) ≤ blocks_on device

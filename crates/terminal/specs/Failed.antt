@@ -1,5 +1,5 @@
 -- What a command over images leaves where it failed, on any device: from the device that it opened or made to what that has become.
-use Rattle.std.specs.Prelude.{◌≡◌, ◌≢◌, ◌⊎◌, ℕ, Bool, true, ◌+◌, ◌-◌, ◌*◌, ◌≤◌, ◌<◌, IsTrue, List, Option, Some, IfSome, length, option_map}
+use Rattle.std.specs.Prelude.{◌≡◌, ◌≢◌, ◌⊎◌, ℕ, Bool, true, ◌+◌, ◌-◌, ◌*◌, ◌≤◌, ◌<◌, IsTrue, List, Option, Some, IfSome, option_map}
 use Rattle.std.specs.Io.KnownBytes.{Appends}
 use Rattle.sector_disk.specs.Counting.{count_up}
 use Rattle.sector_disk.specs.declared.device.SectorDevice.{Ghosts}
@@ -41,6 +41,7 @@ use Rattle.terminal.specs.Layout2 as older
 use Rattle.terminal.specs.Screen.{screen_of}
 use Rattle.terminal.specs.Scripts.{IsLed, StopsFrom, load_line}
 use Rattle.terminal.specs.Shown.{block_refusal, blocks_refusal}
+use Rattle.terminal.specs.Texts.{OneIsUnread}
 use Rattle.terminal.specs.Transfer.{as_blocks, spilled_from}
 use Rattle.terminal.specs.declared.failure.Failure.{Failure}
 use Rattle.terminal.specs.declared.failure.Failure.TheVariants.{BadSize, CannotOpen, CannotRead, CannotWrite, Damaged, Device, Exists, InUse, NoBlock, NoMemory, Stopped}
@@ -183,25 +184,32 @@ module _ {D : Type 0} (G : Ghosts D) where
     pub no_block : failure ≡ NoBlock → (last < first) ⊎ (blocks_on G device ≤ last)
 
   -- `put`: only a failed save made a call of the device. A stop at any moment of it leaves the blocks as they were, or these with
-  -- the lines of some text in that block.
-  pub record PutFails (b : ℕ) (failure : Failure) (device begun after : D) : Type 0 where
+  -- the lines of the text in that block. That the text can't be read is told only where it wasn't had.
+  pub record PutFails (b : ℕ) (is_text : List ℕ → Type 0) (unread : Type 0) (failure : Failure) (device begun after : D) : Type 0 where
     pub unsaved : failure ≢ Device → after ≡ begun
     pub stops : IsTrue (suits G device) → StopsLeave G begun after (λ image. MeansOn G device (meant_by G device) image
-        ⊎ ((text : List ℕ) × (bytes : List ℕ) × (screen_of text ≡ Some bytes)
+        ⊎ ((text : List ℕ) × is_text text × (bytes : List ℕ) × (screen_of text ≡ Some bytes)
         × MeansOn G device (latest (spilled (maps_on G device) b bytes)) image))
     pub faults : TellsFault G failure begun after
+    pub cannot : failure ≡ CannotRead → unread
     pub begins : BeginsAtMost G begun after 7 4
     pub reads : ReadsAtMost G begun after 4
 
-  -- `import`: the same with the blocks that so many files say, of which nothing is refused: all of them, or none.
-  pub record ImportFails (form : Form) (first count : ℕ) (failure : Failure) (device begun after : D) : Type 0 where
+  -- `import`: the same with the blocks that the files say, of which nothing is refused: all of them, or none.
+  pub record ImportFails (form : Form) (first : ℕ) (are_texts : List (List ℕ) → Type 0) (unread : Type 0) (failure : Failure) (device begun after : D) : Type 0 where
     pub unsaved : failure ≢ Device → after ≡ begun
     pub stops : IsTrue (suits G device) → StopsLeave G begun after (λ image. MeansOn G device (meant_by G device) image
-        ⊎ ((files : List (List ℕ)) × (length files ≡ count) × AreSound form (blocks_on G device - first) files
+        ⊎ ((files : List (List ℕ)) × are_texts files × AreSound form (blocks_on G device - first) files
         × MeansOn G device (latest (spilled_from (maps_on G device) first (as_blocks (said_all form files)))) image))
     pub faults : TellsFault G failure begun after
+    pub cannot : failure ≡ CannotRead → unread
     pub begins : BeginsAtMost G begun after (4 * (blocks_on G device - first) + 3) 4
     pub reads : ReadsAtMost G begun after (4 * (blocks_on G device - first))
+
+  -- `import --check`: no call of the device was made, and that a file can't be read is told only where its text wasn't had.
+  pub record LooksInVain (unread : Type 0) (failure : Failure) (device after : D) : Type 0 where
+    pub same : after ≡ device
+    pub cannot : failure ≡ CannotRead → unread
 
   -- ---- of an image that is opened for reading alone
 
@@ -317,30 +325,31 @@ module _ {D E : Type 0} (G : Ghosts D) (L : Ghosts E) where
 -- ---- of a script, which is read before its image is opened
 
 -- A file of the script can't be read, or there was no memory for the files: nothing is left, and nothing was read or printed.
-pub record NotLed {A B : Type 0} (left left' written written' : Option (List ℕ)) (failure : Failure) (ends : Left A B) : Type 0 where
+pub record NotLed {A B : Type 0} (cannot : Type 0) (left left' written written' : Option (List ℕ)) (failure : Failure) (ends : Left A B) : Type 0 where
   pub unopened : ends ≡ files.Nothing
-  pub told : (failure ≡ CannotRead) ⊎ (failure ≡ NoMemory)
+  pub told : ((failure ≡ CannotRead) × cannot) ⊎ (failure ≡ NoMemory)
   pub unread : left' ≡ left
   pub unwritten : written' ≡ written
 
 module _ {D : Type 0} (G : Ghosts D) where
   -- A session of a script failed: the script wasn't read, or with what it says the image wasn't opened, or P says what was done then.
-  abbrev pub ScriptFails : {E : Type 0} (opened : D → Type 0) (script : Script)
-      (P : (led left' written written' : Option (List ℕ)) → Failure → (device begun after : D) → Type 0)
+  abbrev pub ScriptFails : {E : Type 0} (opened : D → Type 0) (is_text : (path text : List ℕ) → Type 0) (is_unread : (path : List ℕ) → Type 0)
+      (script : Script) (P : (led left' written written' : Option (List ℕ)) → Failure → (device begun after : D) → Type 0)
       (left left' written written' : Option (List ℕ)) → Failure → Left D E → Type 0
-  ScriptFails opened script P left left' written written' failure ends = NotLed left left' written written' failure ends
-      ⊎ ((led : Option (List ℕ)) × IsLed (load_line script.load) script.files.items left led
+  ScriptFails opened is_text is_unread script P left left' written written' failure ends =
+      NotLed (OneIsUnread is_unread script.files.items) left left' written written' failure ends
+      ⊎ ((led : Option (List ℕ)) × IsLed is_text (load_line script.load) script.files.items left led
       × FailsOn G files.Opened opened (FailsAfter G (P led left' written written')) failure ends)
 
   -- No session of it began.
-  abbrev pub ScriptUnbegun : {E : Type 0} (opened : D → Type 0) (script : Script) (left left' written written' : Option (List ℕ))
-      → Failure → Left D E → Type 0
-  ScriptUnbegun opened script = ScriptFails opened script (NotBegun G)
+  abbrev pub ScriptUnbegun : {E : Type 0} (opened : D → Type 0) (is_text : (path text : List ℕ) → Type 0) (is_unread : (path : List ℕ) → Type 0)
+      (script : Script) (left left' written written' : Option (List ℕ)) → Failure → Left D E → Type 0
+  ScriptUnbegun opened is_text is_unread script = ScriptFails opened is_text is_unread script (NotBegun G)
 
   -- `run`: no session of it began, or one didn't come to the end of its input.
-  abbrev pub ScriptFailed : {E : Type 0} (opened : D → Type 0) (steps : ℕ) (script : Script) (left left' written written' : Option (List ℕ))
-      → Failure → Left D E → Type 0
-  ScriptFailed opened steps script = ScriptFails opened script (RunFails G steps script.is_strict)
+  abbrev pub ScriptFailed : {E : Type 0} (opened : D → Type 0) (is_text : (path text : List ℕ) → Type 0) (is_unread : (path : List ℕ) → Type 0)
+      (steps : ℕ) (script : Script) (left left' written written' : Option (List ℕ)) → Failure → Left D E → Type 0
+  ScriptFailed opened is_text is_unread steps script = ScriptFails opened is_text is_unread script (RunFails G steps script.is_strict)
 
 -- ---- of an image that is made of another one: G is of those that are copied or salvaged, H of those that are made
 

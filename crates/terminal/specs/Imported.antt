@@ -34,18 +34,18 @@ module _ {D : Type 0} {G : Ghosts D} where
     pub begins : DeviceBegins old new (2 * pending_count old + 4 * length blocks + 3) 4
     pub reads : DeviceReads old new (4 * pending_count old + 4 * length blocks)
 
-  -- The same of the blocks that so many files say, of which nothing is refused.
-  pub record ImportsSome (form : Form) (b count : ℕ) (old new : Store D G) : Type 0 where
+  -- The same of the blocks that such files say, of which nothing is refused.
+  pub record ImportsSome (form : Form) (b : ℕ) (are_texts : List (List ℕ) → Type 0) (old new : Store D G) : Type 0 where
     pub files : List (List ℕ)
-    pub each : length files ≡ count
+    pub each : are_texts files
     pub sound : AreSound form (blocks_of old - b) files
     pub below : b < blocks_of old
     pub there : b + blocks_for (length (said_all form files)) ≤ blocks_of old
     pub imports : Imports b (as_blocks (said_all form files)) old new
 
-  -- A stop of an open store at any moment leaves the saved blocks, or these with all blocks that so many such files say.
-  abbrev pub LeavesImported : (form : Form) (b count : ℕ) (old new : Store D G) → Type 0
-  LeavesImported form b count old new = (m : Maps) → StandsFor old m → m.closed ≡ false
+  -- A stop of an open store at any moment leaves the saved blocks, or these with all blocks that such files say.
+  abbrev pub LeavesImported : (form : Form) (b : ℕ) (are_texts : List (List ℕ) → Type 0) (old new : Store D G) → Type 0
+  LeavesImported form b are_texts old new = (m : Maps) → StandsFor old m → m.closed ≡ false
       → StopsLeave G (device_of old) (device_of new) (λ image. MeansBy old m.saved image
-      ⊎ ((files : List (List ℕ)) × (length files ≡ count) × AreSound form (blocks_of old - b) files
+      ⊎ ((files : List (List ℕ)) × are_texts files × AreSound form (blocks_of old - b) files
       × MeansBy old (latest (spilled_from m b (as_blocks (said_all form files)))) image))

@@ -19,3 +19,4 @@ pub mod Transfer
 pub mod Findings
 pub mod Imported
 pub mod Scripts
+pub mod Texts

@@ -1,4 +1,4 @@
--- A text that was made a block of a store, whatever its bytes are.
+-- A text that was made a block of a store.
 use Rattle.std.specs.Prelude.{◌≡◌, ◌⊎◌, ℕ, false, List, Some}
 use Rattle.sector_disk.specs.declared.device.SectorDevice.{Ghosts}
 use Rattle.journal.specs.declared.store.Store.{Store}
@@ -9,14 +9,14 @@ use Rattle.terminal.specs.Done.{SavesBlock}
 use Rattle.terminal.specs.Screen.{screen_of}
 
 module _ {D : Type 0} {G : Ghosts D} where
-  -- The lines of some text were made this block, in one save, and no other block was changed.
-  pub record PutsSome (old new : Store D G) (block : ℕ) : Type 0 where
-    pub saved : (m : Maps) → StandsFor old m → (text : List ℕ) × (bytes : List ℕ) × (screen_of text ≡ Some bytes)
+  -- The lines of such a text were made this block, in one save, and no other block was changed.
+  pub record PutsSome (is_text : List ℕ → Type 0) (old new : Store D G) (block : ℕ) : Type 0 where
+    pub saved : (m : Maps) → StandsFor old m → (text : List ℕ) × is_text text × (bytes : List ℕ) × (screen_of text ≡ Some bytes)
         × StandsFor new (committed (spilled m block bytes)) × SavesBlock G m block bytes (device_of old) (device_of new)
 
-  -- A stop of an open store at any moment leaves the saved blocks, or these with the lines of some text in this block.
-  pub record LeavesSome (old new : Store D G) (block : ℕ) : Type 0 where
+  -- A stop of an open store at any moment leaves the saved blocks, or these with the lines of such a text in this block.
+  pub record LeavesSome (is_text : List ℕ → Type 0) (old new : Store D G) (block : ℕ) : Type 0 where
     pub left : (m : Maps) → StandsFor old m → m.closed ≡ false
         → StopsLeave G (device_of old) (device_of new)
-        (λ image. MeansBy old m.saved image ⊎ ((text : List ℕ) × (bytes : List ℕ) × (screen_of text ≡ Some bytes)
+        (λ image. MeansBy old m.saved image ⊎ ((text : List ℕ) × is_text text × (bytes : List ℕ) × (screen_of text ≡ Some bytes)
         × MeansBy old (latest (spilled m block bytes)) image))

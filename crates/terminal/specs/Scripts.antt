@@ -21,6 +21,7 @@ use Rattle.sessions.specs.declared.run_end.RunEnd.TheVariants as by
 use Rattle.sessions.specs.declared.run_fault.RunFault.{RunFault}
 use Rattle.command_line.specs.declared.orders.Script.{Script}
 use Rattle.terminal.specs.Done.{LeavesBlocks, Recovers, RunsSession, maps_on, meant_by}
+use Rattle.terminal.specs.Texts.{AreTexts}
 
 -- a text that ends with a line feed, unless it is empty: its last line may lack that
 abbrev pub lined : List ℕ → List ℕ
@@ -33,11 +34,11 @@ load_line None = []
 load_line (Some block) = decimal block ++ codes " LOAD" ++ 10 ∷ []
 
 -- What a session reads in which this line and these files are asked for: behind the line the input, or in its place the lines of
--- the files, one file after another.
-abbrev pub IsLed : (line : List ℕ) (files : List (Bor (List ℕ))) (left led : Option (List ℕ)) → Type 0
-IsLed line [] left led = led ≡ prepend_known line left
-IsLed line (file ∷ files) left led =
-    (texts : List (List ℕ)) × (length texts ≡ length (file ∷ files)) × (led ≡ Some (line ++ flat_map lined texts))
+-- the files' texts, one after another.
+abbrev pub IsLed : (is_text : (path text : List ℕ) → Type 0) (line : List ℕ) (files : List (Bor (List ℕ))) (left led : Option (List ℕ)) → Type 0
+IsLed is_text line [] left led = led ≡ prepend_known line left
+IsLed is_text line (file ∷ files) left led =
+    (texts : List (List ℕ)) × AreTexts is_text (file ∷ files) texts × (led ≡ Some (line ++ flat_map lined texts))
 
 -- nothing is asked for but a session of the input
 abbrev pub is_plain : Script → Bool
@@ -49,9 +50,9 @@ unsaved_notice = codes "forth83: image: changed blocks were not saved" ++ 10 ∷
 
 module _ {D : Type 0} (G : Ghosts D) where
   -- `run`: a session over the image of what the script asks for. Where it is strict no fault ended a line.
-  pub record RunsScript (steps : ℕ) (script : Script) (left left' written written' : Option (List ℕ)) (device after : D) : Type 0 where
+  pub record RunsScript (is_text : (path text : List ℕ) → Type 0) (steps : ℕ) (script : Script) (left left' written written' : Option (List ℕ)) (device after : D) : Type 0 where
     pub led : Option (List ℕ)
-    pub leads : IsLed (load_line script.load) script.files.items left led
+    pub leads : IsLed is_text (load_line script.load) script.files.items left led
     pub session : RunsSession G steps led left' written written' device after
     pub faultless : script.is_strict ≡ true → (keeps : IsTrue (suits G device)) → AreFaultless (session.runs keeps).completes.turns
 
@@ -65,10 +66,10 @@ module _ {D : Type 0} (G : Ghosts D) where
     pub saved : closing.world.maps.closed ≡ false → LeavesBlocks G new closing.world.maps.saved
 
   -- The same of a script: it is strict, and its image was recovered before.
-  pub record StopsScript (steps : ℕ) (script : Script) (left left' written written' : Option (List ℕ)) (device after : D) : Type 0 where
+  pub record StopsScript (is_text : (path text : List ℕ) → Type 0) (steps : ℕ) (script : Script) (left left' written written' : Option (List ℕ)) (device after : D) : Type 0 where
     pub strict : script.is_strict ≡ true
     pub led : Option (List ℕ)
-    pub leads : IsLed (load_line script.load) script.files.items left led
+    pub leads : IsLed is_text (load_line script.load) script.files.items left led
     pub begun : D
     pub recovers : Recovers G device begun
     pub well : G.failures begun ≡ G.failures device
@@ -103,8 +104,9 @@ module _ {D : Type 0} (G : Ghosts D) where
         → EndsFrom hears is_strict end is_unsaved (new_forth steps (maps_on G device)) left left' written written' begun after tracer tracer'
 
   -- The same of a script, which says what is read and whether it is strict.
-  pub record EndsScript {T : Type 0} (hears : (old new : T) → LineEnd → Option Place → List ℕ → List Place → Type 0) (steps : ℕ) (script : Script) (end : Result RunEnd RunFault) (is_unsaved : Bool)
+  pub record EndsScript {T : Type 0} (hears : (old new : T) → LineEnd → Option Place → List ℕ → List Place → Type 0)
+      (is_text : (path text : List ℕ) → Type 0) (steps : ℕ) (script : Script) (end : Result RunEnd RunFault) (is_unsaved : Bool)
       (left left' written written' : Option (List ℕ)) (tracer tracer' : T) (device after : D) : Type 0 where
     pub led : Option (List ℕ)
-    pub leads : IsLed (load_line script.load) script.files.items left led
+    pub leads : IsLed is_text (load_line script.load) script.files.items left led
     pub session : EndsSession hears steps script.is_strict end is_unsaved led left' written written' tracer tracer' device after

@@ -1,27 +1,29 @@
 //! The commands over images that are files of a system: each gives back what it has opened or made.
 //! Rule: MANUAL, Commands.
-ghost use Rattle.std.specs.Prelude.{◌≡◌, ◌≢◌, ◌⊎◌, ℕ, ◌<◌, ◌≤◌, ◌+◌, ◌*◌, ◌↔◌, length, true, ⊤, Err, IsOk, OnOk, IfOk, IfErr, IfSome, MatchOption, IsErrOf};
+ghost use Rattle.std.specs.Prelude.{◌≡◌, ◌≢◌, ◌⊎◌, ℕ, ◌<◌, ◌≤◌, ◌+◌, ◌*◌, ◌↔◌, true, ⊤, Err, IsOk, OnOk, IfOk, IfErr, IfSome, MatchOption, IsErrOf};
 ghost use Rattle.journal.specs.Layout.{sectors_for};
 ghost use Rattle.journal.specs.PageLayout as newer_layout;
 ghost use Rattle.journal.specs.Store.{Continues, DeviceBegins, DeviceFailed, DeviceReads, blocks_of, closed_of, device_of, pending_count};
 ghost use Rattle.terminal.specs.Done.{DoneOn, EachLeft, ImportsBlocks, LooksAt, MakesBlank, PutsBlock, Upgrades};
 ghost use Rattle.recovery.specs.Steps.{WentWell};
-ghost use Rattle.terminal.specs.Failed.{FailsAfter, FailsOn, ImportFails, IsUnmade, IsUntouched, NewFailed, PutFails, UpgradeFailed, UpgradeFails};
+ghost use Rattle.terminal.specs.Failed.{FailsAfter, FailsOn, ImportFails, IsUnmade, LooksInVain, NewFailed, PutFails, UpgradeFailed, UpgradeFails};
 ghost use Rattle.terminal.specs.Files.{IsMade, IsOpened, IsUnfinished};
 ghost use Rattle.terminal.specs.Layout3.{MakesNewer, UpgradeDone};
 ghost use Rattle.terminal.specs.Putting.{LeavesSome, PutsSome};
+ghost use Rattle.terminal.specs.Texts.{AreTexts, IsTextOf, IsUnread, OneIsUnread};
 
 use super::failure::Failure;
 use super::images::{make_newer_over, make_over, put_text};
 use super::importing::read_blocks;
 use super::left::Left;
 use super::over_devices::{import_over, put_over};
+use super::texts::{TextFiles, open_text};
 use command_line::orders::{Form, Layout};
 use journal::layout::MOST_BLOCKS_1;
 use recovery::upgrade;
 use sector_disk::{HostFile, HostFiles, SectorDevice, SectorFile, create_disk, open_disk};
-use std::fs::{File, Files};
-use std::io::{BufReader, Write};
+use std::alloc::Global;
+use std::io::{Read, Write};
 use stores::{Store, blocks_of_size};
 
 /// Makes a file that is an image of blank blocks, 32 to 3,840, of layout 2. Its failures: `Exists` where something has
@@ -145,8 +147,8 @@ pub(super) fn opened<D, E, T>(ended: (D, Result<T, Failure>)) -> (Left<D, E>, Re
 /// Makes the lines of a text file a block of an image, in one save. Its failures: `CannotOpen` or `InUse` where the
 /// file can't be opened for reading and writing, then those of `put_over`.
 /// Rule: MANUAL, forth83 put IMAGE BLOCK FILE.
-pub fn put_into_image<H: HostFile, O: HostFiles<H>, E>(
-    rt: &(impl Files<File = File> + AllocGlobal),
+pub fn put_into_image<H: HostFile, O: HostFiles<H>, B: Read + Drop, Q: TextFiles<B>, E>(
+    texts: &Q,
     files: &O,
     path: &str,
     block: u16,
@@ -154,14 +156,16 @@ pub fn put_into_image<H: HostFile, O: HostFiles<H>, E>(
 ) -> (Left<SectorFile<H>, E>, Result<(), Failure>)
     ensures put { OnOk result.1 (DoneOn ⟦<SectorFile<H> as SectorDevice>⟧ Left.Opened
         (IsOpened H.HostFile (O.opens files.now path.now))
-        (PutsBlock ⟦<SectorFile<H> as SectorDevice>⟧ block) result.0) }
+        (PutsBlock ⟦<SectorFile<H> as SectorDevice>⟧ block (IsTextOf B.remaining (Q.opens texts.now text.now))) result.0) }
     ensures failed { IfErr result.1 (λ failure. FailsOn ⟦<SectorFile<H> as SectorDevice>⟧ Left.Opened
         (IsOpened H.HostFile (O.opens files.now path.now))
-        (FailsAfter ⟦<SectorFile<H> as SectorDevice>⟧ (PutFails ⟦<SectorFile<H> as SectorDevice>⟧ block)) failure result.0) }
+        (FailsAfter ⟦<SectorFile<H> as SectorDevice>⟧ (PutFails ⟦<SectorFile<H> as SectorDevice>⟧ block
+        (IsTextOf B.remaining (Q.opens texts.now text.now)) (IsUnread (Q.opens texts.now text.now) (Q.refuses texts.now text.now))))
+        failure result.0) }
     ensures unstopped { IfErr result.1 (λ e. e ≢ Failure.Stopped) }
 {
     match open_disk(files, path) {
-        Ok(disk) => opened(put_over(rt, disk, block, text)),
+        Ok(disk) => opened(put_over(texts, disk, block, text)),
         Err(fault) => (Left::Nothing, Err(Failure::from(fault))),
     }
 }
@@ -171,8 +175,9 @@ pub fn put_into_image<H: HostFile, O: HostFiles<H>, E>(
 /// Its failures: `CannotOpen` or `InUse` where the image's file can't be opened for reading and writing, then those of
 /// `import_over`.
 /// Rule: MANUAL, forth83 import IMAGE FIRST FILE .. [--raw] [--check].
-pub fn import_image<H: HostFile, O: HostFiles<H>, W: Write, E>(
-    rt: &(impl Files<File = File> + AllocGlobal),
+pub fn import_image<H: HostFile, O: HostFiles<H>, B: Read + Drop, Q: TextFiles<B>, W: Write, E>(
+    alloc: Global,
+    texts: &Q,
     files: &O,
     path: &str,
     first: u16,
@@ -182,14 +187,17 @@ pub fn import_image<H: HostFile, O: HostFiles<H>, W: Write, E>(
 ) -> (Left<SectorFile<H>, E>, Result<(), Failure>)
     ensures imported { OnOk result.1 (DoneOn ⟦<SectorFile<H> as SectorDevice>⟧ Left.Opened
         (IsOpened H.HostFile (O.opens files.now path.now))
-        (ImportsBlocks ⟦<SectorFile<H> as SectorDevice>⟧ form first (length sources.now)) result.0) }
+        (ImportsBlocks ⟦<SectorFile<H> as SectorDevice>⟧ form first
+        (AreTexts (λ path. IsTextOf B.remaining (Q.opens texts.now path)) sources.now)) result.0) }
     ensures failed { IfErr result.1 (λ failure. FailsOn ⟦<SectorFile<H> as SectorDevice>⟧ Left.Opened
         (IsOpened H.HostFile (O.opens files.now path.now)) (FailsAfter ⟦<SectorFile<H> as SectorDevice>⟧
-        (ImportFails ⟦<SectorFile<H> as SectorDevice>⟧ form first (length sources.now))) failure result.0) }
+        (ImportFails ⟦<SectorFile<H> as SectorDevice>⟧ form first
+        (AreTexts (λ path. IsTextOf B.remaining (Q.opens texts.now path)) sources.now)
+        (OneIsUnread (λ path. IsUnread (Q.opens texts.now path) (Q.refuses texts.now path)) sources.now))) failure result.0) }
     ensures unstopped { IfErr result.1 (λ e. e ≢ Failure.Stopped) }
 {
     match open_disk(files, path) {
-        Ok(disk) => opened(import_over(rt, disk, first, sources, form, errors)),
+        Ok(disk) => opened(import_over(alloc, texts, disk, first, sources, form, errors)),
         Err(fault) => (Left::Nothing, Err(Failure::from(fault))),
     }
 }
@@ -198,8 +206,9 @@ pub fn import_image<H: HostFile, O: HostFiles<H>, W: Write, E>(
 /// the image only the size is looked at, and no call of its device is made. Its failures: `CannotOpen` or `InUse`
 /// where the image can't be opened, `BadSize` where it has the size of none, then those of `read_blocks`.
 /// Rule: MANUAL, forth83 import IMAGE FIRST FILE .. [--raw] [--check].
-pub fn check_import<H: HostFile, O: HostFiles<H>, W: Write, E>(
-    rt: &(impl Files<File = File> + AllocGlobal),
+pub fn check_import<H: HostFile, O: HostFiles<H>, B: Read + Drop, Q: TextFiles<B>, W: Write, E>(
+    alloc: Global,
+    texts: &Q,
     files: &O,
     path: &str,
     first: u16,
@@ -209,15 +218,17 @@ pub fn check_import<H: HostFile, O: HostFiles<H>, W: Write, E>(
 ) -> (Left<SectorFile<H>, E>, Result<(), Failure>)
     ensures looked { OnOk result.1 (DoneOn ⟦<SectorFile<H> as SectorDevice>⟧ Left.Opened
         (IsOpened H.HostFile (O.opens files.now path.now))
-        (LooksAt ⟦<SectorFile<H> as SectorDevice>⟧ form first (length sources.now)) result.0) }
+        (LooksAt ⟦<SectorFile<H> as SectorDevice>⟧ form first
+        (AreTexts (λ path. IsTextOf B.remaining (Q.opens texts.now path)) sources.now)) result.0) }
     // Whatever is told of the files, no call of the image's device is made.
     ensures failed { IfErr result.1 (λ failure. FailsOn ⟦<SectorFile<H> as SectorDevice>⟧ Left.Opened
-        (IsOpened H.HostFile (O.opens files.now path.now)) IsUntouched failure result.0) }
+        (IsOpened H.HostFile (O.opens files.now path.now)) (LooksInVain ⟦<SectorFile<H> as SectorDevice>⟧
+        (OneIsUnread (λ path. IsUnread (Q.opens texts.now path) (Q.refuses texts.now path)) sources.now)) failure result.0) }
     ensures unstopped { IfErr result.1 (λ e. e ≢ Failure.Stopped) }
 {
     match open_disk(files, path) {
         Ok(disk) => {
-            let outcome = check_files(rt, &disk, first, sources, form, errors);
+            let outcome = check_files(alloc, texts, &disk, first, sources, form, errors);
             (Left::Opened(disk), outcome)
         }
         Err(fault) => (Left::Nothing, Err(Failure::from(fault))),
@@ -225,21 +236,25 @@ pub fn check_import<H: HostFile, O: HostFiles<H>, W: Write, E>(
 }
 
 /// Tells whatever is told of files that would be imported into the image on a device, which is only asked for its size.
-fn check_files<D: SectorDevice, W: Write>(
-    rt: &(impl Files<File = File> + AllocGlobal),
+fn check_files<D: SectorDevice, B: Read + Drop, Q: TextFiles<B>, W: Write>(
+    alloc: Global,
+    texts: &Q,
     device: &D,
     first: u16,
     sources: &[&str],
     form: Form,
     errors: &mut W,
 ) -> Result<(), Failure>
-    ensures looked { OnOk result (LooksAt D.SectorDevice form first (length sources.now) device.now device.now) }
+    ensures looked { OnOk result (LooksAt D.SectorDevice form first
+        (AreTexts (λ path. IsTextOf B.remaining (Q.opens texts.now path)) sources.now) device.now device.now) }
+    ensures cannot { IfErr result (λ e. e ≡ Failure.CannotRead
+        → OneIsUnread (λ path. IsUnread (Q.opens texts.now path) (Q.refuses texts.now path)) sources.now) }
     ensures unstopped { IfErr result (λ e. e ≢ Failure.Stopped) }
 {
     let Some(blocks) = blocks_of_size(device.sectors()) else {
         return Err(Failure::BadSize);
     };
-    let _bytes = match read_blocks(rt, blocks, first, sources, form, true, errors) {
+    let _bytes = match read_blocks(alloc, texts, blocks, first, sources, form, true, errors) {
         Ok(bytes) => bytes,
         Err(failure) => return Err(failure),
     };
@@ -316,17 +331,20 @@ fn upgrade_older<D: SectorDevice>(old: &mut D, new: &mut D) -> Result<(), Failur
     }
 }
 
-/// Makes the lines of a text file a block, in one save. The file isn't opened where there is no such block.
-pub(super) fn put_file<D: SectorDevice>(
-    rt: &(impl Files<File = File> + AllocGlobal),
+/// Makes the lines of a text a block, in one save. The text isn't opened where there is no such block.
+pub(super) fn put_file<D: SectorDevice, B: Read + Drop, Q: TextFiles<B>>(
+    texts: &Q,
     store: &mut Store<D>,
     block: u16,
     path: &str,
 ) -> Result<(), Failure>
     ensures no_block { IsErrOf result Failure.NoBlock ↔ (blocks_of store.old ≤ block) }
     ensures there { OnOk result (block < blocks_of store.old) }
-    ensures some { OnOk result (PutsSome store.old store.new block) }
-    ensures kept { block + 1 ≤ blocks_of store.old → LeavesSome store.old store.new block }
+    ensures some { OnOk result (PutsSome (IsTextOf B.remaining (Q.opens texts.now path.now)) store.old store.new block) }
+    ensures kept { block + 1 ≤ blocks_of store.old
+        → LeavesSome (IsTextOf B.remaining (Q.opens texts.now path.now)) store.old store.new block }
+    ensures cannot { IfErr result (λ e. e ≡ Failure.CannotRead
+        → IsUnread (Q.opens texts.now path.now) (Q.refuses texts.now path.now)) }
     ensures begins { DeviceBegins store.old store.new (2 * pending_count store.old + 7) 4 }
     ensures reads { DeviceReads store.old store.new (4 * pending_count store.old + 4) }
     ensures unread { IfErr result (λ e. e ≢ Failure.Device → store.new ≡ store.old) }
@@ -338,7 +356,8 @@ pub(super) fn put_file<D: SectorDevice>(
     if block >= store.blocks() {
         return Err(Failure::NoBlock);
     }
-    let file = File::open(rt, path).map_err(|_| Failure::CannotRead)?;
-    let mut reader = BufReader::new(rt.alloc(), file).map_err(|_| Failure::NoMemory)?;
-    put_text(store, block, &mut reader)
+    match open_text(texts, path) {
+        Ok(mut reader) => put_text(store, block, &mut reader),
+        Err(failure) => Err(failure),
+    }
 }

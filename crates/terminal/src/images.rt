@@ -1,6 +1,6 @@
 //! The commands over an image on any device.
 //! Rule: MANUAL, Commands.
-ghost use Rattle.std.specs.Prelude.{◌≡◌, ◌≢◌, ◌⊎◌, ◌<◌, ◌≤◌, ◌+◌, ◌*◌, ◌↔◌, ℕ, List, length, true, false, Some, None, IsTrue, OnOk, IfOk, IfErr, IsErrOf, MatchBool, MatchResult, option_map};
+ghost use Rattle.std.specs.Prelude.{◌≡◌, ◌≢◌, ◌⊎◌, ◌<◌, ◌≤◌, ◌+◌, ◌*◌, ◌↔◌, ℕ, List, length, true, false, Some, None, IsTrue, OnOk, IfOk, IfErr, IfSome, IsErrOf, MatchBool, MatchResult, option_map};
 ghost use Rattle.std.specs.Io.KnownBytes.{Appends, Consumes, IsAtEnd};
 ghost use Rattle.arrayvec.specs.ArrayVec.{array_vec_len};
 ghost use Rattle.sector_disk.specs.Disk.{Image, MayLeave};
@@ -175,9 +175,9 @@ pub fn put_text<D: SectorDevice, R: Read>(
     ensures stops { (m : Maps) (input : List ℕ) → StandsFor store.old m → m.closed ≡ false → R.remaining text.old ≡ Some input
         → StopsLeave D.SectorDevice (device_of store.old) (device_of store.new) (λ image. MeansBy store.old m.saved image
         ⊎ ((bytes : List ℕ) × (screen_of input ≡ Some bytes) × MeansBy store.old (latest (spilled m block bytes)) image)) }
-    // Whatever the text is, it is one save of one block.
-    ensures some { OnOk result (PutsSome store.old store.new block) }
-    ensures kept { LeavesSome store.old store.new block }
+    // Whatever the text is, it is one save of one block. It is all that the reader had left, where that is known.
+    ensures some { OnOk result (PutsSome (λ bytes. IfSome (R.remaining text.old) (λ left. bytes ≡ left)) store.old store.new block) }
+    ensures kept { LeavesSome (λ bytes. IfSome (R.remaining text.old) (λ left. bytes ≡ left)) store.old store.new block }
     ensures continues { Continues store.old store.new }
     ensures begins { DeviceBegins store.old store.new (2 * pending_count store.old + 7) 4 }
     ensures reads { DeviceReads store.old store.new (4 * pending_count store.old + 4) }

@@ -1,12 +1,13 @@
 //! Many blocks at once, saved.
 //! Rule: MANUAL, forth83 import IMAGE FIRST FILE .. [--raw] [--check].
-ghost use Rattle.std.specs.Prelude.{◌≡◌, ◌≢◌, ◌⊎◌, ◌<◌, ◌≤◌, ◌+◌, ◌-◌, ◌*◌, ◌++◌, ℕ, List, Some, None, length, take, drop, replicate, true, false, OnOk, IfErr, IfOk, MatchResult, vec_len};
+ghost use Rattle.std.specs.Prelude.{◌≡◌, ◌≢◌, ◌⊎◌, ◌<◌, ◌≤◌, ◌+◌, ◌-◌, ◌*◌, ◌++◌, ℕ, List, Some, None, length, take, drop, replicate, true, false, OnOk, IfErr, IfOk, IfSome, MatchResult, vec_len};
 ghost use Rattle.std.specs.Io.KnownBytes.{Consumes, IsAtEnd};
 ghost use Rattle.journal.specs.Calls.{StopsLeave};
 ghost use Rattle.journal.specs.Maps.{Maps, latest};
 ghost use Rattle.journal.specs.Store.{Continues, DeviceBegins, DeviceFailed, DeviceReads, DeviceWentWell, KeepsSaved, MeansBy, StandsFor, blocks_of, closed_of, device_of, pending_count};
 ghost use Rattle.terminal.specs.Findings.{AreSound, blocks_for, in_blocks, refusal, said, said_all, told};
 ghost use Rattle.terminal.specs.Imported.{Imports, ImportsSome, LeavesImported, Spills, SpillsNext};
+ghost use Rattle.terminal.specs.Texts.{AreTexts, IsTextOf, IsUnread, OneIsUnread};
 ghost use Rattle.terminal.specs.Transfer.{as_blocks, block_of, spilled_from};
 
 use super::failure::Failure;
@@ -14,13 +15,13 @@ use super::findings::{
     Finding, Screens, add_blanks as add_more_blanks, blocks_for, read_screens, refusal,
 };
 use super::screen::{BLOCK, add_blanks};
+use super::texts::{TextFiles, open_text};
 use arrayvec::ArrayVec;
 use command_line::orders::Form;
 use sector_disk::SectorDevice;
 use sessions::streams::read_byte;
 use std::alloc::{AllocError, Global};
-use std::fs::{File, Files};
-use std::io::{BufReader, Read, Write};
+use std::io::{Read, Write};
 use stores::Store;
 
 /// The bytes of the longest text for an image: 61,440 lines of 64 bytes, a carriage return and a line feed.
@@ -29,16 +30,21 @@ pub(super) const MOST_BYTES: usize = 4_055_040;
 /// Makes the blocks that files say those of a store from `first` on, in one save. Each file begins a block. What
 /// keeps one from that is told in lines of `errors`, and then nothing is written. Its failures: those of
 /// `read_blocks`, and `Device` where a call of the device failed, or the store is closed.
-pub fn import_files<D: SectorDevice, E: Write>(
-    rt: &(impl Files<File = File> + AllocGlobal),
+pub fn import_files<D: SectorDevice, B: Read + Drop, Q: TextFiles<B>, E: Write>(
+    alloc: Global,
+    texts: &Q,
     store: &mut Store<D>,
     first: u16,
     paths: &[&str],
     form: Form,
     errors: &mut E,
 ) -> Result<(), Failure>
-    ensures imported { OnOk result (ImportsSome form first (length paths.now) store.old store.new) }
-    ensures kept { LeavesImported form first (length paths.now) store.old store.new }
+    ensures imported { OnOk result (ImportsSome form first
+        (AreTexts (λ path. IsTextOf B.remaining (Q.opens texts.now path)) paths.now) store.old store.new) }
+    ensures kept { LeavesImported form first
+        (AreTexts (λ path. IsTextOf B.remaining (Q.opens texts.now path)) paths.now) store.old store.new }
+    ensures cannot { IfErr result (λ e. e ≡ Failure.CannotRead
+        → OneIsUnread (λ path. IsUnread (Q.opens texts.now path) (Q.refuses texts.now path)) paths.now) }
     ensures unread { IfErr result (λ e. e ≢ Failure.Device → store.new ≡ store.old) }
     ensures device { IfErr result (λ e. e ≡ Failure.Device
         → (closed_of store.old ≡ true) ⊎ DeviceFailed store.old store.new) }
@@ -48,7 +54,16 @@ pub fn import_files<D: SectorDevice, E: Write>(
     ensures continues { Continues store.old store.new }
     ensures unstopped { IfErr result (λ e. e ≢ Failure.Stopped) }
 {
-    match read_blocks(rt, store.blocks(), first, paths, form, false, errors) {
+    match read_blocks(
+        alloc,
+        texts,
+        store.blocks(),
+        first,
+        paths,
+        form,
+        false,
+        errors,
+    ) {
         Ok(bytes) => import_bytes(store, first, bytes.as_slice()),
         Err(failure) => Err(failure),
     }
@@ -58,8 +73,9 @@ pub fn import_files<D: SectorDevice, E: Write>(
 /// from `first` on, of `blocks` in all. The refusals of the first file that is refused are told in lines of `errors`,
 /// and with `all` whatever else is told of each. Its failures: `NoBlock` where `first` isn't there, `CannotRead`
 /// where a file can't be read, `NoMemory`, then that of the first refusal: `NotAScreen` or `NoBlock`.
-pub fn read_blocks<E: Write>(
-    rt: &(impl Files<File = File> + AllocGlobal),
+pub fn read_blocks<B: Read + Drop, Q: TextFiles<B>, E: Write>(
+    alloc: Global,
+    texts: &Q,
     blocks: u16,
     first: u16,
     paths: &[&str],
@@ -67,8 +83,10 @@ pub fn read_blocks<E: Write>(
     all: bool,
     errors: &mut E,
 ) -> Result<Vec<u8>, Failure>
-    ensures said { IfOk result (λ bytes. (files : List (List ℕ)) × (length files ≡ length paths.now)
-        × AreSound form (blocks - first) files × (bytes.items ≡ said_all form files)) }
+    ensures said { IfOk result (λ bytes. (files : List (List ℕ)) × AreTexts (λ path. IsTextOf B.remaining (Q.opens texts.now path)) paths.now
+        files × AreSound form (blocks - first) files × (bytes.items ≡ said_all form files)) }
+    ensures cannot { IfErr result (λ e. e ≡ Failure.CannotRead
+        → OneIsUnread (λ path. IsUnread (Q.opens texts.now path) (Q.refuses texts.now path)) paths.now) }
     ensures below { OnOk result (first < blocks) }
     ensures there { IfOk result (λ bytes. first + blocks_for (length bytes.items) ≤ blocks) }
     ensures only { IfErr result (λ e. e ≢ Failure.Device) }
@@ -77,16 +95,26 @@ pub fn read_blocks<E: Write>(
     if first >= blocks {
         return Err(Failure::NoBlock);
     }
-    let mut bytes = Vec::new(rt.alloc());
-    match add_files(rt, &mut bytes, blocks - first, paths, form, all, errors) {
+    let mut bytes = Vec::new(alloc);
+    match add_files(
+        alloc,
+        texts,
+        &mut bytes,
+        blocks - first,
+        paths,
+        form,
+        all,
+        errors,
+    ) {
         Ok(()) => Ok(bytes),
         Err(reason) => Err(reason),
     }
 }
 
 /// Adds the bytes of the blocks that files say, for which so many blocks are there.
-fn add_files<E: Write>(
-    rt: &(impl Files<File = File> + AllocGlobal),
+fn add_files<B: Read + Drop, Q: TextFiles<B>, E: Write>(
+    alloc: Global,
+    texts: &Q,
     bytes: &mut Vec<u8>,
     room: u16,
     paths: &[&str],
@@ -94,23 +122,26 @@ fn add_files<E: Write>(
     all: bool,
     errors: &mut E,
 ) -> Result<(), Failure>
-    ensures added { OnOk result ((files : List (List ℕ)) × (length files ≡ length paths.now)
+    ensures added { OnOk result ((files : List (List ℕ)) × AreTexts (λ path. IsTextOf B.remaining (Q.opens texts.now path)) paths.now files
         × AreSound form room files × (bytes.new.items ≡ bytes.old.items ++ said_all form files)) }
+    ensures cannot { IfErr result (λ e. e ≡ Failure.CannotRead
+        → OneIsUnread (λ path. IsUnread (Q.opens texts.now path) (Q.refuses texts.now path)) paths.now) }
     ensures only { IfErr result (λ e. e ≢ Failure.Device) }
     ensures unstopped { IfErr result (λ e. e ≢ Failure.Stopped) }
 {
     let mut left = room;
     let mut rest = paths;
     while let [path, others @ ..] = rest {
-        left = add_file(rt, bytes, left, *path, form, all, errors)?;
+        left = add_file(alloc, texts, bytes, left, *path, form, all, errors)?;
         rest = others;
     }
     Ok(())
 }
 
 /// Adds the bytes of the blocks that a file says, for which so many blocks are there, and answers how many are left.
-fn add_file<E: Write>(
-    rt: &(impl Files<File = File> + AllocGlobal),
+fn add_file<B: Read + Drop, Q: TextFiles<B>, E: Write>(
+    alloc: Global,
+    texts: &Q,
     bytes: &mut Vec<u8>,
     room: u16,
     path: &str,
@@ -118,12 +149,14 @@ fn add_file<E: Write>(
     all: bool,
     errors: &mut E,
 ) -> Result<u16, Failure>
-    ensures added { IfOk result (λ left. (file : List ℕ) × (refusal (told form room file) ≡ None)
-        × (left ≡ room - blocks_for (length (said form file))) × (bytes.new.items ≡ bytes.old.items ++ in_blocks (said form file))) }
+    ensures added { IfOk result (λ left. (file : List ℕ) × IsTextOf B.remaining (Q.opens texts.now path.now) file
+        × (refusal (told form room file) ≡ None) × (left ≡ room - blocks_for (length (said form file))) × (bytes.new.items ≡ bytes.old.items ++ in_blocks (said form file))) }
+    ensures cannot { IfErr result (λ e. e ≡ Failure.CannotRead
+        → IsUnread (Q.opens texts.now path.now) (Q.refuses texts.now path.now)) }
     ensures only { IfErr result (λ e. e ≢ Failure.Device) }
     ensures unstopped { IfErr result (λ e. e ≢ Failure.Stopped) }
 {
-    let said = read_file(rt, room, path, form, all, errors)?;
+    let said = read_file(alloc, texts, room, path, form, all, errors)?;
     match add_in_blocks(bytes, said.as_slice()) {
         Ok(()) => Ok(room - blocks_for(said.as_slice()) as u16),
         Err(AllocError) => Err(Failure::NoMemory),
@@ -138,49 +171,81 @@ fn add_in_blocks(bytes: &mut Vec<u8>, said: &[u8]) -> Result<(), AllocError>
     add_more_blanks(bytes, (BLOCK - said.len() % BLOCK) % BLOCK)
 }
 
-/// The bytes that a file says, where nothing of it is refused. Else its refusals are told, and with `all` whatever is
-/// told of it.
-fn read_file<E: Write>(
-    rt: &(impl Files<File = File> + AllocGlobal),
+/// The bytes that the text of a name says, where nothing of it is refused. Else its refusals are told, and with `all`
+/// whatever is told of it.
+fn read_file<B: Read + Drop, Q: TextFiles<B>, E: Write>(
+    alloc: Global,
+    texts: &Q,
     room: u16,
     path: &str,
     form: Form,
     all: bool,
     errors: &mut E,
 ) -> Result<Vec<u8>, Failure>
-    ensures said { IfOk result (λ bytes. (file : List ℕ) × (refusal (told form room file) ≡ None)
-        × (bytes.items ≡ said form file)) }
+    ensures said { IfOk result (λ bytes. (file : List ℕ) × IsTextOf B.remaining (Q.opens texts.now path.now) file
+        × (refusal (told form room file) ≡ None) × (bytes.items ≡ said form file)) }
+    ensures cannot { IfErr result (λ e. e ≡ Failure.CannotRead
+        → IsUnread (Q.opens texts.now path.now) (Q.refuses texts.now path.now)) }
     ensures there { IfOk result (λ bytes. blocks_for (length bytes.items) ≤ room) }
     ensures only { IfErr result (λ e. e ≢ Failure.Device) }
     ensures unstopped { IfErr result (λ e. e ≢ Failure.Stopped) }
 {
-    let file = File::open(rt, path).map_err(|_| Failure::CannotRead)?;
-    let mut reader = BufReader::new(rt.alloc(), file).map_err(|_| Failure::NoMemory)?;
-    let screens = read_from(rt.alloc(), form, room, &mut reader)?;
+    match open_text(texts, path) {
+        Ok(mut reader) => read_said(alloc, room, path, form, all, &mut reader, errors),
+        Err(unread) => Err(unread),
+    }
+}
+
+/// The bytes that the text says which a reader has left: the same.
+fn read_said<R: Read, E: Write>(
+    alloc: Global,
+    room: u16,
+    path: &str,
+    form: Form,
+    all: bool,
+    reader: &mut R,
+    errors: &mut E,
+) -> Result<Vec<u8>, Failure>
+    ensures said { IfOk result (λ bytes. (file : List ℕ) × IfSome (R.remaining reader.old) (λ left. file ≡ left)
+        × (refusal (told form room file) ≡ None) × (bytes.items ≡ said form file)) }
+    ensures there { IfOk result (λ bytes. blocks_for (length bytes.items) ≤ room) }
+    ensures only { IfErr result (λ e. e ≢ Failure.Device) }
+    ensures unstopped { IfErr result (λ e. e ≢ Failure.Stopped) }
+{
+    let file = read_all(alloc, reader)?;
+    let bytes = take_said(alloc, room, path, form, all, file.as_slice(), errors)?;
+    // Something of a longer text was refused, since no image has blocks for it.
+    if file.len() > MOST_BYTES {
+        return Err(Failure::NoBlock);
+    }
+    Ok(bytes)
+}
+
+/// The bytes that a file says, where nothing of it is refused. Else its refusals are told, and with `all` whatever is
+/// told of it.
+fn take_said<E: Write>(
+    alloc: Global,
+    room: u16,
+    path: &str,
+    form: Form,
+    all: bool,
+    file: &[u8],
+    errors: &mut E,
+) -> Result<Vec<u8>, Failure>
+    ensures sound { OnOk result (refusal (told form room file.now) ≡ None) }
+    ensures said { IfOk result (λ bytes. bytes.items ≡ said form file.now) }
+    ensures there { IfOk result (λ bytes. blocks_for (length bytes.items) ≤ room) }
+    ensures only { IfErr result (λ e. e ≢ Failure.Device) }
+    ensures readable { IfErr result (λ e. e ≢ Failure.CannotRead) }
+    ensures unstopped { IfErr result (λ e. e ≢ Failure.Stopped) }
+{
+    let Ok(screens) = read_screens(alloc, form, room, file) else {
+        return Err(Failure::NoMemory);
+    };
     tell(path, screens.found.as_slice(), all, errors);
     refusal(screens.found.as_slice())?;
     let Screens { bytes, .. } = screens;
     Ok(bytes)
-}
-
-/// Reads what a file says, for which so many blocks are there.
-fn read_from<R: Read>(
-    alloc: Global,
-    form: Form,
-    room: u16,
-    reader: &mut R,
-) -> Result<Screens, Failure>
-    ensures said { IfOk result (λ screens. (file : List ℕ)
-        × Consumes (R.remaining reader.old) (R.remaining reader.new) file
-        × (length file ≤ 4055040 → IsAtEnd (R.remaining reader.new))
-        × (screens.bytes.items ≡ said form file) × (screens.found.items ≡ told form room file)) }
-    ensures only { IfErr result (λ e. (e ≡ Failure.CannotRead) ⊎ (e ≡ Failure.NoMemory)) }
-{
-    let file = read_all(alloc, reader)?;
-    match read_screens(alloc, form, room, file.as_slice()) {
-        Ok(screens) => Ok(screens),
-        Err(_) => Err(Failure::NoMemory),
-    }
 }
 
 /// Reads to the end, or one byte more than the longest text for an image. Bytes are read one by one.

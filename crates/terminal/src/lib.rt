@@ -7,6 +7,7 @@ pub use input::{Input, Led};
 pub use left::Left;
 pub use program::{command, command_over};
 pub use starting::start;
+pub use texts::{MemoryTexts, StdTexts, TextFault, TextFiles};
 
 mod all_blocks;
 mod attending;
@@ -35,3 +36,4 @@ mod screen;
 mod scripts;
 mod showing;
 mod starting;
+mod texts;

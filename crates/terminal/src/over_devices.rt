@@ -1,10 +1,11 @@
 //! The commands over the image on any device: each opens it, which is a recovery, and gives the device back as it is
 //! then.
 //! Rule: MANUAL, Commands; IMAGE, A recovery.
-ghost use Rattle.std.specs.Prelude.{◌≡◌, ◌≢◌, ◌<◌, length, OnOk, IfErr, IfOk};
+ghost use Rattle.std.specs.Prelude.{◌≡◌, ◌≢◌, ◌<◌, OnOk, IfErr, IfOk};
 ghost use Rattle.terminal.specs.Done.{Exports, ImportsBlocks, ListsBlock, PutsBlock};
 ghost use Rattle.terminal.specs.Failed.{ExportFails, FailsAfter, ImportFails, ListFails, NotBegun, PutFails};
 ghost use Rattle.terminal.specs.Scripts.{EndsSession};
+ghost use Rattle.terminal.specs.Texts.{AreTexts, IsTextOf, IsUnread, OneIsUnread};
 
 use super::ending::Ended;
 use super::exporting::export_blocks;
@@ -13,12 +14,12 @@ use super::files::put_file;
 use super::images::{list_block, open_over};
 use super::importing::import_files;
 use super::scripts::run_until_end;
+use super::texts::TextFiles;
 use command_line::orders::Form;
 use interpreter::promise::Lines;
 use sector_disk::SectorDevice;
 use sessions::Tracer;
 use std::alloc::Global;
-use std::fs::{File, Files};
 use std::io::{Read, Write};
 
 /// Runs the input over the image on a device, with at most `steps` steps a line, 1 or more, and tells how that ended. A
@@ -111,19 +112,21 @@ pub fn export_over<D: SectorDevice, W: Write>(
 /// has more than 16 lines or one of more than 64 bytes, and `Device` where the save failed: any other one wrote
 /// nothing.
 /// Rule: MANUAL, forth83 put IMAGE BLOCK FILE.
-pub fn put_over<D: SectorDevice>(
-    rt: &(impl Files<File = File> + AllocGlobal),
+pub fn put_over<D: SectorDevice, B: Read + Drop, Q: TextFiles<B>>(
+    texts: &Q,
     device: D,
     block: u16,
     text: &str,
 ) -> (D, Result<(), Failure>)
-    ensures put { OnOk result.1 (PutsBlock D.SectorDevice block device result.0) }
-    ensures failed { IfErr result.1 (λ failure. FailsAfter D.SectorDevice (PutFails D.SectorDevice block) failure device result.0) }
+    ensures put { OnOk result.1 (PutsBlock D.SectorDevice block (IsTextOf B.remaining (Q.opens texts.now text.now)) device result.0) }
+    ensures failed { IfErr result.1 (λ failure. FailsAfter D.SectorDevice (PutFails D.SectorDevice block
+        (IsTextOf B.remaining (Q.opens texts.now text.now)) (IsUnread (Q.opens texts.now text.now) (Q.refuses texts.now text.now)))
+        failure device result.0) }
     ensures unstopped { IfErr result.1 (λ e. e ≢ Failure.Stopped) }
 {
     match open_over(device) {
         Ok(mut store) => {
-            let outcome = put_file(rt, &mut store, block, text);
+            let outcome = put_file(texts, &mut store, block, text);
             (store.into_device(), outcome)
         }
         Err((failure, device)) => (device, Err(failure)),
@@ -134,22 +137,25 @@ pub fn put_over<D: SectorDevice>(
 /// block. What keeps one from that is told in lines of `errors`, and then nothing is written, but by its recovery. Its
 /// failures: those of `open_over`, then those of `import_files`.
 /// Rule: MANUAL, forth83 import IMAGE FIRST FILE .. [--raw] [--check].
-pub fn import_over<D: SectorDevice, E: Write>(
-    rt: &(impl Files<File = File> + AllocGlobal),
+pub fn import_over<D: SectorDevice, B: Read + Drop, Q: TextFiles<B>, E: Write>(
+    alloc: Global,
+    texts: &Q,
     device: D,
     first: u16,
     sources: &[&str],
     form: Form,
     errors: &mut E,
 ) -> (D, Result<(), Failure>)
-    ensures imported { OnOk result.1 (ImportsBlocks D.SectorDevice form first (length sources.now) device result.0) }
-    ensures failed { IfErr result.1 (λ failure.
-        FailsAfter D.SectorDevice (ImportFails D.SectorDevice form first (length sources.now)) failure device result.0) }
+    ensures imported { OnOk result.1 (ImportsBlocks D.SectorDevice form first
+        (AreTexts (λ path. IsTextOf B.remaining (Q.opens texts.now path)) sources.now) device result.0) }
+    ensures failed { IfErr result.1 (λ failure. FailsAfter D.SectorDevice (ImportFails D.SectorDevice form first
+        (AreTexts (λ path. IsTextOf B.remaining (Q.opens texts.now path)) sources.now)
+        (OneIsUnread (λ path. IsUnread (Q.opens texts.now path) (Q.refuses texts.now path)) sources.now)) failure device result.0) }
     ensures unstopped { IfErr result.1 (λ e. e ≢ Failure.Stopped) }
 {
     match open_over(device) {
         Ok(mut store) => {
-            let outcome = import_files(rt, &mut store, first, sources, form, errors);
+            let outcome = import_files(alloc, texts, &mut store, first, sources, form, errors);
             (store.into_device(), outcome)
         }
         Err((failure, device)) => (device, Err(failure)),

@@ -17,6 +17,7 @@ ghost use Rattle.terminal.specs.Failures.{status_of};
 ghost use Rattle.terminal.specs.Files.{IsMade, IsOpened, IsUnfinished};
 ghost use Rattle.terminal.specs.Layout3.{NewDone, UpgradeDone};
 ghost use Rattle.terminal.specs.Scripts.{RunsScript, StopsScript, is_plain};
+ghost use Rattle.terminal.specs.Texts.{IsTextOf, IsUnread};
 ghost use Rattle.terminal.specs.InMemory.{AsksForHelp, AsksForNothing, BreaksInMemory, CompletesInMemory, EndsHelp, IsForMemory, IsHelp};
 ghost use Rattle.sessions.specs.Sessions.{BreaksOff};
 
@@ -36,6 +37,7 @@ use super::left::Left;
 use super::salvaging::salvage_image;
 use super::scripts::run_image;
 use super::showing::list_image;
+use super::texts::{StdTexts, TextFiles};
 use clap::Error;
 use clap::error::ErrorKind;
 use command_line::order;
@@ -79,21 +81,24 @@ pub fn command<F: Lines<FileDisk>, M: Lines<MemoryDisk>, S: AsStr, R: Input, W: 
     let files = StdFiles::new(rt);
     let looking = ReadingFiles::with_copies(rt);
     let alone = ReadingFiles::new(rt);
-    let (_, status) = command_over::<_, _, _, _, F, M, S, R, W, E>(
-        rt, &files, &looking, &alone, words, input, output, errors,
+    let texts = StdTexts::new(rt);
+    let (_, status) = command_over::<_, _, _, _, _, _, F, M, S, R, W, E>(
+        rt, &files, &looking, &alone, &texts, words, input, output, errors,
     );
     status
 }
 
 /// Does what the words ask for, and answers the exit status, as `command`, over the images of any system of files, and
 /// of two for those that are read alone: `looking` may give what another program has open for writing, and `alone` is
-/// for a salvage, which is to have no such image. The text for `put` is a file of this one. The files of images that
-/// were opened or made are given back as they are then.
+/// for a salvage, which is to have no such image. What `put`, `import` and `run` read of named files are texts of
+/// `texts`: no other file is reached. The files of images that were opened or made are given back as they are then.
 pub fn command_over<
     H: HostFile,
     O: HostFiles<H>,
     K: HostFile,
     P: HostFiles<K>,
+    B: Read + Drop,
+    Q: TextFiles<B>,
     F: Lines<SectorFile<H>>,
     M: Lines<MemoryDisk>,
     S: AsStr,
@@ -101,10 +106,11 @@ pub fn command_over<
     W: Write,
     E: Write,
 >(
-    rt: &(impl Files<File = File> + AllocGlobal),
+    rt: &impl AllocGlobal,
     files: &O,
     looking: &P,
     alone: &P,
+    texts: &Q,
     words: &[S],
     input: &mut R,
     output: &mut W,
@@ -115,16 +121,18 @@ pub fn command_over<
     ensures broken { AsksForNothing (map S.text words.now) → result.1 ≡ 4 → BreaksInMemory ⟦<MemoryDisk as SectorDevice>⟧
         (R.remaining input.old) (R.remaining input.new) (W.contents output.old) (W.contents output.new) }
     // Of words that are refused nothing, status 0 comes only where what they order was done: what is given back are the files
-    // that the system opened, or made, under those names, and what was done is told of them as they are.
+    // that the system opened, or made, under those names, and what was done is told of them as they are. What was read of a
+    // named file is its text.
     ensures done { fault_of forth83 (map S.text words.now) ≡ [] → result.1 ≡ 0
         → OrderIsDone ⟦<SectorFile<H> as SectorDevice>⟧ ⟦<SectorFile<K> as SectorDevice>⟧ (map S.text words.now)
         (λ path. IsOpened H.HostFile (O.opens files.now path)) (λ path. IsMade H.HostFile (O.makes files.now path))
         (λ path. IsOpened K.HostFile (P.opens looking.now path)) (λ path. IsOpened K.HostFile (P.opens alone.now path))
+        (λ path. IsTextOf B.remaining (Q.opens texts.now path))
         (R.remaining input.old) (R.remaining input.new) (W.contents output.old) (W.contents output.new) result.0 }
     // Status 1 comes of `run` alone, and only where its script is strict: behind the first line that a fault ended.
     ensures stopped { fault_of forth83 (map S.text words.now) ≡ [] → result.1 ≡ 1
         → OrderIsStopped ⟦<SectorFile<H> as SectorDevice>⟧ (map S.text words.now)
-        (λ path. IsOpened H.HostFile (O.opens files.now path))
+        (λ path. IsOpened H.HostFile (O.opens files.now path)) (λ path. IsTextOf B.remaining (Q.opens texts.now path))
         (R.remaining input.old) (R.remaining input.new) (W.contents output.old) (W.contents output.new) result.0 }
     // At any other status what is told of the files is what the order leaves where it failed so, or there was no memory for it.
     ensures failed { fault_of forth83 (map S.text words.now) ≡ [] → result.1 ≢ 0 → NotOrdered
@@ -133,6 +141,7 @@ pub fn command_over<
         (λ path. IsOpened H.HostFile (O.opens files.now path)) (λ path. IsMade H.HostFile (O.makes files.now path))
         (λ path. IsUnfinished H.HostFile (O.makes files.now path))
         (λ path. IsOpened K.HostFile (P.opens looking.now path)) (λ path. IsOpened K.HostFile (P.opens alone.now path))
+        (λ path. IsTextOf B.remaining (Q.opens texts.now path)) (λ path. IsUnread (Q.opens texts.now path) (Q.refuses texts.now path))
         (R.remaining input.old) (R.remaining input.new) (W.contents output.old) (W.contents output.new) result.1 result.0 }
     // Words that are refused open and make nothing.
     ensures unasked { fault_of forth83 (map S.text words.now) ≢ [] → result.0 ≡ Left.Nothing }
@@ -146,8 +155,8 @@ pub fn command_over<
 {
     match order(rt.alloc(), words) {
         Ok(asked) => {
-            let (left, outcome) = perform::<H, O, K, P, F, M, R, W, E>(
-                rt, files, looking, alone, asked, input, output, errors,
+            let (left, outcome) = perform::<H, O, K, P, B, Q, F, M, R, W, E>(
+                rt, files, looking, alone, texts, asked, input, output, errors,
             );
             (left, told(outcome, errors))
         }
@@ -162,16 +171,19 @@ fn perform<
     O: HostFiles<H>,
     K: HostFile,
     P: HostFiles<K>,
+    B: Read + Drop,
+    Q: TextFiles<B>,
     F: Lines<SectorFile<H>>,
     M: Lines<MemoryDisk>,
     R: Input,
     W: Write,
     E: Write,
 >(
-    rt: &(impl Files<File = File> + AllocGlobal),
+    rt: &impl AllocGlobal,
     files: &O,
     looking: &P,
     alone: &P,
+    texts: &Q,
     asked: Order<'_>,
     input: &mut R,
     output: &mut W,
@@ -185,15 +197,17 @@ fn perform<
         (R.remaining input.old) (R.remaining input.new) (W.contents output.old) (W.contents output.new)) }
     ensures done { OnOk result.1 (IsDone ⟦<SectorFile<H> as SectorDevice>⟧ ⟦<SectorFile<K> as SectorDevice>⟧
         (λ path. IsOpened H.HostFile (O.opens files.now path)) (λ path. IsMade H.HostFile (O.makes files.now path))
-        (λ path. IsOpened K.HostFile (P.opens looking.now path)) (λ path. IsOpened K.HostFile (P.opens alone.now path)) asked.entry
+        (λ path. IsOpened K.HostFile (P.opens looking.now path)) (λ path. IsOpened K.HostFile (P.opens alone.now path))
+        (λ path. IsTextOf B.remaining (Q.opens texts.now path)) asked.entry
         (R.remaining input.old) (R.remaining input.new) (W.contents output.old) (W.contents output.new) result.0) }
     ensures stopped { IsErrOf result.1 Failure.Stopped → IsStopped ⟦<SectorFile<H> as SectorDevice>⟧
-        (λ path. IsOpened H.HostFile (O.opens files.now path)) asked.entry
+        (λ path. IsOpened H.HostFile (O.opens files.now path)) (λ path. IsTextOf B.remaining (Q.opens texts.now path)) asked.entry
         (R.remaining input.old) (R.remaining input.new) (W.contents output.old) (W.contents output.new) result.0 }
     ensures failed { IfErr result.1 (λ failure. IsFailed ⟦<SectorFile<H> as SectorDevice>⟧ ⟦<SectorFile<K> as SectorDevice>⟧
         (λ path. IsOpened H.HostFile (O.opens files.now path)) (λ path. IsMade H.HostFile (O.makes files.now path))
         (λ path. IsUnfinished H.HostFile (O.makes files.now path))
-        (λ path. IsOpened K.HostFile (P.opens looking.now path)) (λ path. IsOpened K.HostFile (P.opens alone.now path)) asked.entry
+        (λ path. IsOpened K.HostFile (P.opens looking.now path)) (λ path. IsOpened K.HostFile (P.opens alone.now path))
+        (λ path. IsTextOf B.remaining (Q.opens texts.now path)) (λ path. IsUnread (Q.opens texts.now path) (Q.refuses texts.now path)) asked.entry
         (R.remaining input.old) (R.remaining input.new) (W.contents output.old) (W.contents output.new) failure result.0) }
     ensures streams { KeepsStreams asked.entry
         (R.remaining input.old) (R.remaining input.new) (W.contents output.old) (W.contents output.new) }
@@ -204,19 +218,37 @@ fn perform<
             run_in_memory::<M, R, W, Untraced>(rt, input, output, &mut Untraced),
         ),
         Order::New(path, blocks, layout) => make_by(files, path, blocks, layout),
-        Order::Run(path, steps, script) => run_by::<H, O, F, R, W, E, SectorFile<K>>(
-            rt, files, path, steps, &script, input, output, errors,
+        Order::Run(path, steps, script) => run_by::<H, O, B, Q, F, R, W, E, SectorFile<K>>(
+            rt, texts, files, path, steps, &script, input, output, errors,
         ),
         Order::List(path, block) => list_image(files, looking, path, block, output),
-        Order::Put(path, block, text) => put_into_image(rt, files, path, block, text),
+        Order::Put(path, block, text) => put_into_image(texts, files, path, block, text),
         Order::Export(path, first, last, form) => {
             export_image(files, looking, path, first, last, form, output)
         }
         Order::Import(path, first, sources, form) => {
-            import_image(rt, files, path, first, sources.as_slice(), form, errors)
+            import_image(
+                rt.alloc(),
+                texts,
+                files,
+                path,
+                first,
+                sources.as_slice(),
+                form,
+                errors,
+            )
         }
         Order::CheckImport(path, first, sources, form) => {
-            check_import(rt, files, path, first, sources.as_slice(), form, errors)
+            check_import(
+                rt.alloc(),
+                texts,
+                files,
+                path,
+                first,
+                sources.as_slice(),
+                form,
+                errors,
+            )
         }
         Order::Check(path) => check_image(rt.alloc(), looking, path, output),
         Order::Digests(path) => digest_image(rt.alloc(), looking, path, output),
@@ -231,8 +263,19 @@ fn perform<
 
 /// Runs lines over an image. It tells of their faults where that is asked for, and at the end of changed blocks that
 /// were not saved, but nothing of the input alone.
-fn run_by<H: HostFile, O: HostFiles<H>, F: Lines<SectorFile<H>>, R: Input, W: Write, E: Write, K>(
-    rt: &(impl Files<File = File> + AllocGlobal),
+fn run_by<
+    H: HostFile,
+    O: HostFiles<H>,
+    B: Read + Drop,
+    Q: TextFiles<B>,
+    F: Lines<SectorFile<H>>,
+    R: Input,
+    W: Write,
+    E: Write,
+    K,
+>(
+    rt: &impl AllocGlobal,
+    texts: &Q,
     files: &O,
     path: &str,
     steps: u32,
@@ -243,20 +286,24 @@ fn run_by<H: HostFile, O: HostFiles<H>, F: Lines<SectorFile<H>>, R: Input, W: Wr
 ) -> (Left<SectorFile<H>, K>, Result<(), Failure>)
     requires { 0 < steps }
     ensures done { OnOk result.1 (DoneOn ⟦<SectorFile<H> as SectorDevice>⟧ Left.Opened (IsOpened H.HostFile (O.opens files.now path.now))
-        (RunsScript ⟦<SectorFile<H> as SectorDevice>⟧ steps script.now (R.remaining input.old) (R.remaining input.new)
+        (RunsScript ⟦<SectorFile<H> as SectorDevice>⟧ (λ path. IsTextOf B.remaining (Q.opens texts.now path)) steps script.now
+        (R.remaining input.old) (R.remaining input.new)
         (W.contents output.old) (W.contents output.new)) result.0) }
     ensures stopped { IsErrOf result.1 Failure.Stopped → DoneOn ⟦<SectorFile<H> as SectorDevice>⟧ Left.Opened
         (IsOpened H.HostFile (O.opens files.now path.now))
-        (StopsScript ⟦<SectorFile<H> as SectorDevice>⟧ steps script.now (R.remaining input.old) (R.remaining input.new)
+        (StopsScript ⟦<SectorFile<H> as SectorDevice>⟧ (λ path. IsTextOf B.remaining (Q.opens texts.now path)) steps script.now
+        (R.remaining input.old) (R.remaining input.new)
         (W.contents output.old) (W.contents output.new)) result.0 }
     ensures failed { IfErr result.1 (λ failure. ScriptFailed ⟦<SectorFile<H> as SectorDevice>⟧
-        (IsOpened H.HostFile (O.opens files.now path.now)) steps script.now (R.remaining input.old) (R.remaining input.new)
+        (IsOpened H.HostFile (O.opens files.now path.now)) (λ path. IsTextOf B.remaining (Q.opens texts.now path))
+        (λ path. IsUnread (Q.opens texts.now path) (Q.refuses texts.now path)) steps script.now (R.remaining input.old) (R.remaining input.new)
         (W.contents output.old) (W.contents output.new) failure result.0) }
     ensures silent { is_plain script.now ≡ true → errors.new ≡ errors.old }
 {
     if script.is_traced {
-        let (left, session) = run_image::<H, O, F, R, W, Traces<'_, E>, K>(
-            rt,
+        let (left, session) = run_image::<H, O, B, Q, F, R, W, Traces<'_, E>, K>(
+            rt.alloc(),
+            texts,
             files,
             path,
             steps,
@@ -268,8 +315,9 @@ fn run_by<H: HostFile, O: HostFiles<H>, F: Lines<SectorFile<H>>, R: Input, W: Wr
         let (outcome, _) = conclude(session, script, errors);
         (left, outcome)
     } else {
-        let (left, session) = run_image::<H, O, F, R, W, Untraced, K>(
-            rt,
+        let (left, session) = run_image::<H, O, B, Q, F, R, W, Untraced, K>(
+            rt.alloc(),
+            texts,
             files,
             path,
             steps,

@@ -1,6 +1,6 @@
 //! Sessions over an image: of the input, or of files, and behind a block that is loaded.
 //! Rule: MANUAL, forth83 run IMAGE [FILE ..].
-ghost use Rattle.std.specs.Prelude.{◌≡◌, ◌≢◌, ◌⊎◌, ◌<◌, ◌++◌, ℕ, List, length, true, IfErr, IfOk, OnOk};
+ghost use Rattle.std.specs.Prelude.{◌≡◌, ◌≢◌, ◌⊎◌, ◌<◌, ◌++◌, ℕ, List, true, IfErr, IfOk, IfSome, OnOk};
 ghost use Rattle.std.specs.Io.BufRead.{strip_last};
 ghost use Rattle.std.specs.List.{flat_map};
 ghost use Rattle.journal.specs.Maps.{Maps};
@@ -12,6 +12,7 @@ ghost use Rattle.terminal.specs.Done.{DoneOn};
 ghost use Rattle.terminal.specs.Failed.{FailsAfter, FailsOn, NotBegun, ScriptUnbegun};
 ghost use Rattle.terminal.specs.Files.{IsOpened};
 ghost use Rattle.terminal.specs.Scripts.{EndsScript, EndsSession, IsLed, lined, load_line};
+ghost use Rattle.terminal.specs.Texts.{AreTexts, IsTextOf, IsUnread, OneIsUnread};
 
 use super::ending::Ended;
 use super::failure::Failure;
@@ -20,14 +21,14 @@ use super::importing::{MOST_BYTES, read_all};
 use super::input::Input;
 use super::left::Left;
 use super::over_devices::run_over;
+use super::texts::{TextFiles, open_text};
 use command_line::orders::Script;
 use interpreter::Memory;
 use interpreter::promise::Lines;
 use sector_disk::{HostFile, HostFiles, SectorDevice, SectorFile, open_disk};
 use sessions::{RunEnd, Tracer, run_over_until};
 use std::alloc::{AllocError, Global};
-use std::fs::{File, Files};
-use std::io::{BufReader, Read, Write};
+use std::io::{Read, Write};
 use stores::Store;
 
 /// Runs lines over an image, with at most `steps` steps a line, 1 or more: those of the files of the script, or of the
@@ -39,13 +40,16 @@ use stores::Store;
 pub fn run_image<
     H: HostFile,
     O: HostFiles<H>,
+    B: Read + Drop,
+    Q: TextFiles<B>,
     F: Lines<SectorFile<H>>,
     R: Input,
     W: Write,
     T: Tracer,
     E,
 >(
-    rt: &(impl Files<File = File> + AllocGlobal),
+    alloc: Global,
+    texts: &Q,
     files: &O,
     path: &str,
     steps: u32,
@@ -58,18 +62,20 @@ pub fn run_image<
     // How it ended, and whether blocks were changed and not saved.
     ensures ends { IfOk result.1 (λ ended. DoneOn ⟦<SectorFile<H> as SectorDevice>⟧ Left.Opened
         (IsOpened H.HostFile (O.opens files.now path.now))
-        (EndsScript ⟦<SectorFile<H> as SectorDevice>⟧ T.hears steps script.now ended.end ended.is_unsaved
+        (EndsScript ⟦<SectorFile<H> as SectorDevice>⟧ T.hears (λ path. IsTextOf B.remaining (Q.opens texts.now path))
+        steps script.now ended.end ended.is_unsaved
         (R.remaining input.old) (R.remaining input.new) (W.contents output.old) (W.contents output.new) tracer.old tracer.new)
         result.0) }
     ensures failed { IfErr result.1 (λ failure. ScriptUnbegun ⟦<SectorFile<H> as SectorDevice>⟧
-        (IsOpened H.HostFile (O.opens files.now path.now)) script.now (R.remaining input.old) (R.remaining input.new)
+        (IsOpened H.HostFile (O.opens files.now path.now)) (λ path. IsTextOf B.remaining (Q.opens texts.now path))
+        (λ path. IsUnread (Q.opens texts.now path) (Q.refuses texts.now path)) script.now (R.remaining input.old) (R.remaining input.new)
         (W.contents output.old) (W.contents output.new) failure result.0) }
     // No session has begun that could stop.
     ensures unstopped { IfErr result.1 (λ e. e ≢ Failure.Stopped) }
 {
-    match lead(rt, script, input) {
+    match lead(alloc, texts, script, input) {
         Ok(()) => run_led::<H, O, F, R, W, T, E>(
-            rt.alloc(),
+            alloc,
             files,
             path,
             steps,
@@ -146,16 +152,20 @@ pub(super) fn run_until_end<D: SectorDevice, F: Lines<D>, R: Read, W: Write, T: 
 }
 
 /// Puts before the input what a script says, or in its place.
-fn lead<R: Input>(
-    rt: &(impl Files<File = File> + AllocGlobal),
+fn lead<B: Read + Drop, Q: TextFiles<B>, R: Input>(
+    alloc: Global,
+    texts: &Q,
     script: &Script<'_>,
     input: &mut R,
 ) -> Result<(), Failure>
-    ensures led { OnOk result (IsLed (load_line script.now.load) script.now.files.items (R.remaining input.old) (R.remaining input.new)) }
+    ensures led { OnOk result (IsLed (λ path. IsTextOf B.remaining (Q.opens texts.now path))
+        (load_line script.now.load) script.now.files.items (R.remaining input.old) (R.remaining input.new)) }
     ensures same { IfErr result (λ _. input.new ≡ input.old) }
-    ensures only { IfErr result (λ e. (e ≡ Failure.CannotRead) ⊎ (e ≡ Failure.NoMemory)) }
+    ensures only { IfErr result (λ e. ((e ≡ Failure.CannotRead)
+        × OneIsUnread (λ path. IsUnread (Q.opens texts.now path) (Q.refuses texts.now path)) script.now.files.items)
+        ⊎ (e ≡ Failure.NoMemory)) }
 {
-    let line = match load_line(rt.alloc(), script.load) {
+    let line = match load_line(alloc, script.load) {
         Ok(line) => line,
         Err(AllocError) => return Err(Failure::NoMemory),
     };
@@ -165,24 +175,26 @@ fn lead<R: Input>(
             Err(AllocError) => Err(Failure::NoMemory),
         }
     } else {
-        lead_by_files(rt, line, script.files.as_slice(), input)
+        lead_by_files(alloc, texts, line, script.files.as_slice(), input)
     }
 }
 
 /// Puts a line and the lines of files in the place of the input.
-fn lead_by_files<R: Input>(
-    rt: &(impl Files<File = File> + AllocGlobal),
+fn lead_by_files<B: Read + Drop, Q: TextFiles<B>, R: Input>(
+    alloc: Global,
+    texts: &Q,
     line: Vec<u8>,
     paths: &[&str],
     input: &mut R,
 ) -> Result<(), Failure>
-    ensures led { OnOk result ((texts : List (List ℕ)) × (length texts ≡ length paths.now)
-        × (R.remaining input.new ≡ Some (line.items ++ flat_map lined texts))) }
+    ensures led { OnOk result ((all : List (List ℕ)) × AreTexts (λ path. IsTextOf B.remaining (Q.opens texts.now path)) paths.now all
+        × (R.remaining input.new ≡ Some (line.items ++ flat_map lined all))) }
     ensures same { IfErr result (λ _. input.new ≡ input.old) }
-    ensures only { IfErr result (λ e. (e ≡ Failure.CannotRead) ⊎ (e ≡ Failure.NoMemory)) }
+    ensures only { IfErr result (λ e. ((e ≡ Failure.CannotRead)
+        × OneIsUnread (λ path. IsUnread (Q.opens texts.now path) (Q.refuses texts.now path)) paths.now) ⊎ (e ≡ Failure.NoMemory)) }
 {
     let mut text = line;
-    match add_files(rt, &mut text, paths) {
+    match add_files(alloc, texts, &mut text, paths) {
         Ok(()) => {
             input.replace_by(text);
             Ok(())
@@ -204,35 +216,51 @@ fn load_line(alloc: Global, load: Option<u16>) -> Result<Vec<u8>, AllocError>
 }
 
 /// Adds the lines of files, one file after another.
-fn add_files(
-    rt: &(impl Files<File = File> + AllocGlobal),
+fn add_files<B: Read + Drop, Q: TextFiles<B>>(
+    alloc: Global,
+    texts: &Q,
     text: &mut Vec<u8>,
     paths: &[&str],
 ) -> Result<(), Failure>
-    ensures added { OnOk result ((texts : List (List ℕ)) × (length texts ≡ length paths.now)
-        × (text.new.items ≡ text.old.items ++ flat_map lined texts)) }
-    ensures only { IfErr result (λ e. (e ≡ Failure.CannotRead) ⊎ (e ≡ Failure.NoMemory)) }
+    ensures added { OnOk result ((all : List (List ℕ)) × AreTexts (λ path. IsTextOf B.remaining (Q.opens texts.now path)) paths.now all
+        × (text.new.items ≡ text.old.items ++ flat_map lined all)) }
+    ensures only { IfErr result (λ e. ((e ≡ Failure.CannotRead)
+        × OneIsUnread (λ path. IsUnread (Q.opens texts.now path) (Q.refuses texts.now path)) paths.now) ⊎ (e ≡ Failure.NoMemory)) }
 {
     let mut rest = paths;
     while let [path, others @ ..] = rest {
-        add_file(rt, text, *path)?;
+        add_file(alloc, texts, text, *path)?;
         rest = others;
     }
     Ok(())
 }
 
 /// Adds the lines of a file.
-fn add_file(
-    rt: &(impl Files<File = File> + AllocGlobal),
+fn add_file<B: Read + Drop, Q: TextFiles<B>>(
+    alloc: Global,
+    texts: &Q,
     text: &mut Vec<u8>,
     path: &str,
 ) -> Result<(), Failure>
-    ensures added { OnOk result ((bytes : List ℕ) × (text.new.items ≡ text.old.items ++ lined bytes)) }
+    ensures added { OnOk result ((bytes : List ℕ) × IsTextOf B.remaining (Q.opens texts.now path.now) bytes
+        × (text.new.items ≡ text.old.items ++ lined bytes)) }
+    ensures only { IfErr result (λ e. ((e ≡ Failure.CannotRead)
+        × IsUnread (Q.opens texts.now path.now) (Q.refuses texts.now path.now)) ⊎ (e ≡ Failure.NoMemory)) }
+{
+    match open_text(texts, path) {
+        Ok(mut reader) => add_text(alloc, text, &mut reader),
+        Err(failure) => Err(failure),
+    }
+}
+
+/// Adds the lines of the text that a reader has left. `CannotRead` where it can't be read, or has more bytes than the
+/// text of an image may have.
+fn add_text<R: Read>(alloc: Global, text: &mut Vec<u8>, reader: &mut R) -> Result<(), Failure>
+    ensures added { OnOk result ((bytes : List ℕ) × IfSome (R.remaining reader.old) (λ left. bytes ≡ left)
+        × (text.new.items ≡ text.old.items ++ lined bytes)) }
     ensures only { IfErr result (λ e. (e ≡ Failure.CannotRead) ⊎ (e ≡ Failure.NoMemory)) }
 {
-    let file = File::open(rt, path).map_err(|_| Failure::CannotRead)?;
-    let mut reader = BufReader::new(rt.alloc(), file).map_err(|_| Failure::NoMemory)?;
-    let bytes = read_all(rt.alloc(), &mut reader)?;
+    let bytes = read_all(alloc, reader)?;
     if bytes.len() > MOST_BYTES {
         return Err(Failure::CannotRead);
     }

@@ -1,12 +1,13 @@
 //! The program over a system of files in memory that keeps the model of a file: what is said of a command with that premise is said of
 //! these calls.
-use super::support::{Left, call_over};
+use super::support::{Left, call_over, call_over_texts};
 use crate::assertions::{Assert, assert_same};
 use recovery::format;
 use sector_disk::{HostFile, MemoryDisk, MemoryFile, MemoryFiles, Script, SectorDevice};
 use std::process::Abort;
 use std::rt::Files;
 use std::test::Fail;
+use terminal::MemoryTexts;
 
 /// How many sectors an image of 32 blocks has.
 const SECTORS: u32 = 131;
@@ -92,6 +93,33 @@ fn commands_on_an_image(rt: HostRuntime) -> Result<(), Fail> {
         0,
         b"8224  ok\n",
     );
+    Ok(())
+}
+
+/// Calls the program where one text has a name.
+fn told_of_a_text(
+    rt: &(impl AllocGlobal + Abort),
+    files: &MemoryFiles,
+    words: &[&str],
+    status: u8,
+    output: &[u8],
+) {
+    let texts = MemoryTexts::new("F", b"3 .");
+    let left = call_over_texts(rt, files, files, &texts, words, b"");
+    assert_same!(rt; left.status, status, "{words:?}");
+    assert_same!(rt; left.output.as_slice(), output, "{words:?}");
+}
+
+/// What is read of a name is the text that the system has under it. Of another one nothing is read.
+#[test]
+fn texts_by_their_names(rt: HostRuntime) -> Result<(), Fail> {
+    let files = files(&rt, true)?;
+    told_of_a_text(&rt, &files, &["forth83", "run", "A", "F"], 0, b"3  ok\n");
+    told_of_a_text(&rt, &files, &["forth83", "run", "A", "F", "G"], 4, b"");
+    told_of_a_text(&rt, &files, &["forth83", "put", "A", "1", "F"], 0, b"");
+    told_of_a_text(&rt, &files, &["forth83", "put", "A", "1", "G"], 4, b"");
+    told_of_a_text(&rt, &files, &["forth83", "import", "A", "1", "F"], 0, b"");
+    told_of_a_text(&rt, &files, &["forth83", "import", "A", "1", "G"], 4, b"");
     Ok(())
 }
 

@@ -13,7 +13,7 @@ use std::rt::Files;
 use std::test::Fail;
 use std::{fs, io};
 use stores::Store;
-use terminal::Led;
+use terminal::{Led, StdTexts, TextFiles};
 
 /// What a call of the program left.
 #[derive(Debug, Drop)]
@@ -107,10 +107,25 @@ pub(crate) fn call_over_both<
     words: &[&str],
     input: &[u8],
 ) -> Left {
+    let texts = StdTexts::new(rt);
+    call_over_texts(rt, files, looking, &texts, words, input)
+}
+
+/// Calls it where the files that it reads as texts are those of a system of texts.
+pub(crate) fn call_over_texts<
+    H: HostFile + Drop,
+    O: HostFiles<H>,
+    K: HostFile + Drop,
+    P: HostFiles<K>,
+    B: Read + Drop,
+    Q: TextFiles<B>,
+>(rt: &impl AllocGlobal, files: &O, looking: &P, texts: &Q, words: &[&str], input: &[u8]) -> Left {
     let mut input = Led::new(rt.alloc(), input);
     let mut output: Vec<u8> = Vec::new(rt.alloc());
     let mut errors: Vec<u8> = Vec::new(rt.alloc());
     let (_, status) = terminal::command_over::<
+        _,
+        _,
         _,
         _,
         _,
@@ -126,6 +141,7 @@ pub(crate) fn call_over_both<
         files,
         looking,
         looking,
+        texts,
         words,
         &mut input,
         &mut output,

@@ -1,13 +1,21 @@
 use Rattle.std.proofs.Common.{arith, length, refl}
 use Rattle.std.proofs.lemmas.Grind.{common_steps}
 use Rattle.terminal.proofs.ScriptLemmas.{blocks_all, blocks_next}
+use Rattle.terminal.proofs.TextLemmas.{first_and_others, first_unread, others_unread}
 use Rattle.terminal.proofs.importing.add_files.Goals as goal
 
 pub loop-rest-init : goal.loop-rest-init
-loop-rest-init g c = λ more is sound. (more, is, sound, refl)
+loop-rest-init g c = record { blocks = λ more are sound. (more, are, sound, refl); unread = λ some. some }
 
 pub loop-rest-preserved : goal.loop-rest-preserved
-loop-rest-preserved g c = blocks_next _ _ _ _ _ _ _ _ _ _ (grind (arith, common_steps)) c.in_ok-left.ensures.added c.loop-rest.invariant
+loop-rest-preserved g c = record {
+  blocks = blocks_next _ _ _ _ _ _ _ _ _ _ _ _ (first_and_others _ c.loop-rest.rest.now c.in-len1-up.len_at_least) c.in_ok-left.ensures.added c.loop-rest.invariant.blocks;
+  unread = λ some. others_unread _ _ c.loop-rest.rest.now c.in-len1-up.len_at_least c.loop-rest.invariant.unread some;
+}
 
 pub returns-clause-added : goal.returns-clause-added
-returns-clause-added g c = blocks_all _ _ _ _ _ _ _ (grind (arith, common_steps)) c.loop-rest.invariant
+returns-clause-added g c = blocks_all _ _ _ _ _ _ _ _ (grind (arith, common_steps)) c.loop-rest.invariant.blocks
+
+pub returns-in_err-left-clause-cannot : goal.returns-in_err-left-clause-cannot
+returns-in_err-left-clause-cannot g c = λ is.
+    first_unread _ _ _ _ _ (first_and_others _ c.loop-rest.rest.now c.in-len1-up.len_at_least) c.loop-rest.invariant.unread (c.in_err-left.ensures.cannot is)

@@ -1,9 +1,16 @@
-use Rattle.std.proofs.Common.{rules}
-use Rattle.terminal.proofs.Telling.{room_in}
+use Rattle.std.proofs.Common.{inl}
+use Rattle.std.proofs.lemmas.Result.{IfOk-weaker}
+use Rattle.terminal.proofs.TextLemmas.{opened_unread}
 use Rattle.terminal.proofs.importing.read_file.Goals as goal
 
-pub returns-clause-said : goal.returns-clause-said
-returns-clause-said g c = search rules
+pub returns-in-Ok-clause-said : goal.returns-in-Ok-clause-said
+returns-in-Ok-clause-said g c =
+    IfOk-weaker c.read_said.result _ _
+    (λ bytes read. (read.0, record { reader = c.in-Ok.reader; opened = c.in-Ok.ensures.opens; known = read.1 }, read.2, read.3)) c.read_said.ensures.said
 
-pub returns-clause-there : goal.returns-clause-there
-returns-clause-there g c = room_in c.args.form c.args.room _ (returns-clause-said g c)
+pub returns-in-Ok-clause-cannot : goal.returns-in-Ok-clause-cannot
+returns-in-Ok-clause-cannot g c =
+    opened_unread (g.Q.TextFiles.opens c.args.texts.now c.args.path.now) (g.Q.TextFiles.refuses c.args.texts.now c.args.path.now) c.read_said.result c.in-Ok.reader c.in-Ok.ensures.opens
+
+pub returns-in-Err-clause-cannot : goal.returns-in-Err-clause-cannot
+returns-in-Err-clause-cannot g c = λ is. inl (c.in-Err.ensures.refuses is)

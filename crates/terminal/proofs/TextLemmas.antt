@@ -1,0 +1,76 @@
+-- What was read of a text that a system opened, and what it is told as where it wasn't had.
+use Rattle.std.proofs.Common.{◌≡◌, ◌∙◌, ◌-◌, ◌≤◌, ◌⊎◌, ⊎_elim, ℕ, List, [], ◌∷◌, ◌++◌, length, take, drop, Option, None, Some, Result, Ok, Err, ap, append-nil, arith, get_or, inl, inr, subst, sym}
+use Rattle.std.proofs.lemmas.List.{take_all}
+use Rattle.std.specs.Borrow.{Bor}
+use Rattle.std.specs.Prelude.{IfErr, IfSome}
+use Rattle.std.specs.Io.KnownBytes.{Consumes, IsAtEnd}
+use Rattle.sector_disk.specs.declared.device.SectorDevice.{Ghosts}
+use Rattle.journal.specs.declared.store.Store.{Store}
+use Rattle.terminal.specs.Putting.{LeavesSome, PutsSome}
+use Rattle.terminal.specs.Texts.{IsTextOf, IsUnread, OneIsUnread}
+use Rattle.terminal.specs.declared.failure.Failure.{Failure}
+use Rattle.terminal.specs.declared.failure.Failure.TheVariants.{CannotRead, NoMemory}
+
+-- What was read, where nothing is left, is all that was left before.
+pub read_whole : (before after : Option (List ℕ)) (text : List ℕ) → Consumes before after text → IsAtEnd after → IfSome before (λ left. text ≡ left)
+read_whole None after text read end = tt
+read_whole (Some all) None text read end = absurd read
+read_whole (Some all) (Some rest) text read end = sym (read ∙ ap (λ l. text ++ l) end ∙ append-nil text)
+
+-- the first of some, and the others
+pub first_and_others : {A : Type 0} (d : A) (xs : List A) → 1 ≤ length xs → xs ≡ get_or xs 0 d ∷ take (length xs - 1) (drop 1 xs)
+first_and_others d [] some = absurd (omega arith)
+first_and_others d (x ∷ xs) some = ap (λ l. x ∷ l) (sym (take_all (length (x ∷ xs) - 1) xs (omega arith)))
+
+-- ---- a text that wasn't had
+
+-- The system opened it, and it wasn't read to its end.
+pub opened_unread : {T R : Type 0} (opens : R → Type 0) (refuses : Type 0) (r : Result T Failure) (reader : R) → opens reader
+    → IfErr r (λ e. e ≡ CannotRead → IsUnread opens refuses)
+opened_unread opens refuses (Ok t) reader opened = tt
+opened_unread opens refuses (Err e) reader opened = λ is. inr (reader, opened)
+
+-- Where it is told, so is the name.
+pub told_unread : {Unread : Type 0} (e : Failure) → (e ≡ CannotRead) ⊎ (e ≡ NoMemory) → (e ≡ CannotRead → Unread)
+    → ((e ≡ CannotRead) × Unread) ⊎ (e ≡ NoMemory)
+told_unread e only unread = ⊎_elim (λ is. inl (is, unread is)) (λ memory. inr memory) only
+
+-- It is the first of those that are left of some.
+pub first_unread : (is_unread : (path : List ℕ) → Type 0) (paths rest others : List (Bor (List ℕ))) (path : Bor (List ℕ)) → rest ≡ path ∷ others
+    → (OneIsUnread is_unread rest → OneIsUnread is_unread paths) → is_unread path.now → OneIsUnread is_unread paths
+first_unread is_unread paths rest others path one so_far unread =
+    so_far (subst (λ (l : List (Bor (List ℕ))). OneIsUnread is_unread l) (sym one) (inl unread))
+
+-- What is told of the first of those that are left.
+pub first_unread_of : (is_unread : (path : List ℕ) → Type 0) (paths rest others : List (Bor (List ℕ))) (path : Bor (List ℕ)) (e : Failure)
+    → rest ≡ path ∷ others → (OneIsUnread is_unread rest → OneIsUnread is_unread paths)
+    → ((e ≡ CannotRead) × is_unread path.now) ⊎ (e ≡ NoMemory) → ((e ≡ CannotRead) × OneIsUnread is_unread paths) ⊎ (e ≡ NoMemory)
+first_unread_of is_unread paths rest others path e one so_far told =
+    ⊎_elim (λ no. inl (no.0, first_unread is_unread paths rest others path one so_far no.1)) (λ memory. inr memory) told
+
+-- It is one of the others.
+pub others_unread : (is_unread : (path : List ℕ) → Type 0) (paths rest : List (Bor (List ℕ))) → 1 ≤ length rest
+    → (OneIsUnread is_unread rest → OneIsUnread is_unread paths)
+    → OneIsUnread is_unread (take (length rest - 1) (drop 1 rest)) → OneIsUnread is_unread paths
+others_unread is_unread paths [] some so_far unread = absurd (omega arith)
+others_unread is_unread paths (path ∷ rest) some so_far unread =
+    so_far (inr (subst (λ (l : List (Bor (List ℕ))). OneIsUnread is_unread l) (take_all (length (path ∷ rest) - 1) rest (omega arith)) unread))
+
+-- ---- a text that was put
+
+-- All that the reader had left which the system opened is a text of that name.
+module _ {D R : Type 0} {G : Ghosts D} (remaining : R → Option (List ℕ)) (opens : R → Type 0) (reader : R) (opened : opens reader) (old new : Store D G) (b : ℕ) where
+  pub puts_named : PutsSome (λ bytes. IfSome (remaining reader) (λ left. bytes ≡ left)) old new b → PutsSome (IsTextOf remaining opens) old new b
+  puts_named puts = record {
+    saved = λ m stands.
+        let saved = puts.saved m stands in
+        (saved.0, record { reader = reader; opened = opened; known = saved.1 }, saved.2, saved.3, saved.4, saved.5);
+  }
+
+  pub leaves_named : LeavesSome (λ bytes. IfSome (remaining reader) (λ left. bytes ≡ left)) old new b → LeavesSome (IsTextOf remaining opens) old new b
+  leaves_named leaves = record {
+    left = λ m stands live image since.
+        ⊎_elim (λ before. inl before)
+        (λ with_text. inr (with_text.0, record { reader = reader; opened = opened; known = with_text.1 }, with_text.2, with_text.3, with_text.4))
+        (leaves.left m stands live image since);
+  }

@@ -1,0 +1,16 @@
+use Rattle.std.proofs.Common.{inl, inr}
+use Rattle.std.proofs.lemmas.Result.{IfErr-weaker, on_ok_weaker}
+use Rattle.terminal.proofs.TextLemmas.{told_unread}
+use Rattle.terminal.proofs.scripts.add_file.Goals as goal
+
+pub returns-in-Ok-clause-added : goal.returns-in-Ok-clause-added
+returns-in-Ok-clause-added g c =
+    on_ok_weaker c.add_text.result
+    (λ read. (read.0, record { reader = c.in-Ok.reader; opened = c.in-Ok.ensures.opens; known = read.1 }, read.2)) c.add_text.ensures.added
+
+pub returns-in-Ok-clause-only : goal.returns-in-Ok-clause-only
+returns-in-Ok-clause-only g c =
+    IfErr-weaker c.add_text.result _ _ (λ e only. told_unread e only (λ is. inr (c.in-Ok.reader, c.in-Ok.ensures.opens))) c.add_text.ensures.only
+
+pub returns-in-Err-clause-only : goal.returns-in-Err-clause-only
+returns-in-Err-clause-only g c = told_unread c.in-Err.failure c.in-Err.ensures.only (λ is. inl (c.in-Err.ensures.refuses is))
