@@ -16,7 +16,7 @@ from judging import FOLDERS, ROOT, files_below, text_of
 PAGE = f"{ROOT}/docs/GATE.md"
 FIFTHS = 5
 # what of a crate's folder its sum is of, beside its line of crates.txt
-KINDS = ("src", "specs", "proofs", *FOLDERS, "data", "stdin", "stdout", "args", "status")
+KINDS = ("src", "specs", "proofs", *FOLDERS, "data", "pages", "stdin", "stdout", "args", "status")
 BLOCK = re.compile(r"(?<=^```record\n).*?(?=^```$)", re.M | re.S)
 # what a record says beside the sums, in this order
 HEAD = ("commit", "kit", "passed", "minutes of processor", "minutes by the clock", "processors")

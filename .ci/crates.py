@@ -3,6 +3,7 @@ import contextlib
 import glob
 import os
 import re
+import shutil
 import signal
 import subprocess
 import sys
@@ -47,6 +48,22 @@ class Crate:
 
     def size(self, *kinds):
         return sum(map(os.path.getsize, self.files(*kinds)))
+
+    def pages(self):
+        """The files and folders of the repository that its program reads too, as if they lay in its data/: its file pages/data names them. What it is given
+        and prints for them stands in pages/args and pages/stdout, behind what its own args and stdout have."""
+        named = f"{self.home}/pages/data"
+        return text_of(named).split() if os.path.isfile(named) else []
+
+    def lay_pages(self, home):
+        """Lays them into a copy of the crate, for a run that sees nothing else of the repository."""
+        for it in self.pages():
+            source, to = f"{ROOT}/{it}", f"{home}/data/{it}"
+            os.makedirs(os.path.dirname(to), exist_ok=True)
+            (shutil.copytree if os.path.isdir(source) else shutil.copy)(source, to)
+        for it in ("args", "stdout") if self.pages() else ():
+            with open(f"{home}/{it}", "a", encoding="utf-8") as file:
+                file.write(text_of(f"{self.home}/pages/{it}"))
 
 
 def text_of(file):

@@ -35,6 +35,22 @@ parts_of() {
     esac
 }
 
+# README's example as a program, over a device that does nothing.
+readme_in_c() {
+    cat <<'END'
+#include <stddef.h>
+#include "silgwyrad.h"
+static int read_sector(void *context, uint32_t k, uint8_t out[512]) { return !context && !k && !out; }
+static int write_sector(void *context, uint32_t k, const uint8_t bytes[512]) { return !context && !k && !bytes; }
+static int sync_all(void *context) { return !context; }
+static const struct silgwyrad_device device = {NULL, read_sector, write_sector, sync_all};
+static void fill(uint8_t bytes[2][1024]) { bytes[0][0] = 1; }
+int main(void) {
+END
+    sed -n '/^```c$/,/^```$/p' ../README.md | sed '1d;$d'
+    echo 'return answer; }'
+}
+
 build() {
     compiler=$1 flags=$2 library=$3 host=$4 to=$5
     # shellcheck disable=SC2046,SC2086
@@ -140,6 +156,8 @@ nm --undefined-only "$folder/libsilgwyrad.a" 2> /dev/null | awk '$1 == "U" { pri
 told $? 'the library asks for the functions of host.c and heap.c, and those of memory'
 gcc $warnings -fsyntax-only -x c silgwyrad.h
 told $? 'the header is read as C'
+readme_in_c | gcc $warnings -I. -fsyntax-only -x c -
+told $? "README's example is read as C"
 if command -v g++ > /dev/null; then
     g++ -std=c++11 -Wall -Wextra -Wpedantic -Werror -fsyntax-only -x c++ silgwyrad.h
     told $? 'the header is read as C++'

@@ -40,21 +40,21 @@ SHOWN = {
         (32, {3: SIXTEEN, 4: TWO_LINES, 30: SIXTEEN, 31: TWO_LINES, 10: SIXTEEN, 11: TWO_LINES}),
     ],
     "copies": [(32, FIRST_LAST), (40, FIRST_LAST), (3840, FIRST_LAST)],
-    "newer-images": [
+    "layout-3-images": [
         (32, {}),
         (3840, {}),
         (32, {1: SCREEN, 31: SCREEN}),
         (32, {1: [b"\x07\x00SQUARE DUP * ;", SCREEN[1]], 2: SEVEN, 31: SCREEN}),
         (32, LETTERS),
     ],
-    "newer-damage": [
+    "layout-3-damage": [
         (32, {}),
         (33, {}),
         *((32, it) for it in FIFTH.values()),
         *((32, {31: [b"LAST"], **it}) for it in ({}, FIFTH[b"ONE"], FIFTH[b"TWO"])),
     ],
-    "newer-labels": [(32, {31: [b"LAST"], **FIFTH[name]}) for name in (b"ONE", b"TWO")],
-    "newer-copies": [
+    "layout-3-labels": [(32, {31: [b"LAST"], **FIFTH[name]}) for name in (b"ONE", b"TWO")],
+    "layout-3-copies": [
         *((count, {31: [b"LAST"], **FIFTH[b"TWO"]}) for count in (32, 40, 41)),
         (40, {1: SEVEN, 2: SEVEN, 31: [b"LAST"], **FIFTH[b"TWO"]}),
         (3840, {}),

@@ -100,6 +100,13 @@ pub record CommandsAreRead : Type 0 where
   pub loads_and_runs_no_file : read_script (codes "run" ∷ codes "--load" ∷ codes "65535" ∷ codes "A" ∷ [])
       ≡ Some (None, Some (codes "65535"), Some (codes "false"))
   pub loads_no_such_block : refused (codes "run" ∷ codes "A" ∷ codes "--load" ∷ codes "65536" ∷ []) ≡ kind.ValueValidation ∷ []
+  pub loads_nothing : refused (codes "run" ∷ codes "A" ∷ codes "--load" ∷ []) ≡ kind.InvalidValue ∷ []
+  pub loads_no_number : refused (codes "run" ∷ codes "A" ∷ codes "--load" ∷ codes "x" ∷ []) ≡ kind.ValueValidation ∷ []
+  pub loads_twice : refused (codes "run" ∷ codes "A" ∷ codes "--load=1" ∷ codes "--load=1" ∷ []) ≡ kind.ArgumentConflict ∷ []
+  pub runs_strictly_by_a_number : refused (codes "run" ∷ codes "A" ∷ codes "--strict=1" ∷ []) ≡ kind.TooManyValues ∷ []
+  pub runs_strictly_twice : refused (codes "run" ∷ codes "A" ∷ codes "--strict" ∷ codes "--strict" ∷ []) ≡ kind.ArgumentConflict ∷ []
+  pub runs_by_no_layout : refused (codes "run" ∷ codes "A" ∷ codes "--layout" ∷ codes "3" ∷ []) ≡ kind.UnknownArgument ∷ []
+  pub lists_strictly : refused (codes "list" ∷ codes "A" ∷ codes "1" ∷ codes "--strict" ∷ []) ≡ kind.UnknownArgument ∷ []
   pub traces_no_list : refused (codes "list" ∷ codes "A" ∷ codes "1" ∷ codes "--trace" ∷ []) ≡ kind.UnknownArgument ∷ []
   pub lists : read (codes "list" ∷ codes "A" ∷ codes "31" ∷ [])
       ≡ Some (codes "list", Some (codes "A"), None, None, None, Some (codes "31"))
@@ -132,6 +139,8 @@ pub record CommandsAreRead : Type 0 where
   pub checks_fits : refused (codes "import" ∷ codes "A" ∷ codes "1" ∷ codes "F" ∷ codes "--raw" ∷ codes "--check" ∷ []) ≡ []
   pub imports_many : all_files (codes "import" ∷ codes "A" ∷ codes "1" ∷ codes "F" ∷ codes "G" ∷ codes "--raw" ∷ []) ≡ Some (Some (codes "F" ∷ codes "G" ∷ []))
   pub imports_many_fits : refused (codes "import" ∷ codes "A" ∷ codes "1" ∷ codes "F" ∷ codes "G" ∷ codes "--check" ∷ []) ≡ []
+  pub imports_with_a_load : refused (codes "import" ∷ codes "A" ∷ codes "1" ∷ codes "F" ∷ codes "--load" ∷ codes "2" ∷ [])
+      ≡ kind.UnknownArgument ∷ []
   pub no_source : refused (codes "import" ∷ codes "A" ∷ codes "1" ∷ []) ≡ kind.MissingRequiredArgument ∷ []
   pub checks_image : read (codes "check" ∷ codes "A" ∷ []) ≡ Some (codes "check", Some (codes "A"), None, Some (codes "false"), None, None)
   pub checks_image_fits : refused (codes "check" ∷ codes "A" ∷ []) ≡ []
@@ -139,9 +148,12 @@ pub record CommandsAreRead : Type 0 where
   pub checks_blocks : read (codes "check" ∷ codes "A" ∷ codes "--blocks" ∷ []) ≡ Some (codes "check", Some (codes "A"), None, Some (codes "true"), None, None)
   pub checks_blocks_fits : refused (codes "check" ∷ codes "--blocks" ∷ codes "A" ∷ []) ≡ []
   pub checks_no_count : refused (codes "check" ∷ codes "A" ∷ codes "--blocks" ∷ codes "32" ∷ []) ≡ kind.UnknownArgument ∷ []
+  pub checks_blocks_by_a_number : refused (codes "check" ∷ codes "A" ∷ codes "--blocks=1" ∷ []) ≡ kind.TooManyValues ∷ []
+  pub checks_two_images : refused (codes "check" ∷ codes "A" ∷ codes "B" ∷ []) ≡ kind.UnknownArgument ∷ []
   pub compares : read_images (codes "diff" ∷ codes "A" ∷ codes "B" ∷ []) ≡ Some (codes "diff", Some (codes "A"), Some (codes "B"))
   pub compares_fits : refused (codes "diff" ∷ codes "A" ∷ codes "B" ∷ []) ≡ []
   pub compares_with_nothing : refused (codes "diff" ∷ codes "A" ∷ []) ≡ kind.MissingRequiredArgument ∷ []
+  pub compares_three : refused (codes "diff" ∷ codes "A" ∷ codes "B" ∷ codes "C" ∷ []) ≡ kind.UnknownArgument ∷ []
   pub upgrades : read_images (codes "upgrade" ∷ codes "A" ∷ codes "B" ∷ []) ≡ Some (codes "upgrade", Some (codes "A"), Some (codes "B"))
   pub upgrades_fits : refused (codes "upgrade" ∷ codes "A" ∷ codes "B" ∷ []) ≡ []
   pub upgrades_to_2 : read_layout (codes "upgrade" ∷ codes "A" ∷ codes "B" ∷ []) ≡ Some (Some (codes "2"))

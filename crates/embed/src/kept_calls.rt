@@ -140,7 +140,8 @@ pub fn save_kept<D: SectorDevice>(
     }
 }
 
-/// Reads a block of the store that rests on the device, and lets it rest again.
+/// Reads a block of the store that rests on the device, and lets it rest again. `Device` where a call of the device
+/// failed: then none rests there.
 // A call of its own, as the save is, so that one store lies on the stack, and none while an image is opened.
 #[inline(never)]
 pub fn read_resting<D: SectorDevice>(
@@ -178,7 +179,8 @@ pub fn read_resting<D: SectorDevice>(
     }
 }
 
-/// Saves blocks to the store that rests on the device, and lets it rest again.
+/// Saves blocks to the store that rests on the device, and lets it rest again. `Device` where a call of the device
+/// failed: then none rests there, and all of them may be saved, or none.
 #[inline(never)]
 pub fn save_resting<D: SectorDevice>(
     device: D,
