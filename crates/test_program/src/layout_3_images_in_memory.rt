@@ -188,8 +188,8 @@ fn check_fault(rt: &impl Abort, left: &Left, k: u64) {
 /// the new one is none, or whole.
 #[test]
 fn copies_of_layout_3_that_are_stopped(rt: HostRuntime) -> Result<(), Fail> {
-    // Of the old image label, gate, record and each block with its tag, and each once more.
-    makings_are_stopped(&rt, "copy", 195)
+    // Of the old image label, gate, record and each block with its tag, and then the two sectors of each block.
+    makings_are_stopped(&rt, "copy", 163)
 }
 
 /// And so is a salvage.

@@ -120,7 +120,8 @@ fn is_open(gate: &[u8; 512]) -> bool {
 /// The blocks of an image that aren't blank, as `5A` where block 5 begins so, and `5?` where its tag isn't that of its bytes; and
 /// `sum` where the record's sum isn't that of the tags.
 pub(crate) fn told(alloc: Global, disk: &mut MemoryDisk) -> Result<String, Fail> {
-    let listing = sector(disk, if is_open(&sector(disk, 8)?) { 16 } else { 24 })?;
+    let gate = sector(disk, 8)?;
+    let listing = sector(disk, if is_open(&gate) { 16 } else { 24 })?;
     let mut text = String::new(alloc);
     let mut total = [0; 32];
     for b in 0..BLOCKS {
