@@ -7,7 +7,6 @@ ghost use Rattle.cell_machine.specs.Cells.{double};
 
 use crate::fault::{Fault, Stop};
 use crate::forth::{Forth, Picture};
-use crate::services::lexicon_words::PAD_OFFSET;
 use crate::system_cells::{BASE, cell_of};
 use crate::terminal::Terminal;
 use number_io::Held;
@@ -16,6 +15,9 @@ use system_words::words::PictureWord;
 
 /// How many bytes are held at most.
 const CAPACITY: u8 = 66;
+
+/// How far behind `HERE` the picture ends.
+const UNDER_PAD: u16 = 324;
 
 /// The digits of a cell, and a blank after them.
 fn unsigned_text(cell: u16, base: u16) -> Held
@@ -190,7 +192,7 @@ impl<D: SectorDevice> Forth<D> {
         ensures spares { Spares result self.old self.new }
     {
         self.picture = Picture {
-            end: self.lexicon.here() + PAD_OFFSET,
+            end: self.lexicon.here() + UNDER_PAD,
             held: 0,
         };
         Ok(())
