@@ -31,10 +31,10 @@ number_given {E} G k m id r only none value = go (one_text (found_of m) id) refl
         (t, sym (one_text-rows (found_of m) id) ∙ e, parsed.0.0, parsed.1)
 
 -- the flag of a text that names it
-flag_named : {E : Type 0} (m : ArgMatches) (id t : Text) (is_given : Bool) → one_text (found_of m) id ≡ Some t → ParsesBool {E = E} t (Ok is_given)
+flag_named : (E : Type 0) (m : ArgMatches) (id t : Text) (is_given : Bool) → one_text (found_of m) id ≡ Some t → ParsesBool {E = E} t (Ok is_given)
     → HasFlag (rows_of (found_of m)) id is_given
-flag_named m id t true e named = sym (one_text-rows (found_of m) id) ∙ e ∙ ap (λ (t : Text). Some t) named
-flag_named m id t false e named = sym (one_text-rows (found_of m) id) ∙ e ∙ ap (λ (t : Text). Some t) named
+flag_named E m id t true e named = sym (one_text-rows (found_of m) id) ∙ e ∙ ap (λ (t : Text). Some t) named
+flag_named E m id t false e named = sym (one_text-rows (found_of m) id) ∙ e ∙ ap (λ (t : Text). Some t) named
 
 pub flag_given : {E : Type 0} (G : List ℕ → Result Bool E → Type 0) (m : ArgMatches) (id : Text) (r : Option Bool)
     → ((u : List ℕ) (x : Result Bool E) → G u x → ParsesBool u x)
@@ -49,7 +49,7 @@ flag_given {E} G m id r only none value = go (one_text (found_of m) id) refl r n
         → IfSome r (λ is_given. HasFlag (rows_of (found_of m)) id is_given)
     go o e None none value = tt
     go None e (Some v) none value = let bad : Some v ≡ None = none e in cc
-    go (Some t) e (Some v) none value = flag_named {E = E} m id t v e (only t (Ok v) (value t e))
+    go (Some t) e (Some v) none value = flag_named E m id t v e (only t (Ok v) (value t e))
 
 pub text_given : (m : ArgMatches) (id text : Text) → Some text ≡ first_value (found_of m) id → HasText (rows_of (found_of m)) id text
 text_given m id text given = sym (given ∙ first_value-rows (found_of m) id)
