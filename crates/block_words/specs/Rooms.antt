@@ -40,10 +40,10 @@ filled_in (Ok slot) space bytes = with_bytes space (buffer_at slot) bytes
 filled_in (Err fault) space bytes = space
 
 -- A spill failed: those before it are spilled, and with this one the device began so many writes at most.
-pub record SpillFails (xs : List Assigned) (stands : List Assigned → Type 0) (writes : ℕ → Type 0) : Type 0 where
+pub record SpillFails (xs : List Assigned) (stands : List Assigned → Type 0) (begun : ℕ → Type 0) : Type 0 where
   pub before : List Assigned
   pub this : Assigned
   pub after : List Assigned
   pub split : xs ≡ before ++ this ∷ after
   pub shut_so : stands before
-  pub begins : writes (2 * length before + 2)
+  pub begins : begun (length before + 1)

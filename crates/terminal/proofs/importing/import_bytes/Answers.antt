@@ -1,6 +1,5 @@
-use Rattle.std.proofs.Common.{Err, ap, arith}
-use Rattle.journal.specs.Store.{by_older, device_of, pending_count}
-use Rattle.journal.proofs.Costs.{most_begins, most_reads}
+use Rattle.std.proofs.Common.{Err, ap, length}
+use Rattle.block_words.proofs.Saves.{all_begins, all_reads}
 use Rattle.terminal.specs.Transfer.{as_blocks, spilled_from}
 use Rattle.terminal.proofs.Saving.{fails_then, length_blocks, saves_then}
 use Rattle.terminal.proofs.importing.import_bytes.Goals as goal
@@ -10,8 +9,6 @@ returns-in-Ok-clause-imported g c =
     let sp = c.in_ok-spill_blocks.ensures.spilled in
     let mid = c.spill_blocks.new.store in
     let blocks = as_blocks c.args.bytes.now in
-    let most = most_begins g.D.SectorDevice (device_of mid) (device_of c.commit.new.self) (pending_count mid) (by_older mid) c.commit.ensures.begins in
-    let most_of = most_reads g.D.SectorDevice (device_of mid) (device_of c.commit.new.self) (pending_count mid) (by_older mid) c.commit.ensures.reads in
     record {
       saved = λ m stands. (
         c.in-Ok.ensures.ok (spilled_from m c.args.first blocks) (sp.stands m stands),
@@ -21,11 +18,12 @@ returns-in-Ok-clause-imported g c =
           after = c.in-Ok.ensures.after (spilled_from m c.args.first blocks) (sp.stands m stands);
         },
       );
-      begins = record {
-        few_writes = omega (arith, sp.few, sp.begins.few_writes, most.few_writes);
-        few_syncs = omega (arith, sp.begins.few_syncs, most.few_syncs);
-      };
-      reads = omega (arith, sp.few, sp.reads, most_of);
+      begins =
+          all_begins g.D.SectorDevice c.args.store.now mid c.commit.new.self c.spill_blocks.ensures.continues (length blocks) sp.few
+          sp.begins c.commit.ensures.begins;
+      reads =
+          all_reads g.D.SectorDevice c.args.store.now mid c.commit.new.self c.spill_blocks.ensures.continues (length blocks) sp.few
+          sp.reads c.commit.ensures.reads;
     }
 
 pub returns-in-Ok-clause-kept : goal.returns-in-Ok-clause-kept

@@ -1,7 +1,7 @@
 use Rattle.std.proofs.Common.{◌≡◌, ◌∙◌, ◌+◌, ◌<◌, ◌++◌, ◌∷◌, [], length, length-append, append-nil, append_assoc, refl, ap, sym, subst, arith}
 use Rattle.std.proofs.lemmas.Grind.{common_steps}
 use Rattle.sector_disk.proofs.Moments.{elapses_refl}
-use Rattle.block_words.proofs.Saves.{continues_then}
+use Rattle.block_words.proofs.Saves.{begun_more, continues_then, read_more}
 use Rattle.journal.specs.Maps.{spilled}
 use Rattle.journal.specs.Store.{StandsFor, device_of}
 use Rattle.terminal.specs.Imported.{Spills}
@@ -77,11 +77,12 @@ loop-block-preserved g c =
       stops = keeps_then c.args.store.now c.loop-block.store new c.args.first inv.done inv.continues c.spill_next.ensures.continues
           inv.stands inv.stops c.spill_next.ensures.stops;
       continues = continues_then c.args.store.now c.loop-block.store new (g.met.D.SectorDevice.widens (device_of new)) inv.continues c.spill_next.ensures.continues;
-      begins = record {
-        few_writes = omega (arith, count, inv.begins.few_writes, c.spill_next.ensures.begins.few_writes);
-        few_syncs = omega (arith, inv.begins.few_syncs, c.spill_next.ensures.begins.few_syncs);
-      };
-      reads = omega (arith, inv.reads, c.spill_next.ensures.reads);
+      begins =
+          begun_more g.D.SectorDevice c.args.store.now c.loop-block.store new inv.continues (length inv.done) count
+          inv.begins c.spill_next.ensures.begins;
+      reads =
+          read_more g.D.SectorDevice c.args.store.now c.loop-block.store new inv.continues (length inv.done) count
+          inv.reads c.spill_next.ensures.reads;
     }
 
 pub returns-then-is_empty-clause-begins : goal.returns-then-is_empty-clause-begins
