@@ -1,10 +1,11 @@
-use Rattle.std.proofs.Common.{◌≡◌, true, false, ◌+◌, length, suc, sym, ◌∙◌, ap, subst, take, drop, arith, add-one, Err, rules}
+use Rattle.std.proofs.Common.{◌≡◌, true, false, ◌+◌, length, refl, suc, sym, ◌∙◌, ap, subst, take, drop, arith, add-one, Err, rules}
 use Rattle.std.proofs.lemmas.List.{length-take}
 use Rattle.std.specs.Prelude.{slice_index_or, ◌==◌, ◌||◌}
 use Rattle.block_buffers.specs.declared.buffers.Assigned.{Assigned}
 use Rattle.block_buffers.specs.Buffers.{updated_ones}
 use Rattle.journal.specs.Maps.{spilled}
-use Rattle.journal.specs.Store.{StandsFor, is_pending, device_of, blocks_of}
+use Rattle.journal.specs.Store.{StandsFor, by_older, is_pending, device_of, blocks_of}
+use Rattle.journal.proofs.Costs.{reads_within, spills_within}
 use Rattle.block_words.specs.Words.{all_spilled}
 use Rattle.block_words.specs.Rooms.{within}
 use Rattle.block_words.proofs.Lists.{within_at, within_filter, item_at, among_more}
@@ -83,3 +84,39 @@ loop-updated-preserved g c =
           c.loop-updated.invariant.reads c.spill.ensures.reads;
       unmoved = λ zero. absurd (omega (arith, zero));
     }
+
+pub returns-in-Err-clause-begins : goal.returns-in-Err-clause-begins
+returns-in-Err-clause-begins g c =
+    let D = g.D.SectorDevice in
+    let old = c.args.store.now in
+    let new = c.spill.new.self in
+    let i = c.loop-updated.updated-index in
+    let count = ap length (c.deref-updated-items.ensures.0 ∙ c.updated.ensures.updated) in
+    spills_within D (device_of old) (device_of new) (by_older old) (i + 1) (length (updated_ones c.args.buffers.now))
+    (omega (arith, c.loop-updated-test.true, count))
+    (begun_more D old c.loop-updated.store new c.loop-updated.invariant.continues i refl c.loop-updated.invariant.begins c.spill.ensures.begins)
+
+pub returns-in-Err-clause-reads : goal.returns-in-Err-clause-reads
+returns-in-Err-clause-reads g c =
+    let D = g.D.SectorDevice in
+    let old = c.args.store.now in
+    let new = c.spill.new.self in
+    let i = c.loop-updated.updated-index in
+    let count = ap length (c.deref-updated-items.ensures.0 ∙ c.updated.ensures.updated) in
+    reads_within D (device_of old) (device_of new) (by_older old) (i + 1) (length (updated_ones c.args.buffers.now))
+    (omega (arith, c.loop-updated-test.true, count))
+    (read_more D old c.loop-updated.store new c.loop-updated.invariant.continues i refl c.loop-updated.invariant.reads c.spill.ensures.reads)
+
+pub returns-clause-begins : goal.returns-clause-begins
+returns-clause-begins g c =
+    let old = c.args.store.now in
+    let count = ap length (c.deref-updated-items.ensures.0 ∙ c.updated.ensures.updated) in
+    spills_within g.D.SectorDevice (device_of old) (device_of c.loop-updated.store) (by_older old) c.loop-updated.updated-index
+    (length (updated_ones c.args.buffers.now)) (omega (arith, c.loop-updated.auto.updated-index-end, count)) c.loop-updated.invariant.begins
+
+pub returns-clause-reads : goal.returns-clause-reads
+returns-clause-reads g c =
+    let old = c.args.store.now in
+    let count = ap length (c.deref-updated-items.ensures.0 ∙ c.updated.ensures.updated) in
+    reads_within g.D.SectorDevice (device_of old) (device_of c.loop-updated.store) (by_older old) c.loop-updated.updated-index
+    (length (updated_ones c.args.buffers.now)) (omega (arith, c.loop-updated.auto.updated-index-end, count)) c.loop-updated.invariant.reads
