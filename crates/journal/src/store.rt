@@ -389,7 +389,7 @@ impl<D: SectorDevice> Store<D> {
         ensures named { (named : NamedRecord) → technique_of self.old ≡ Pages named
             → IsTrue (D.keeps_model (device_of self.old)) → pending_count self.old ≢ 0
             → OnOk result (NamesLatest (blocks_of self.old) named.is_open named.listing self.old.pending (disk_of self.new).content) }
-        // So many are what its layout takes: by layout 2 2 writes for each block and 3 more, 4 syncs, and 4 reads for each; by layout 3
+        // So many are what its layout takes: by layout 2 two writes for each block and 3 more, 4 syncs, and 4 reads for each; by layout 3
         // 2 writes, 2 syncs and no read, however many blocks there are.
         ensures begins { DeviceBegins self.old self.new
             (each_writes (by_older self.old) * pending_count self.old + more_writes (by_older self.old)) (save_syncs (by_older self.old)) }
