@@ -60,6 +60,25 @@ module _ {D : Type 0} (G : Ghosts D) (old mid new : D) (t : Bool) (n p q : ℕ) 
       by true x y z one two = omega (arith, one, two, few)
       by false x y z one two = omega (arith, one, two)
 
+-- spills alone, of n blocks: no more than with a commit too
+module _ {D : Type 0} (G : Ghosts D) (old new : D) (t : Bool) (n p : ℕ) where
+  pub spills_few : BeginsAtMost G old new (spill_writes t * n) 0 → BeginsAtMost G old new (2 * p + 4 * n + 3) 4
+  spills_few spills = record {
+    few_writes = by t ((G.counts old).writes) ((G.counts new).writes) spills.few_writes;
+    few_syncs = omega (arith, spills.few_syncs);
+  }
+    where
+      by : (t : Bool) (x y : ℕ) → y ≤ x + spill_writes t * n → y ≤ x + (2 * p + 4 * n + 3)
+      by true x y few = omega (arith, few)
+      by false x y few = omega (arith, few)
+
+  pub reads_few : ReadsAtMost G old new (spill_reads t * n) → ReadsAtMost G old new (4 * p + 4 * n)
+  reads_few spills = by t ((G.counts old).reads) ((G.counts new).reads) spills
+    where
+      by : (t : Bool) (x y : ℕ) → y ≤ x + spill_reads t * n → y ≤ x + (4 * p + 4 * n)
+      by true x y few = omega (arith, few)
+      by false x y few = omega (arith, few)
+
 -- one spill more
 module _ {D : Type 0} (G : Ghosts D) (old mid new : D) (t : Bool) (n : ℕ) where
   pub spills_begin : {m : ℕ} → m ≡ n + 1 → BeginsAtMost G old mid (spill_writes t * n) 0 → BeginsAtMost G mid new (spill_writes t) 0

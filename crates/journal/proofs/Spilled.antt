@@ -1,5 +1,5 @@
 -- One more block is spilled with its tag, which is exchanged in the sum.
-use Rattle.std.proofs.Common.{◌≡◌, ◌≢◌, inl, inr, ℕ, ◌+◌, ◌<◌, Bool, true, false, cond, List, ◌++◌, refl, sym, ◌∙◌, ap, subst, arith}
+use Rattle.std.proofs.Common.{◌≡◌, ◌≢◌, inl, inr, ℕ, ◌+◌, ◌<◌, Bool, true, false, cond, List, refl, sym, ◌∙◌, ap, subst, arith}
 use Rattle.std.specs.Prelude.{not}
 use Rattle.std.proofs.lemmas.Bool.{cases_eq}
 use Rattle.sector_disk.specs.Disk.{Disk, Image}
@@ -9,7 +9,7 @@ use Rattle.journal.specs.PageImages.{current_of, current_tag, free_of, free_tag}
 use Rattle.journal.specs.PageLayout.{current_at, free_at, sum_in, tag_in}
 use Rattle.journal.specs.PageSteps.{HasSpilled, IsSound, merged_tag}
 use Rattle.journal.specs.Steps.{WritesOnly}
-use Rattle.journal.specs.Tags.{tag_of, xor_bytes, sum_below}
+use Rattle.journal.specs.Tags.{tag_of, xor_bytes}
 use Rattle.journal.proofs.Meaning.{pair_same}
 use Rattle.journal.proofs.Stops.{places_apart, not_same}
 use Rattle.journal.proofs.Sums.{same_sum, exchanged}

@@ -245,8 +245,8 @@ fn spill_blocks<D: SectorDevice>(
     ensures stops { KeepsSaved store.old store.new }
     ensures only { IfErr result (λ e. e ≡ Failure.Device) }
     ensures device { IfErr result (λ e. (closed_of store.old ≡ true) ⊎ DeviceFailed store.old store.new) }
-    ensures begins { DeviceBegins store.old store.new (2 * blocks_for (length bytes.now)) 0 }
-    ensures reads { DeviceReads store.old store.new 0 }
+    ensures begins { DeviceBegins store.old store.new (spill_writes (by_older store.old) * blocks_for (length bytes.now)) 0 }
+    ensures reads { DeviceReads store.old store.new (spill_reads (by_older store.old) * blocks_for (length bytes.now)) }
     ensures continues { Continues store.old store.new }
 {
     let mut left = bytes;

@@ -1,5 +1,5 @@
 // The steps of a save.
-ghost use Rattle.std.specs.Prelude.{◌≡◌, false, true, ℕ, ◌^◌, ◌⊎◌, ◌<◌, ◌≤◌, ◌+◌, ◌*◌, not, if◌then◌else◌, IsTrue, OnOk};
+ghost use Rattle.std.specs.Prelude.{◌≡◌, ◌⊎◌, ◌<◌, ◌≤◌, not, if◌then◌else◌, IsTrue, OnOk};
 ghost use Rattle.sector_disk.specs.Disk.{written, settled};
 ghost use Rattle.journal.specs.Calls.{StopsLeave, BeginsAtMost, ReadsAtMost};
 ghost use Rattle.journal.specs.PageCalls.{Passes};

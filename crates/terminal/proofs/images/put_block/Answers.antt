@@ -1,12 +1,11 @@
-use Rattle.std.proofs.Common.{◌⊎◌, ◌≤◌, Bool, true, false, inl, subst, arith}
+use Rattle.std.proofs.Common.{◌⊎◌, inl, subst, arith}
 use Rattle.terminal.proofs.Pending.{spilled_one}
 use Rattle.sector_disk.proofs.Moments.{leaves_then}
 use Rattle.journal.specs.Maps.{latest, spilled}
 use Rattle.journal.specs.BySize.{Means}
-use Rattle.journal.specs.Costs.{spill_reads, spill_writes}
-use Rattle.journal.specs.Store.{by_older, device_of}
+use Rattle.journal.specs.Store.{by_older, device_of, pending_count}
 use Rattle.block_words.proofs.Saves.{all_begins, all_reads}
-use Rattle.journal.proofs.Costs.{one_begins, one_reads}
+use Rattle.journal.proofs.Costs.{one_begins, one_reads, reads_few, spills_few}
 use Rattle.terminal.proofs.images.put_block.Goals as goal
 
 pub returns-in-Ok-clause-ok : goal.returns-in-Ok-clause-ok
@@ -45,20 +44,23 @@ returns-in-Ok-clause-reads g c =
           (one_reads D (device_of old) (device_of mid) (by_older old) c.in-Ok.ensures.reads) c.commit.ensures.reads,
     )
 
--- A spill alone begins no more than 3 writes and a read.
-few_of_one : (t : Bool) → spill_writes t ≤ 3
-few_of_one true = omega arith
-few_of_one false = omega arith
-
-few_reads_of_one : (t : Bool) → spill_reads t ≤ 1
-few_reads_of_one true = omega arith
-few_reads_of_one false = omega arith
-
+-- A spill alone is fewer calls than a save.
 pub returns-in-Err-clause-begins : goal.returns-in-Err-clause-begins
-returns-in-Err-clause-begins g c = record {
-  few_writes = omega (arith, few_of_one (by_older c.args.store.now), c.spill.ensures.begins.few_writes);
-  few_syncs = omega (arith, c.spill.ensures.begins.few_syncs);
-}
+returns-in-Err-clause-begins g c =
+    let D = g.D.SectorDevice in
+    let old = c.args.store.now in
+    let new = c.spill.new.self in
+    let few = spills_few D (device_of old) (device_of new) (by_older old) 1 (pending_count old)
+    (one_begins D (device_of old) (device_of new) (by_older old) c.spill.ensures.begins) in
+    record { few_writes = omega (arith, few.few_writes); few_syncs = few.few_syncs }
 
 pub returns-in-Err-clause-reads : goal.returns-in-Err-clause-reads
-returns-in-Err-clause-reads g c = omega (arith, few_reads_of_one (by_older c.args.store.now), c.spill.ensures.reads)
+returns-in-Err-clause-reads g c =
+    let D = g.D.SectorDevice in
+    let old = c.args.store.now in
+    let new = c.spill.new.self in
+    omega (
+      arith,
+      reads_few D (device_of old) (device_of new) (by_older old) 1 (pending_count old)
+          (one_reads D (device_of old) (device_of new) (by_older old) c.spill.ensures.reads),
+    )
