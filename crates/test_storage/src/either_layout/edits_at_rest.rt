@@ -11,11 +11,15 @@ use std::alloc::Global;
 use std::process::Abort;
 use std::test::Fail;
 
-fn save(store: &mut Store<MemoryDisk>, b: u16, byte: u8) -> Result<(), &'static str> {
+fn spill(store: &mut Store<MemoryDisk>, b: u16, byte: u8) -> Result<(), &'static str> {
     if b >= store.blocks() {
         return Err("no such block");
     }
-    store.spill(b, &[byte; 1024]).map_err(|_| "spill failed")?;
+    store.spill(b, &[byte; 1024]).map_err(|_| "spill failed")
+}
+
+fn save(store: &mut Store<MemoryDisk>, b: u16, byte: u8) -> Result<(), &'static str> {
+    spill(store, b, byte)?;
     store.commit().map_err(|_| "commit failed")
 }
 
@@ -334,4 +338,18 @@ fn by_layout_3_a_record_over_a_later_text_is_told(rt: HostRuntime) -> Result<(),
             (2, 32, 40, 3, "same"), // the other place
         ],
     )
+}
+
+// And where a block was spilled since, over the place that it had by that gate.
+#[test]
+fn by_layout_3_a_gate_over_a_later_spill_is_told(rt: HostRuntime) -> Result<(), Fail> {
+    let mut store = made(rt.alloc(), true)?;
+    save(&mut store, 0, b'A')?;
+    save(&mut store, 0, b'B')?;
+    spill(&mut store, 0, b'C')?;
+    let mut disk = store.into_device();
+    let digest = digest_of(&mut disk)?;
+    put(&mut disk, 8, &open_gate())?;
+    assert_same!(rt; found(&mut disk, &digest), "damaged");
+    Ok(())
 }
