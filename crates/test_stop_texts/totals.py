@@ -150,9 +150,12 @@ class Store:
 
     def spill(self, b, data):
         with self:
-            for half in (0, 1):
-                self.disk.write(self.free(b) + half, data[512 * half : 512 * half + 512])
+            self.put(b, data)
             self.pending.add(b)
+
+    def put(self, b, data):
+        for half in (0, 1):
+            self.disk.write(self.free(b) + half, data[512 * half : 512 * half + 512])
 
     def commit(self):
         if self.closed or not self.pending:
@@ -235,18 +238,19 @@ class Newer(Store):
     def latest(self, b):
         return self.free(b) if b in self.pending else self.place(b, b in self.second)
 
+    def put(self, b, data):
+        old, new = self.disk.read(self.latest(b) + 2)[:32], tag_of(b, data)
+        super().put(b, data)
+        self.disk.write(self.free(b) + 2, new.ljust(512, b"\0"))
+        self.sum = exclusive(self.sum, old, new)
+
     def save(self, blocks):
-        total = self.sum
-        for b in blocks:
-            tag = tag_of(b, self.disk.read(self.free(b)) + self.disk.read(self.free(b) + 1))
-            self.disk.write(self.free(b) + 2, tag.ljust(512, b"\0"))
-            total = exclusive(total, tag, self.disk.read(self.place(b, b in self.second) + 2)[:32])
         second = self.second ^ set(blocks)
-        self.disk.write(24 if self.gate else 16, bits_of(second) + total)
+        self.disk.write(24 if self.gate else 16, bits_of(second) + self.sum)
         self.disk.sync()
         self.disk.write(8, CLOSED if self.gate else OPEN)
         self.disk.sync()
-        self.gate, self.second, self.sum = not self.gate, second, total
+        self.gate, self.second = not self.gate, second
 
 
 STORES = {2: Older, 3: Newer}

@@ -13,7 +13,7 @@ use Rattle.journal.specs.BySize.{Means}
 use Rattle.journal.specs.Layout.{count_below}
 use Rattle.recovery.specs.Label.{is_size}
 use Rattle.journal.specs.Maps.{Maps, contents, latest, spilled, committed, shut, any_pending}
-use Rattle.journal.specs.Costs.{each_reads, each_writes, more_writes, save_syncs}
+use Rattle.journal.specs.Costs.{each_reads, each_writes, more_writes, save_syncs, spill_reads, spill_writes}
 use Rattle.journal.specs.Store.{Continues, MeansBy, StandsFor, KeepsSaved, SavesAllOrNone, is_pending, pending_count, DeviceBegins, DeviceReads, device_of, disk_of, technique_of, closed_of, blocks_of, by_older}
 use Rattle.journal.specs.Technique.{spilled_of}
 use Rattle.block_words.specs.Parts.{ChangesAllOrNone}
@@ -26,7 +26,8 @@ use Rattle.block_words.specs.declared.buffered_blocks.BlockFault.TheVariants.{De
 use Rattle.block_words.specs.Words.{Answer, Well, Failed, Save, Wear, no_wear, add_wear, spill_wear, commit_wear, pending_number, Blocks, BlockOutcome, Gives, Fails, spill_each, open_store, commit, returned, all_spilled, next_map, save_and}
 use Rattle.block_words.specs.Calls.{state, ended, failures_after, WordRuns, WearsAtMost, CallKeeps, CallLeaves, save_begun}
 use Rattle.block_words.proofs.Runs.{saved_then}
-use Rattle.block_words.proofs.Worn.{none_more, wear_assoc, spills_wear, spills_counted, commit_wear_if, wears_by, wears_then, pending_same, none_counted}
+use Rattle.journal.proofs.Costs.{most_begins, most_reads, spills_begin, spills_read}
+use Rattle.block_words.proofs.Worn.{none_more, wear_assoc, spills_wear, spills_counted, commit_wear_if, spills_by, wears_then, pending_same, none_counted}
 
 pub continues_then : {D : Type 0} {G : Ghosts D} (a b d : Store D G) → ((s t : ℕ) (c : Image) → s ≤ t → G.left_since (device_of d) t c → G.left_since (device_of d) s c)
     → Continues a b → Continues b d → Continues a d
@@ -243,49 +244,89 @@ module _ {D : Type 0} (G : Ghosts D) (old mid new : Store D G) (b : Buffers) (on
   older : by_older mid ≡ by_older old
   older = ap is_size on.sectors
 
-  pub save_reads : DeviceReads old mid 0 → DeviceReads mid new (each_reads (by_older mid) * pending_count mid)
-      → DeviceReads old new (each_reads (by_older old) * changed_count old b)
-  save_reads first then = more (each_reads (by_older old) * changed_count old b)
+  pub save_reads : DeviceReads old mid (spill_reads (by_older old) * length (updated_ones b))
+      → DeviceReads mid new (each_reads (by_older mid) * pending_count mid)
+      → DeviceReads old new (spill_reads (by_older old) * length (updated_ones b) + each_reads (by_older old) * changed_count old b)
+  save_reads first then = more (spill_reads (by_older old) * length (updated_ones b)) (each_reads (by_older old) * changed_count old b) first
       (subst (λ n. DeviceReads mid new (each_reads (by_older old) * n)) changed (subst (λ t. DeviceReads mid new (each_reads t * pending_count mid)) older then))
     where
-      more : (x : ℕ) → DeviceReads mid new x → DeviceReads old new x
-      more x reads = omega (arith, first, reads)
+      more : (a x : ℕ) → DeviceReads old mid a → DeviceReads mid new x → DeviceReads old new (a + x)
+      more a x spills reads = omega (arith, spills, reads)
 
-  pub save_begins : DeviceBegins old mid (2 * length (updated_ones b)) 0
+  pub save_begins : DeviceBegins old mid (spill_writes (by_older old) * length (updated_ones b)) 0
       → DeviceBegins mid new (each_writes (by_older mid) * pending_count mid + more_writes (by_older mid)) (save_syncs (by_older mid))
-      → DeviceBegins old new (2 * length (updated_ones b) + (each_writes (by_older old) * changed_count old b + more_writes (by_older old))) (save_syncs (by_older old))
-  save_begins first then = more (each_writes (by_older old) * changed_count old b + more_writes (by_older old)) (save_syncs (by_older old))
+      → DeviceBegins old new
+      (spill_writes (by_older old) * length (updated_ones b) + (each_writes (by_older old) * changed_count old b + more_writes (by_older old)))
+      (save_syncs (by_older old))
+  save_begins first then =
+      more (spill_writes (by_older old) * length (updated_ones b)) (each_writes (by_older old) * changed_count old b + more_writes (by_older old))
+      (save_syncs (by_older old)) first
       (subst (λ n. DeviceBegins mid new (each_writes (by_older old) * n + more_writes (by_older old)) (save_syncs (by_older old))) changed
       (subst (λ t. DeviceBegins mid new (each_writes t * pending_count mid + more_writes t) (save_syncs t)) older then))
     where
-      more : (x y : ℕ) → DeviceBegins mid new x y → DeviceBegins old new (2 * length (updated_ones b) + x) y
-      more x y begins = record { few_writes = omega (arith, first.few_writes, begins.few_writes); few_syncs = omega (arith, first.few_syncs, begins.few_syncs) }
+      more : (a x y : ℕ) → DeviceBegins old mid a 0 → DeviceBegins mid new x y → DeviceBegins old new (a + x) y
+      more a x y spills begins = record { few_writes = omega (arith, spills.few_writes, begins.few_writes); few_syncs = omega (arith, spills.few_syncs, begins.few_syncs) }
 
--- of the spills alone
-pub spilled_begins : {D : Type 0} {G : Ghosts D} (old new : Store D G) (n x y : ℕ) → DeviceBegins old new n 0 → DeviceBegins old new (n + x) y
-spilled_begins old new n x y begins = record { few_writes = omega (arith, begins.few_writes); few_syncs = omega (arith, begins.few_syncs) }
+-- a spill after a read
+module _ {D : Type 0} (G : Ghosts D) (old mid new : Store D G) (on : Continues old mid) where
+  pub fetched_begins : DeviceBegins old mid 0 0 → DeviceBegins mid new (spill_writes (by_older mid)) 0 → DeviceBegins old new (spill_writes (by_older old)) 0
+  fetched_begins first then = sum (spill_writes (by_older old)) (subst (λ t. DeviceBegins mid new (spill_writes t) 0) (ap is_size on.sectors) then)
+    where
+      sum : (x : ℕ) → DeviceBegins mid new x 0 → DeviceBegins old new x 0
+      sum x begins = record { few_writes = omega (arith, first.few_writes, begins.few_writes); few_syncs = omega (arith, first.few_syncs, begins.few_syncs) }
 
-pub spilled_reads : {D : Type 0} {G : Ghosts D} (old new : Store D G) (x : ℕ) → DeviceReads old new 0 → DeviceReads old new x
-spilled_reads old new x reads = omega (arith, reads)
+  pub fetched_reads : DeviceReads old mid 2 → DeviceReads mid new (spill_reads (by_older mid)) → DeviceReads old new (2 + spill_reads (by_older old))
+  fetched_reads first then = sum (spill_reads (by_older old)) (subst (λ t. DeviceReads mid new (spill_reads t)) (ap is_size on.sectors) then)
+    where
+      sum : (x : ℕ) → DeviceReads mid new x → DeviceReads old new (2 + x)
+      sum x reads = omega (arith, first, reads)
+
+-- one spill more, after some
+module _ {D : Type 0} (G : Ghosts D) (old mid new : Store D G) (on : Continues old mid) (n : ℕ) where
+  pub begun_more : {m : ℕ} → m ≡ n + 1 → DeviceBegins old mid (spill_writes (by_older old) * n) 0 → DeviceBegins mid new (spill_writes (by_older mid)) 0
+      → DeviceBegins old new (spill_writes (by_older old) * m) 0
+  begun_more one so_far more = spills_begin G (device_of old) (device_of mid) (device_of new) (by_older old) n one so_far
+      (subst (λ t. DeviceBegins mid new (spill_writes t) 0) (ap is_size on.sectors) more)
+
+  pub read_more : {m : ℕ} → m ≡ n + 1 → DeviceReads old mid (spill_reads (by_older old) * n) → DeviceReads mid new (spill_reads (by_older mid))
+      → DeviceReads old new (spill_reads (by_older old) * m)
+  read_more one so_far more = spills_read G (device_of old) (device_of mid) (device_of new) (by_older old) n one so_far
+      (subst (λ t. DeviceReads mid new (spill_reads t)) (ap is_size on.sectors) more)
+
+-- spills, and then a commit
+module _ {D : Type 0} (G : Ghosts D) (old mid new : Store D G) (on : Continues old mid) (n : ℕ) (few : pending_count mid ≤ pending_count old + n) where
+  pub all_begins : DeviceBegins old mid (spill_writes (by_older old) * n) 0
+      → DeviceBegins mid new (each_writes (by_older mid) * pending_count mid + more_writes (by_older mid)) (save_syncs (by_older mid))
+      → DeviceBegins old new (2 * pending_count old + 4 * n + 3) 4
+  all_begins first then = most_begins G (device_of old) (device_of mid) (device_of new) (by_older old) n (pending_count old) (pending_count mid) few first
+      (subst (λ t. DeviceBegins mid new (each_writes t * pending_count mid + more_writes t) (save_syncs t)) (ap is_size on.sectors) then)
+
+  pub all_reads : DeviceReads old mid (spill_reads (by_older old) * n) → DeviceReads mid new (each_reads (by_older mid) * pending_count mid)
+      → DeviceReads old new (4 * pending_count old + 4 * n)
+  all_reads first then = most_reads G (device_of old) (device_of mid) (device_of new) (by_older old) n (pending_count old) (pending_count mid) few first
+      (subst (λ t. DeviceReads mid new (each_reads t * pending_count mid)) (ap is_size on.sectors) then)
 
 -- ---- what a save wears
 
 -- it stopped at a spill
 pub unspilled_wears : {D : Type 0} (G : Ghosts D) (old new : D) (before : List Assigned) → G.sector_count new ≡ G.sector_count old
-    → BeginsAtMost G old new (2 * length before + 2) 0 → ReadsAtMost G old new 0 → WearsAtMost G old new (add_wear (spills_wear before) spill_wear)
+    → BeginsAtMost G old new (spill_writes (is_size (G.sector_count old)) * (length before + 1)) 0
+    → ReadsAtMost G old new (spill_reads (is_size (G.sector_count old)) * (length before + 1))
+    → WearsAtMost G old new (add_wear (spills_wear before) spill_wear)
 unspilled_wears G old new before sectors begins reads =
     subst (λ w. WearsAtMost G old new (add_wear w spill_wear)) (sym (spills_counted before))
-    (wears_by G old new 0 (length before + 1) sectors (record { few_writes = omega (arith, begins.few_writes); few_syncs = begins.few_syncs }) reads)
+    (spills_by G old new (length before + 1) sectors begins reads)
 
 -- it came to the commit
 module _ {D : Type 0} (G : Ghosts D) (old : D) (mid new : Store D G) (b : Buffers) (all : Maps) (stands : StandsFor mid all) (is_open : closed_of mid ≡ false)
     (sectors : G.sector_count (device_of mid) ≡ G.sector_count old) (more_sectors : G.sector_count (device_of new) ≡ G.sector_count (device_of mid))
-    (first : BeginsAtMost G old (device_of mid) (2 * length (updated_ones b)) 0) (first_reads : ReadsAtMost G old (device_of mid) 0)
+    (first : BeginsAtMost G old (device_of mid) (spill_writes (is_size (G.sector_count old)) * length (updated_ones b)) 0)
+    (first_reads : ReadsAtMost G old (device_of mid) (spill_reads (is_size (G.sector_count old)) * length (updated_ones b)))
     (then : DeviceBegins mid new (each_writes (by_older mid) * pending_count mid + more_writes (by_older mid)) (save_syncs (by_older mid)))
     (then_reads : DeviceReads mid new (each_reads (by_older mid) * pending_count mid)) where
   spills : WearsAtMost G old (device_of mid) (spills_wear (updated_ones b))
   spills = subst (λ w. WearsAtMost G old (device_of mid) w) (sym (spills_counted (updated_ones b)))
-      (wears_by G old (device_of mid) 0 (length (updated_ones b)) sectors first first_reads)
+      (spills_by G old (device_of mid) (length (updated_ones b)) sectors first first_reads)
 
   commits : WearsAtMost G (device_of mid) (device_of new) (commit_wear (pending_count mid))
   commits = record {

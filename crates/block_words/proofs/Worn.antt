@@ -12,7 +12,7 @@ use Rattle.block_words.specs.Words.{Wear, no_wear, add_wear, spill_wear, commit_
 use Rattle.block_words.specs.Calls.{WearsAtMost, reads_of, writes_of}
 use Rattle.journal.specs.Calls.{BeginsAtMost, ReadsAtMost}
 use Rattle.recovery.specs.Label.{is_size}
-use Rattle.journal.specs.Costs.{each_reads, each_writes, more_writes, save_syncs}
+use Rattle.journal.specs.Costs.{each_reads, each_writes, more_writes, save_syncs, spill_reads, spill_writes}
 
 pub none_more : (w : Wear) → add_wear w no_wear ≡ w
 none_more w =
@@ -39,17 +39,79 @@ wear_assoc a b c =
     λ t. record { reads = reads t; spills = spills t; commits = commits t; committed = committed t }
 
 module _ {D : Type 0} (G : Ghosts D) where
-  -- so many blocks were read and spilled
-  pub wears_by : (d e : D) (reads spills : ℕ) → G.sector_count e ≡ G.sector_count d → BeginsAtMost G d e (2 * spills) 0 → ReadsAtMost G d e (2 * reads)
-      → WearsAtMost G d e (record { reads = reads; spills = spills; commits = 0; committed = 0 })
-  wears_by d e reads spills sectors begins few = record {
-    sectors = sectors;
-    begins = record { few_writes = omega (arith, begins.few_writes); few_syncs = omega (arith, begins.few_syncs) };
-    reads = omega (arith, few);
-  }
+  -- so many blocks were read
+  pub reads_by : (d e : D) (reads : ℕ) → G.sector_count e ≡ G.sector_count d → BeginsAtMost G d e 0 0 → ReadsAtMost G d e (2 * reads)
+      → WearsAtMost G d e (record { reads = reads; spills = 0; commits = 0; committed = 0 })
+  reads_by d e reads sectors begins few =
+      let t = is_size (G.sector_count d) in
+      record {
+        sectors = sectors;
+        begins = record {
+          few_writes = writes t ((G.counts d).writes) ((G.counts e).writes) begins.few_writes;
+          few_syncs = syncs t ((G.counts d).syncs) ((G.counts e).syncs) begins.few_syncs;
+        };
+        reads = more t ((G.counts d).reads) ((G.counts e).reads) few;
+      }
+    where
+      writes : (t : Bool) (x y : ℕ) → y ≤ x + 0 → y ≤ x + (spill_writes t * 0 + (each_writes t * 0 + more_writes t * 0))
+      writes true x y p = omega (arith, p)
+      writes false x y p = omega (arith, p)
+
+      syncs : (t : Bool) (x y : ℕ) → y ≤ x + 0 → y ≤ x + save_syncs t * 0
+      syncs true x y p = omega (arith, p)
+      syncs false x y p = omega (arith, p)
+
+      more : (t : Bool) (x y : ℕ) → y ≤ x + 2 * reads → y ≤ x + (2 * reads + (spill_reads t * 0 + each_reads t * 0))
+      more true x y p = omega (arith, p)
+      more false x y p = omega (arith, p)
+
+  -- so many were spilled
+  pub spills_by : (d e : D) (spills : ℕ) → G.sector_count e ≡ G.sector_count d
+      → BeginsAtMost G d e (spill_writes (is_size (G.sector_count d)) * spills) 0 → ReadsAtMost G d e (spill_reads (is_size (G.sector_count d)) * spills)
+      → WearsAtMost G d e (record { reads = 0; spills = spills; commits = 0; committed = 0 })
+  spills_by d e spills sectors begins few =
+      let t = is_size (G.sector_count d) in
+      record {
+        sectors = sectors;
+        begins = record {
+          few_writes = writes t ((G.counts d).writes) ((G.counts e).writes) begins.few_writes;
+          few_syncs = syncs t ((G.counts d).syncs) ((G.counts e).syncs) begins.few_syncs;
+        };
+        reads = more t ((G.counts d).reads) ((G.counts e).reads) few;
+      }
+    where
+      writes : (t : Bool) (x y : ℕ) → y ≤ x + spill_writes t * spills → y ≤ x + (spill_writes t * spills + (each_writes t * 0 + more_writes t * 0))
+      writes true x y p = omega (arith, p)
+      writes false x y p = omega (arith, p)
+
+      syncs : (t : Bool) (x y : ℕ) → y ≤ x + 0 → y ≤ x + save_syncs t * 0
+      syncs true x y p = omega (arith, p)
+      syncs false x y p = omega (arith, p)
+
+      more : (t : Bool) (x y : ℕ) → y ≤ x + spill_reads t * spills → y ≤ x + (2 * 0 + (spill_reads t * spills + each_reads t * 0))
+      more true x y p = omega (arith, p)
+      more false x y p = omega (arith, p)
+
+  -- one was spilled
+  pub spill_by : (d e : D) → G.sector_count e ≡ G.sector_count d
+      → BeginsAtMost G d e (spill_writes (is_size (G.sector_count d))) 0 → ReadsAtMost G d e (spill_reads (is_size (G.sector_count d)))
+      → WearsAtMost G d e spill_wear
+  spill_by d e sectors begins few =
+      let t = is_size (G.sector_count d) in
+      spills_by d e 1 sectors
+      (record { few_writes = writes t ((G.counts d).writes) ((G.counts e).writes) begins.few_writes; few_syncs = begins.few_syncs })
+      (more t ((G.counts d).reads) ((G.counts e).reads) few)
+    where
+      writes : (t : Bool) (x y : ℕ) → y ≤ x + spill_writes t → y ≤ x + spill_writes t * 1
+      writes true x y p = omega (arith, p)
+      writes false x y p = omega (arith, p)
+
+      more : (t : Bool) (x y : ℕ) → y ≤ x + spill_reads t → y ≤ x + spill_reads t * 1
+      more true x y p = omega (arith, p)
+      more false x y p = omega (arith, p)
 
   pub wears_none : (d : D) → WearsAtMost G d d no_wear
-  wears_none d = wears_by d d 0 0 refl (record { few_writes = omega arith; few_syncs = omega arith }) (omega arith)
+  wears_none d = reads_by d d 0 refl (record { few_writes = omega arith; few_syncs = omega arith }) (omega arith)
 
   pub wears_then : (a b d : D) (wear more : Wear) → WearsAtMost G a b wear → WearsAtMost G b d more → WearsAtMost G a d (add_wear wear more)
   wears_then a b d wear more one two =

@@ -13,7 +13,7 @@ use Rattle.block_buffers.specs.Buffers.{Buffers}
 use Rattle.block_words.specs.declared.buffered_blocks.BlockFault.{BlockFault}
 use Rattle.block_words.specs.declared.buffered_blocks.BlockFault.TheVariants.{Device}
 use Rattle.recovery.specs.Label.{is_size}
-use Rattle.journal.specs.Costs.{each_reads, each_writes, more_writes, save_syncs}
+use Rattle.journal.specs.Costs.{each_reads, each_writes, more_writes, save_syncs, spill_reads, spill_writes}
 use Rattle.block_words.specs.Words.{Answer, Save, Wear, add_wear, Blocks, BlockOutcome, Gives, Fails}
 use Rattle.block_words.specs.Kept.{KeptFrom, last_map}
 
@@ -53,16 +53,16 @@ pub record WordRuns {A : Type 0} (word : Blocks → BlockOutcome A) (result : Re
       → word (state m buffers space (answers ++ rest) failures before saves)
       ≡ ended result (state m' buffers' space' rest (failures_after result failures) (add_wear before wear) (saves ++ made))
 
--- the writes of so many spills, and of these commits
+-- the writes and the reads of so many spills, and of these commits
 abbrev pub writes_of : Bool → Wear → ℕ
-writes_of older wear = 2 * wear.spills + (each_writes older * wear.committed + more_writes older * wear.commits)
+writes_of older wear = spill_writes older * wear.spills + (each_writes older * wear.committed + more_writes older * wear.commits)
 
 abbrev pub reads_of : Bool → Wear → ℕ
-reads_of older wear = 2 * wear.reads + each_reads older * wear.committed
+reads_of older wear = 2 * wear.reads + (spill_reads older * wear.spills + each_reads older * wear.committed)
 
 module _ {D : Type 0} (G : Ghosts D) where
-  -- The device began no more calls of each kind than these take by the layout that its size tells, which it keeps: two for each
-  -- block that is read or spilled, and what a commit takes.
+  -- The device began no more calls of each kind than these take by the layout that its size tells, which it keeps: two reads for each
+  -- block that is read, and what a spill and a commit take.
   pub record WearsAtMost (old new : D) (wear : Wear) : Type 0 where
     pub sectors : G.sector_count new ≡ G.sector_count old
     pub begins : BeginsAtMost G old new (writes_of (is_size (G.sector_count old)) wear) (save_syncs (is_size (G.sector_count old)) * wear.commits)

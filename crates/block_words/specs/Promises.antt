@@ -2,7 +2,7 @@
 use Rattle.std.specs.Prelude.{◌≡◌, ◌⊎◌, ◌↔◌, ◌≤◌, ◌+◌, ◌*◌, ℕ, true, false, List, [], length, Result, IsOk, IsErr, IfErr, OnOk, IsErrOf, IsSome}
 use Rattle.sector_disk.specs.declared.device.SectorDevice.{Ghosts}
 use Rattle.journal.specs.declared.store.Store.{Store}
-use Rattle.journal.specs.Costs.{each_reads, each_writes, more_writes, save_syncs}
+use Rattle.journal.specs.Costs.{each_reads, each_writes, more_writes, save_syncs, spill_reads, spill_writes}
 use Rattle.journal.specs.Store.{Continues, DeviceBegins, DeviceReads, KeepsSaved, blocks_of, by_older, is_pending, pending_count, device_of, closed_of}
 use Rattle.block_buffers.specs.Buffers.{Buffers, slot_of, updated_ones}
 use Rattle.block_words.specs.declared.buffered_blocks.BlockFault.{BlockFault}
@@ -53,10 +53,10 @@ module _ {D : Type 0} {G : Ghosts D} where
     pub continues : Continues old new
     -- nothing is left to save
     pub pending : OnOk result ((u : ℕ) → is_pending new u ≡ false)
-    -- two writes for each updated buffer, and what a commit takes by the layout
+    -- what a spill takes for each updated buffer, and what a commit takes by the layout
     pub begins : DeviceBegins old new
-        (2 * length (updated_ones buffers) + (each_writes (by_older old) * changed_count old buffers + more_writes (by_older old)))
+        (spill_writes (by_older old) * length (updated_ones buffers) + (each_writes (by_older old) * changed_count old buffers + more_writes (by_older old)))
         (save_syncs (by_older old))
-    pub reads : DeviceReads old new (each_reads (by_older old) * changed_count old buffers)
+    pub reads : DeviceReads old new (spill_reads (by_older old) * length (updated_ones buffers) + each_reads (by_older old) * changed_count old buffers)
     -- with nothing to save the device isn't called
     pub nothing : updated_ones buffers ≡ [] → pending_count old ≡ 0 → device_of new ≡ device_of old

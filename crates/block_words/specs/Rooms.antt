@@ -1,5 +1,5 @@
 -- The steps of the code: room for a new buffer, and spills up to one that fails. No public contract cites these.
-use Rattle.std.specs.Prelude.{◌≡◌, ◌++◌, ◌+◌, ◌*◌, ℕ, length, Bool, true, false, ◌&&◌, List, [], ◌∷◌, Option, Some, None, nat_lt, Result, Ok, Err}
+use Rattle.std.specs.Prelude.{◌≡◌, ◌++◌, ◌+◌, ℕ, length, Bool, true, false, ◌&&◌, List, [], ◌∷◌, Option, Some, None, nat_lt, Result, Ok, Err}
 use Rattle.data_space.specs.Space.{buffer_at, buffer_bytes, with_bytes}
 use Rattle.journal.specs.Maps.{Maps, spilled}
 use Rattle.block_buffers.specs.declared.buffers.Assigned.{Assigned}
@@ -39,11 +39,11 @@ abbrev pub filled_in : Result ℕ BlockFault → List ℕ → List ℕ → List 
 filled_in (Ok slot) space bytes = with_bytes space (buffer_at slot) bytes
 filled_in (Err fault) space bytes = space
 
--- A spill failed: those before it are spilled, and with this one the device began so many writes at most.
-pub record SpillFails (xs : List Assigned) (stands : List Assigned → Type 0) (writes : ℕ → Type 0) : Type 0 where
+-- A spill failed: those before it are spilled, and no more was begun than these and this one take.
+pub record SpillFails (xs : List Assigned) (stands : List Assigned → Type 0) (begun : ℕ → Type 0) : Type 0 where
   pub before : List Assigned
   pub this : Assigned
   pub after : List Assigned
   pub split : xs ≡ before ++ this ∷ after
   pub shut_so : stands before
-  pub begins : writes (2 * length before + 2)
+  pub begins : begun (length before + 1)

@@ -1,7 +1,8 @@
 // A buffer for a block that has none.
-ghost use Rattle.std.specs.Prelude.{◌≡◌, ◌⊎◌, ◌<◌, ◌↔◌, [], None, true, false, replicate, List, ℕ, OnOk, OnErr, IfOk, IfErr, IsErrOf, MatchResult};
+ghost use Rattle.std.specs.Prelude.{◌≡◌, ◌⊎◌, ◌<◌, ◌+◌, ◌↔◌, [], None, true, false, replicate, List, ℕ, OnOk, OnErr, IfOk, IfErr, IsErrOf, MatchResult};
 ghost use Rattle.journal.specs.Maps.{Maps, shut};
-ghost use Rattle.journal.specs.Store.{device_of, blocks_of, closed_of, StandsFor, Continues, DeviceFailed, DeviceWentWell, DeviceBegins, DeviceReads, KeepsSaved};
+ghost use Rattle.journal.specs.Costs.{spill_reads, spill_writes};
+ghost use Rattle.journal.specs.Store.{device_of, blocks_of, by_older, closed_of, StandsFor, Continues, DeviceFailed, DeviceWentWell, DeviceBegins, DeviceReads, KeepsSaved};
 ghost use Rattle.data_space.specs.Space.{buffer_at, with_bytes};
 ghost use Rattle.block_buffers.specs.Buffers.{oldest, assigned, slot_for, placed, IsValid};
 ghost use Rattle.block_words.specs.Words.{assign, block, buffer};
@@ -44,8 +45,8 @@ fn make_room<D: SectorDevice>(
     ensures well { OnOk result (DeviceWentWell store.old store.new) }
     ensures stops { KeepsSaved store.old store.new }
     ensures continues { Continues store.old store.new }
-    ensures begins { DeviceBegins store.old store.new 2 0 }
-    ensures reads { DeviceReads store.old store.new 0 }
+    ensures begins { DeviceBegins store.old store.new (spill_writes (by_older store.old)) 0 }
+    ensures reads { DeviceReads store.old store.new (spill_reads (by_older store.old)) }
     ensures wears { WearsAtMost D.SectorDevice (device_of store.old) (device_of store.new)
         (room_wear (is_updated (oldest buffers.now))) }
 {
@@ -85,8 +86,8 @@ fn assign_slot<D: SectorDevice>(
     ensures pending { OnOk result (PendingOnceReplaced store.old store.new (oldest buffers.old)) }
     ensures failures { TellsFailures result store.old store.new }
     ensures continues { Continues store.old store.new }
-    ensures begins { DeviceBegins store.old store.new 2 0 }
-    ensures reads { DeviceReads store.old store.new 0 }
+    ensures begins { DeviceBegins store.old store.new (spill_writes (by_older store.old)) 0 }
+    ensures reads { DeviceReads store.old store.new (spill_reads (by_older store.old)) }
 {
     match make_room(store, buffers, space) {
         Ok(()) => match buffers.place(u) {
@@ -142,8 +143,8 @@ pub(crate) fn fetch<D: SectorDevice>(
     ensures opened { OnOk result (closed_of store.new ≡ closed_of store.old) }
     ensures pending { OnOk result (PendingOnceReplaced store.old store.new (oldest buffers.old)) }
     ensures continues { Continues store.old store.new }
-    ensures begins { DeviceBegins store.old store.new 2 0 }
-    ensures reads { DeviceReads store.old store.new 2 }
+    ensures begins { DeviceBegins store.old store.new (spill_writes (by_older store.old)) 0 }
+    ensures reads { DeviceReads store.old store.new (2 + spill_reads (by_older store.old)) }
 {
     let mut bytes = [0; 1024];
     match store.read_block(u, &mut bytes) {
@@ -182,8 +183,8 @@ pub(crate) fn blank<D: SectorDevice>(
     ensures opened { OnOk result (closed_of store.new ≡ closed_of store.old) }
     ensures pending { OnOk result (PendingOnceReplaced store.old store.new (oldest buffers.old)) }
     ensures continues { Continues store.old store.new }
-    ensures begins { DeviceBegins store.old store.new 2 0 }
-    ensures reads { DeviceReads store.old store.new 0 }
+    ensures begins { DeviceBegins store.old store.new (spill_writes (by_older store.old)) 0 }
+    ensures reads { DeviceReads store.old store.new (spill_reads (by_older store.old)) }
 {
     if store.is_closed() {
         return Err(BlockFault::Closed);

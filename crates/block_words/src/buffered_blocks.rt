@@ -2,7 +2,8 @@
 ghost use Rattle.std.specs.Prelude.{◌≡◌, ◌↔◌, List, [], ℕ, true, false, Some, None, Ok, length, is_ok, IfOk, IfErr, OnOk, OnErr, IsErrOf, IsSome, IfSome, MatchResult};
 ghost use Rattle.std.proofs.Props.{props};
 ghost use Rattle.journal.specs.Maps.{Maps};
-ghost use Rattle.journal.specs.Store.{blocks_of, closed_of, kept_of, is_text_of, StandsFor, DeviceBegins, DeviceReads, KeepsSaved, SamePending};
+ghost use Rattle.journal.specs.Costs.{spill_reads, spill_writes};
+ghost use Rattle.journal.specs.Store.{blocks_of, by_older, closed_of, kept_of, is_text_of, StandsFor, DeviceBegins, DeviceReads, KeepsSaved, SamePending};
 ghost use Rattle.data_space.specs.Space.{buffer_at, buffer_bytes};
 ghost use Rattle.block_buffers.specs.Buffers.{slot_of, none_assigned, unmarked, after_mark, IsValid};
 ghost use Rattle.block_words.specs.Words.{block, buffer, update, save_buffers, flush, has_unsaved, source, next_map};
@@ -138,8 +139,8 @@ impl<D: SectorDevice> Blocks<D> {
 
         ensures pending { OnOk result
             (PendingOnceReplaced (store_of self.old) (store_of self.new) (replaced (buffers_of self.old) u)) }
-        ensures begins { DeviceBegins (store_of self.old) (store_of self.new) 2 0 }
-        ensures reads { DeviceReads (store_of self.old) (store_of self.new) 2 }
+        ensures begins { DeviceBegins (store_of self.old) (store_of self.new) (spill_writes (by_older (store_of self.old))) 0 }
+        ensures reads { DeviceReads (store_of self.old) (store_of self.new) (2 + spill_reads (by_older (store_of self.old))) }
     {
         // That there is no such block is said also of a closed store.
         if u >= self.store.blocks() {
@@ -168,8 +169,8 @@ impl<D: SectorDevice> Blocks<D> {
 
         ensures pending { OnOk result
             (PendingOnceReplaced (store_of self.old) (store_of self.new) (replaced (buffers_of self.old) u)) }
-        ensures begins { DeviceBegins (store_of self.old) (store_of self.new) 2 0 }
-        ensures reads { DeviceReads (store_of self.old) (store_of self.new) 0 }
+        ensures begins { DeviceBegins (store_of self.old) (store_of self.new) (spill_writes (by_older (store_of self.old))) 0 }
+        ensures reads { DeviceReads (store_of self.old) (store_of self.new) (spill_reads (by_older (store_of self.old))) }
     {
         if u >= self.store.blocks() {
             return Err(BlockFault::NoBlock);

@@ -1,7 +1,8 @@
 // Saving all that was updated or spilled.
-ghost use Rattle.std.specs.Prelude.{◌≡◌, ◌*◌, ◌||◌, ℕ, [], true, false, length, is_ok, if◌then◌else◌, OnOk, OnErr, IsOk, IsErrOf};
+ghost use Rattle.std.specs.Prelude.{◌≡◌, ◌*◌, ◌×◌, ◌||◌, ℕ, [], true, false, length, is_ok, if◌then◌else◌, OnOk, OnErr, IsOk, IsErrOf};
 ghost use Rattle.journal.specs.Maps.{Maps, shut};
-ghost use Rattle.journal.specs.Store.{blocks_of, closed_of, StandsFor, Continues, DeviceFailed, DeviceWentWell, DeviceBegins, DeviceReads, KeepsSaved, is_pending, device_of};
+ghost use Rattle.journal.specs.Costs.{spill_reads, spill_writes};
+ghost use Rattle.journal.specs.Store.{blocks_of, by_older, closed_of, StandsFor, Continues, DeviceFailed, DeviceWentWell, DeviceBegins, DeviceReads, KeepsSaved, is_pending, device_of};
 ghost use Rattle.block_buffers.specs.Buffers.{Buffers as Held, updated_ones};
 ghost use Rattle.block_words.specs.Words.{all_spilled, next_map, save_and};
 ghost use Rattle.block_words.specs.Promises.{Saves};
@@ -28,7 +29,8 @@ fn spill_updated<D: SectorDevice>(
     ensures fault { (m : Maps) → StandsFor store.old m
         → OnErr result (SpillFails (updated_ones buffers.now)
         (λ before. StandsFor store.new (shut (all_spilled before space.now m)))
-        (λ writes. DeviceBegins store.old store.new writes 0)) }
+        (λ spills. DeviceBegins store.old store.new (spill_writes (by_older store.old) * spills) 0
+        × DeviceReads store.old store.new (spill_reads (by_older store.old) * spills))) }
     ensures only { OnErr result (IsErrOf result BlockFault.Device) }
     ensures opened { OnOk result (closed_of store.new ≡ false) }
     ensures device { OnErr result (DeviceFailed store.old store.new) }
@@ -38,8 +40,8 @@ fn spill_updated<D: SectorDevice>(
     ensures shuts { OnErr result (closed_of store.new ≡ true) }
     ensures pending { OnOk result
         ((u : ℕ) → is_pending store.new u ≡ (is_among (updated_ones buffers.now) u || is_pending store.old u)) }
-    ensures begins { DeviceBegins store.old store.new (2 * length (updated_ones buffers.now)) 0 }
-    ensures reads { DeviceReads store.old store.new 0 }
+    ensures begins { DeviceBegins store.old store.new (spill_writes (by_older store.old) * length (updated_ones buffers.now)) 0 }
+    ensures reads { DeviceReads store.old store.new (spill_reads (by_older store.old) * length (updated_ones buffers.now)) }
     ensures nothing { updated_ones buffers.now ≡ [] → IsOk result }
     ensures unasked { updated_ones buffers.now ≡ [] → device_of store.new ≡ device_of store.old }
 {

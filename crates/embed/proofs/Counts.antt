@@ -6,7 +6,7 @@ use Rattle.sector_disk.specs.declared.device.SectorDevice.{Ghosts}
 use Rattle.journal.specs.Layout.{count_below}
 use Rattle.recovery.specs.Label.{is_size}
 use Rattle.journal.specs.declared.store.Store.{Store}
-use Rattle.journal.specs.Costs.{each_reads, each_writes, more_writes, save_syncs}
+use Rattle.journal.specs.Costs.{each_reads, each_writes, more_writes, save_syncs, spill_reads, spill_writes}
 use Rattle.journal.specs.Store.{Continues, DeviceBegins, DeviceReads, by_older, device_of, pending_count}
 use Rattle.block_words.specs.Calls.{WearsAtMost, reads_of, writes_of}
 use Rattle.block_words.specs.Words.{Wear}
@@ -55,25 +55,27 @@ count_none p (suc n) none = ap (λ t. cond t (count_below p n + 1) (count_below 
 
 -- spills, and then a commit
 module _ {D : Type 0} (G : Ghosts D) (old mid new : Store D G) (count : ℕ) (on : Continues old mid) (few : pending_count mid ≤ count) where
-  pub saves_at_most : DeviceBegins old mid (2 * count) 0 → DeviceReads old mid 0
+  pub saves_at_most : DeviceBegins old mid (spill_writes (by_older old) * count) 0 → DeviceReads old mid (spill_reads (by_older old) * count)
       → DeviceBegins mid new (each_writes (by_older mid) * pending_count mid + more_writes (by_older mid)) (save_syncs (by_older mid))
       → DeviceReads mid new (each_reads (by_older mid) * pending_count mid)
       → SavesAtMost G (device_of old) (device_of new) count
   saves_at_most first first_reads then then_reads =
-      by (by_older old)
+      by (by_older old) first first_reads
       (subst (λ t. DeviceBegins mid new (each_writes t * pending_count mid + more_writes t) (save_syncs t)) (ap is_size on.sectors) then)
       (subst (λ t. DeviceReads mid new (each_reads t * pending_count mid)) (ap is_size on.sectors) then_reads)
     where
-      by : (t : Bool) → DeviceBegins mid new (each_writes t * pending_count mid + more_writes t) (save_syncs t)
+      by : (t : Bool) → DeviceBegins old mid (spill_writes t * count) 0 → DeviceReads old mid (spill_reads t * count)
+          → DeviceBegins mid new (each_writes t * pending_count mid + more_writes t) (save_syncs t)
           → DeviceReads mid new (each_reads t * pending_count mid)
-          → Begins G (device_of old) (device_of new) (2 * count + (each_writes t * count + more_writes t)) (save_syncs t) (each_reads t * count)
-      by true begins reads = record {
-        begins = record { few_writes = omega (arith, first.few_writes, begins.few_writes, few); few_syncs = omega (arith, first.few_syncs, begins.few_syncs) };
-        reading = omega (arith, first_reads, reads, few);
+          → Begins G (device_of old) (device_of new) (spill_writes t * count + (each_writes t * count + more_writes t)) (save_syncs t)
+          (spill_reads t * count + each_reads t * count)
+      by true spills before begins reads = record {
+        begins = record { few_writes = omega (arith, spills.few_writes, begins.few_writes, few); few_syncs = omega (arith, spills.few_syncs, begins.few_syncs) };
+        reading = omega (arith, before, reads, few);
       }
-      by false begins reads = record {
-        begins = record { few_writes = omega (arith, first.few_writes, begins.few_writes, few); few_syncs = omega (arith, first.few_syncs, begins.few_syncs) };
-        reading = omega (arith, first_reads, reads, few);
+      by false spills before begins reads = record {
+        begins = record { few_writes = omega (arith, spills.few_writes, begins.few_writes, few); few_syncs = omega (arith, spills.few_syncs, begins.few_syncs) };
+        reading = omega (arith, before, reads, few);
       }
 
 -- an opening, and then a save

@@ -5,18 +5,18 @@ use Rattle.journal.specs.Calls.{BeginsAtMost, ReadsAtMost}
 use Rattle.block_words.specs.Calls.{reads_of, writes_of}
 use Rattle.block_words.specs.Words.{Wear}
 use Rattle.recovery.specs.Label.{is_size}
-use Rattle.journal.specs.Costs.{each_reads, each_writes, more_writes, save_syncs}
+use Rattle.journal.specs.Costs.{each_reads, each_writes, more_writes, save_syncs, spill_reads, spill_writes}
 use Rattle.stores.specs.Opened.{reads_for, syncs_for, writes_for}
 
 -- A save of so many blocks, on a device of so many sectors: each block is spilled, and then all are committed.
 abbrev pub writes_to_save : (sectors count : ℕ) → ℕ
-writes_to_save sectors count = 2 * count + (each_writes (is_size sectors) * count + more_writes (is_size sectors))
+writes_to_save sectors count = spill_writes (is_size sectors) * count + (each_writes (is_size sectors) * count + more_writes (is_size sectors))
 
 abbrev pub syncs_to_save : (sectors : ℕ) → ℕ
 syncs_to_save sectors = save_syncs (is_size sectors)
 
 abbrev pub reads_to_save : (sectors count : ℕ) → ℕ
-reads_to_save sectors count = each_reads (is_size sectors) * count
+reads_to_save sectors count = spill_reads (is_size sectors) * count + each_reads (is_size sectors) * count
 
 module _ {D : Type 0} (G : Ghosts D) where
   -- So many writes, syncs and reads were begun at most.

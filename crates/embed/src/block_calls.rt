@@ -5,7 +5,8 @@ ghost use Rattle.std.specs.List.{list_all};
 ghost use Rattle.sector_disk.specs.Counting.{count_up};
 ghost use Rattle.journal.specs.Calls.{StopsLeave};
 ghost use Rattle.journal.specs.Maps.{Maps, block_in, committed, latest};
-ghost use Rattle.journal.specs.Store.{MeansBy, StandsFor, Continues, DeviceBegins, DeviceReads, KeepsSaved, DeviceFailed, DeviceWentWell, blocks_of, closed_of, device_of, is_pending, pending_count};
+ghost use Rattle.journal.specs.Costs.{spill_reads, spill_writes};
+ghost use Rattle.journal.specs.Store.{MeansBy, StandsFor, Continues, DeviceBegins, DeviceReads, KeepsSaved, DeviceFailed, DeviceWentWell, blocks_of, by_older, closed_of, device_of, is_pending, pending_count};
 ghost use Rattle.journal.specs.Suits.{suits};
 ghost use Rattle.recovery.specs.Opened.{first_of};
 ghost use Rattle.shadow.specs.Label.{is_known_size};
@@ -187,8 +188,8 @@ fn spill_all<D: SectorDevice>(
     ensures failed { OnErr result (DeviceFailed store.old store.new) }
     ensures well { OnOk result (DeviceWentWell store.old store.new) }
     ensures pending { OnOk result (pending_count store.new ≤ pending_count store.old + length blocks.now) }
-    ensures begins { DeviceBegins store.old store.new (2 * length blocks.now) 0 }
-    ensures reads { DeviceReads store.old store.new 0 }
+    ensures begins { DeviceBegins store.old store.new (spill_writes (by_older store.old) * length blocks.now) 0 }
+    ensures reads { DeviceReads store.old store.new (spill_reads (by_older store.old) * length blocks.now) }
 {
     let mut rest = bytes;
     for block in blocks {

@@ -124,7 +124,7 @@ fn what_is_saved_is_read(rt: HostRuntime) -> Result<(), Fail> {
 // A read is 2 reads. A save of 2 blocks is as many writes, syncs and reads as the description of the image has steps.
 #[test]
 fn calls_of_the_device_are_few(rt: HostRuntime) -> Result<(), Fail> {
-    for (sectors, writes, syncs, reads) in [(131, 11, 4, 8), (544, 8, 2, 6)] {
+    for (sectors, writes, syncs, reads) in [(131, 11, 4, 8), (544, 8, 2, 2)] {
         let (first, second, third) = counted(rt.alloc(), sectors)?;
         let read = [
             second.writes.abs_diff(first.writes),

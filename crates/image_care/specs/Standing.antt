@@ -43,7 +43,7 @@ abbrev pub salvaged_block : Image → ℕ → List ℕ
 salvaged_block image b = salvaged_under (record_of image) image b
 
 -- The blocks that a salvage takes from an image of n blocks. Of a damaged image these are no blocks of one save: what stands in an
--- other place is older than what the record names, or of a save that wasn't finished.
+-- other place is older than what the record names, or was spilled and not saved.
 abbrev pub salvaged_blocks : ℕ → Image → List (List ℕ)
 salvaged_blocks n image = blocks_below (salvaged_block image) n
 

@@ -43,5 +43,5 @@ wears_within G old new wear most within wears = record {
     more_syncs false x y p = omega (arith, p, within.commits)
 
     more_reads : (t : Bool) (x y : ℕ) → y ≤ x + reads_of t wear → y ≤ x + reads_of t most
-    more_reads true x y p = omega (arith, p, within.reads, within.committed)
-    more_reads false x y p = omega (arith, p, within.reads, within.committed)
+    more_reads true x y p = omega (arith, p, within.reads, within.spills, within.committed)
+    more_reads false x y p = omega (arith, p, within.reads, within.spills, within.committed)

@@ -22,7 +22,7 @@ use Rattle.journal.specs.PageSteps.{InFree}
 use Rattle.journal.specs.Sizes.{is_size}
 use Rattle.journal.specs.Steps as journal_steps
 use Rattle.journal.specs.Steps.{WritesOnly, IsAsSynced, InSlots}
-use Rattle.journal.specs.Technique.{saved_at, spilled_at, saved_of, spilled_of, latest_of, sectors_for, is_journal, Means, HasBlocks, HasSaved, IsSound, InSpill, InSpills}
+use Rattle.journal.specs.Technique.{saved_at, spilled_at, saved_of, spilled_of, latest_of, record_sum, sectors_for, is_journal, Means, HasBlocks, HasSaved, IsSound, IsTagged, InSpill, InSpills}
 use Rattle.journal.specs.Suits.{suits}
 use Rattle.journal.specs.Store.{NamesLatest}
 use Rattle.journal.specs.declared.technique.NamedRecord.{NamedRecord}
@@ -36,6 +36,7 @@ use Rattle.journal.proofs.PageMeaning as pages_meaning
 use Rattle.journal.proofs.PageMeaning.{clean_sound, record_named}
 use Rattle.journal.proofs.Paging.{wider}
 use Rattle.journal.proofs.Sizes.{size_older, size_newer}
+use Rattle.journal.proofs.Spilled.{nothing_spilled}
 use Rattle.journal.proofs.Suited.{newer_suits, suits_newer, suits_older}
 use Rattle.journal.proofs.Stops.{places_apart, current_apart, before_gate, sound_kept}
 
@@ -178,6 +179,31 @@ pages_sound n named disk clean = record {
       subst (λ (x : NamedRecord). pages_steps.IsSound n x.is_open x.listing disk) same (clean_sound n named.is_open named.listing disk clean);
 }
 
+-- By layout 2 nothing has a tag.
+pub journal_tagged : (t : Technique) → t ≡ Journal → (n : ℕ) (pending sum : List ℕ) (image : Image) → IsTagged t n pending sum image
+journal_tagged t is n pending sum image = record { pages = λ named other. absurd (cc) }
+
+-- With nothing pending the sum is that of the record.
+pub rest_tagged : (t : Technique) (n : ℕ) (pending sum : List ℕ) (disk : Disk) → ((b : ℕ) → listed pending b ≡ false) → sum ≡ record_sum t → IsSound t n disk
+    → IsTagged t n pending sum disk.content
+rest_tagged Journal n pending sum disk none is sound = journal_tagged Journal refl n pending sum disk.content
+rest_tagged (Pages here) n pending sum disk none is sound = record {
+  pages = λ named other.
+      let same : here ≡ named = cc in
+      subst (λ (x : NamedRecord). pages_steps.HasSpilled n x.listing pending sum disk.content) same
+      (nothing_spilled n here.is_open here.listing pending sum disk none is (sound.pages here refl));
+}
+
+-- what a step makes of it by layout 3
+pub tagged_more : (t : Technique) (here : NamedRecord) → t ≡ Pages here → (n : ℕ) (pending sum next new : List ℕ) (i j : Image)
+    → (pages_steps.HasSpilled n here.listing pending sum i → pages_steps.HasSpilled n here.listing next new j)
+    → IsTagged t n pending sum i → IsTagged t n next new j
+tagged_more t here is n pending sum next new i j step before = record {
+  pages = λ named other.
+      let same : here ≡ named = cc in
+      subst (λ (x : NamedRecord). pages_steps.HasSpilled n x.listing next new j) same (step (before.pages here is));
+}
+
 -- the blocks that are saved there
 pub journal_blocks : (n : ℕ) (disk : Disk) → IsClean n disk → (b : ℕ) → b < n
     → block_in (journal_images.meaning n disk.content) b ≡ home_of n disk.content b
@@ -194,6 +220,10 @@ pages_blocks n is_open listing disk clean b below =
 pub on_ok : {T E : Type 0} (result : Result T E) {P Q : Type 0} → (P → Q) → OnOk result P → OnOk result Q
 on_ok (Ok x) f p = f p
 on_ok (Err e) f p = p
+
+pub on_three : {T E : Type 0} (result : Result T E) {P Q R S : Type 0} → (P → Q → R → S) → OnOk result P → OnOk result Q → OnOk result R → OnOk result S
+on_three (Ok x) f p q r = f p q r
+on_three (Err e) f p q r = p
 
 pub on_both : {T E : Type 0} (result : Result T E) {P Q R : Type 0} → (P → Q → R) → OnOk result P → OnOk result Q → OnOk result R
 on_both (Ok x) f p q = f p q

@@ -1,5 +1,5 @@
 -- Within this crate and shadow: the states of a disk of layout 3 between the steps of a save. What a store promises doesn't speak of them.
-use Rattle.std.specs.Prelude.{◌≡◌, ◌≢◌, ◌⊎◌, ℕ, ◌+◌, ◌<◌, Bool, true, false, not, if◌then◌else◌, List}
+use Rattle.std.specs.Prelude.{◌≡◌, ◌⊎◌, ℕ, ◌+◌, ◌<◌, Bool, true, false, not, if◌then◌else◌, List}
 use Rattle.sector_disk.specs.Disk.{Disk, Image}
 use Rattle.journal.specs.Layout.{listed}
 use Rattle.journal.specs.PageLayout.{label_of, gate_at, gate_open, gate_bytes, record_at, current_at, free_at, sum_in, HasFlipped}
@@ -54,17 +54,14 @@ pub record IsSound (n : ℕ) (is_open : Bool) (listing : List ℕ) (disk : Disk)
 abbrev pub merged : List ℕ → List ℕ → Image → ℕ → List ℕ
 merged listing pending image b = if listed pending b then free_of listing image b else current_of listing image b
 
--- the tag of what is pending, or else the one that is current
+-- the tag beside what is pending, or else the one that is current
 abbrev pub merged_tag : List ℕ → List ℕ → Image → ℕ → List ℕ
-merged_tag listing pending image b = if listed pending b then tag_of b (free_of listing image b) else current_tag listing image b
+merged_tag listing pending image b = if listed pending b then free_tag listing image b else current_tag listing image b
 
--- Each pending block below n has the tag of its bytes in its free place.
-abbrev pub HasTags : ℕ → List ℕ → List ℕ → Image → Image → Type 0
-HasTags n listing pending old new = (b : ℕ) → b < n → listed pending b ≡ true → free_tag listing new b ≡ tag_of b (free_of listing old b)
-
--- No sector was written but those of tags in free places.
-abbrev pub OnlyTags : List ℕ → Image → Image → Type 0
-OnlyTags listing old new = (k : ℕ) → ((b : ℕ) → k ≢ free_at listing b + 2) → new k ≡ old k
+-- Each pending block below n has the tag of its bytes beside it, and this is the sum of these tags and of the current ones of the others.
+pub record HasSpilled (n : ℕ) (listing pending sum : List ℕ) (image : Image) : Type 0 where
+  pub tags : (b : ℕ) → b < n → listed pending b ≡ true → free_tag listing image b ≡ tag_of b (free_of listing image b)
+  pub total : sum ≡ sum_below (merged_tag listing pending image) n
 
 -- What was pending is current by the other record, which the gate names, and nothing is unsynced.
 pub record HasSaved (n : ℕ) (is_open : Bool) (listing pending next : List ℕ) (old new : Disk) : Type 0 where

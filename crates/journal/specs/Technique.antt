@@ -1,5 +1,5 @@
 -- Where each technique has blocks, what an image means by it, and what a save makes of a disk.
-use Rattle.std.specs.Prelude.{◌≡◌, ℕ, ◌<◌, if◌then◌else◌, Bool, true, false, List}
+use Rattle.std.specs.Prelude.{◌≡◌, ◌≢◌, ℕ, ◌<◌, if◌then◌else◌, Bool, true, false, List, replicate}
 use Rattle.sector_disk.specs.Disk.{Disk, Image}
 use Rattle.sector_disk.specs.Pages.{InPage}
 use Rattle.journal.specs.Images as journal
@@ -61,6 +61,20 @@ HasBlocks (Pages named) = pages_steps.HasBlocks
 pub record IsSound (technique : Technique) (n : ℕ) (disk : Disk) : Type 0 where
   pub journal : technique ≡ Journal → journal_steps.IsSound n disk
   pub pages : (named : NamedRecord) → technique ≡ Pages named → pages_steps.IsSound n named.is_open named.listing disk
+
+-- the sum in the record that it names; by layout 2 there is none, and zeros stand for it
+abbrev pub record_sum : Technique → List ℕ
+record_sum Journal = replicate 32 0
+record_sum (Pages named) = pages_layout.sum_in named.listing
+
+-- By layout 3 each pending block has its tag, and this is the sum of the record that a save would write.
+pub record IsTagged (technique : Technique) (n : ℕ) (pending sum : List ℕ) (image : Image) : Type 0 where
+  pub pages : (named : NamedRecord) → technique ≡ Pages named → pages_steps.HasSpilled n named.listing pending sum image
+
+-- A list of blocks has block b too, and no other one more.
+pub record HasOneMore (pending : List ℕ) (b : ℕ) (next : List ℕ) : Type 0 where
+  pub here : listed next b ≡ true
+  pub others : (a : ℕ) → a ≢ b → listed next a ≡ listed pending a
 
 -- sector k may be spoiled by a spill of block b
 abbrev pub InSpill : Technique → ℕ → ℕ → Type 0

@@ -2,7 +2,7 @@
 ghost use Rattle.std.specs.Prelude.{◌≡◌, ◌≢◌, ◌==◌, ◌||◌, ◌<◌, ◌≤◌, ◌+◌, ◌*◌, ◌↔◌, ℕ, true, false, Some, length, replicate, IsTrue, OnOk, OnErr, IsOk, IsErr, IsErrOf, MatchResult, nat_lt};
 ghost use Rattle.sector_disk.specs.Disk.{Image, MayLeave};
 ghost use Rattle.journal.specs.Clean.{IsClean};
-ghost use Rattle.journal.specs.Costs.{each_reads, each_writes, more_writes, save_syncs};
+ghost use Rattle.journal.specs.Costs.{each_reads, each_writes, more_writes, save_syncs, spill_reads, spill_writes};
 ghost use Rattle.journal.specs.Images.{meaning};
 ghost use Rattle.journal.specs.Layout as journal_layout;
 ghost use Rattle.journal.specs.Layout.{fewest_blocks, most_blocks, listed, count_listed};
@@ -11,12 +11,12 @@ ghost use Rattle.journal.specs.PageClean as pages_clean;
 ghost use Rattle.journal.specs.PageImages as pages_images;
 ghost use Rattle.journal.specs.PageLayout as pages_layout;
 ghost use Rattle.journal.specs.Suits.{suits};
-ghost use Rattle.journal.specs.Technique.{sectors_for, latest_of, IsSound};
+ghost use Rattle.journal.specs.Technique.{sectors_for, latest_of, IsSound, IsTagged};
 ghost use Rattle.journal.specs.declared.technique.NamedRecord.{NamedRecord};
 ghost use Rattle.journal.specs.declared.technique.Technique.TheVariants.{Journal, Pages};
 
 use crate::layout::{BlockCount, is_listed};
-use crate::pages::layout::list;
+use crate::pages::layout::{list, sum};
 use crate::technique::{NamedRecord, Technique};
 use sector_disk::SectorDevice;
 use thiserror::Error;
@@ -40,6 +40,8 @@ pub struct Store<D: SectorDevice> {
     technique: Technique,
     // the bits of the blocks spilled since the last save, with zeros where a record has its digest or sum
     pending: [u8; 512],
+    // by layout 3 the sum of the record that the next save writes
+    next_sum: [u8; 32],
     closed: bool,
     // the block whose text was read last, and its bytes, as long as nothing was written since
     kept: Option<u16>,
@@ -48,6 +50,8 @@ pub struct Store<D: SectorDevice> {
     ghost clear: { (b : ℕ) → blocks.number ≤ b → listed pending b ≡ false },
     ghost sound: { IsTrue (suits D.SectorDevice device) → closed ≡ false
         → IsSound technique blocks.number (D.disk device) },
+    ghost tagged: { IsTrue (suits D.SectorDevice device) → closed ≡ false
+        → IsTagged technique blocks.number pending next_sum (D.disk device).content },
     ghost keeps: { IsTrue (suits D.SectorDevice device) → closed ≡ false
         → (b : ℕ) → kept ≡ Some b → text ≡ latest_of technique blocks.number pending (D.disk device).content b },
 }
@@ -76,6 +80,7 @@ impl<D: SectorDevice> Store<D> {
             blocks: BlockCount { number: blocks },
             technique: Technique::Journal,
             pending: empty_record(), // nothing is spilled yet
+            next_sum: [0; 32], // no record of layout 2 has one
             closed: false,
             kept: None,
             text: [0; 1024],
@@ -107,6 +112,7 @@ impl<D: SectorDevice> Store<D> {
                 listing: *listing,
             }),
             pending: empty_record(), // as over layout 2
+            next_sum: sum(listing),
             closed: false,
             kept: None,
             text: [0; 1024],
@@ -131,6 +137,7 @@ impl<D: SectorDevice> Store<D> {
         Store {
             device,
             blocks: BlockCount { number: blocks },
+            next_sum: technique.record_sum(),
             technique,
             pending: empty_record(), // a store that rests has nothing pending
             closed: false,
@@ -315,18 +322,23 @@ impl<D: SectorDevice> Store<D> {
         ensures pending { MatchResult result
             (λ _. (a : ℕ) → is_pending self.new a ≡ ((a == b) || is_pending self.old a))
             (λ _. SamePending self.old self.new) }
-        ensures begins { DeviceBegins self.old self.new 2 0 }
-        ensures reads { DeviceReads self.old self.new 0 }
+        // By layout 3 the tag is written too, and the one that it takes the place of is read.
+        ensures begins { DeviceBegins self.old self.new (spill_writes (by_older self.old)) 0 }
+        ensures reads { DeviceReads self.old self.new (spill_reads (by_older self.old)) }
     {
         // After a fault nothing more is written until the image is opened again.
         if self.closed {
             return Err(StoreFault::Closed);
         }
         self.kept = None; // it may be this block's text
-        match self
-            .technique
-            .write(&mut self.device, self.blocks, b, bytes)
-        {
+        match self.technique.write(
+            &mut self.device,
+            self.blocks,
+            &self.pending,
+            &mut self.next_sum,
+            b,
+            bytes,
+        ) {
             Ok(()) => {
                 list(&mut self.pending, b);
                 Ok(())
@@ -377,8 +389,8 @@ impl<D: SectorDevice> Store<D> {
         ensures named { (named : NamedRecord) → technique_of self.old ≡ Pages named
             → IsTrue (D.keeps_model (device_of self.old)) → pending_count self.old ≢ 0
             → OnOk result (NamesLatest (blocks_of self.old) named.is_open named.listing self.old.pending (disk_of self.new).content) }
-        // So many are what its layout takes: 2 writes for each block and 3 more, 4 syncs and 4 reads for each by layout 2; by layout 3
-        // a write for each block and 2 more, 2 syncs and 3 reads for each.
+        // So many are what its layout takes: by layout 2 two writes for each block and 3 more, 4 syncs, and 4 reads for each; by layout 3
+        // 2 writes, 2 syncs and no read, however many blocks there are.
         ensures begins { DeviceBegins self.old self.new
             (each_writes (by_older self.old) * pending_count self.old + more_writes (by_older self.old)) (save_syncs (by_older self.old)) }
         ensures reads { DeviceReads self.old self.new (each_reads (by_older self.old) * pending_count self.old) }
@@ -390,11 +402,9 @@ impl<D: SectorDevice> Store<D> {
             return Ok(());
         }
         self.kept = None; // its bytes go to another place
-        match self
-            .technique
-            .save(&mut self.device, self.blocks, &self.pending)
-        {
+        match self.technique.save(&mut self.device, self.blocks, &self.pending, &self.next_sum) {
             Ok(()) => {
+                self.next_sum = self.technique.record_sum();
                 self.pending = empty_record();
                 Ok(())
             }

@@ -1,8 +1,8 @@
 // By which technique blocks are saved, and where it has them.
-ghost use Rattle.std.specs.Prelude.{◌≡◌, ◌⊎◌, ◌<◌, ◌≤◌, ◌+◌, ◌*◌, ◌^◌, ℕ, not, length, take, drop, IsTrue, OnOk, OnErr};
-ghost use Rattle.sector_disk.specs.Disk.{MayLeave, written};
+ghost use Rattle.std.specs.Prelude.{◌≡◌, ◌⊎◌, ◌<◌, ◌≤◌, ◌+◌, ◌*◌, ◌^◌, ℕ, List, not, length, IsTrue, OnOk, OnErr};
+ghost use Rattle.sector_disk.specs.Disk.{MayLeave};
 ghost use Rattle.journal.specs.Calls.{StopsLeave, BeginsAtMost, ReadsAtMost, Passes};
-ghost use Rattle.journal.specs.Costs.{each_reads, each_writes, more_writes, save_syncs};
+ghost use Rattle.journal.specs.Costs.{each_reads, each_writes, more_writes, save_syncs, spill_reads, spill_writes};
 ghost use Rattle.journal.specs.Images.{home_of, HasHomes};
 ghost use Rattle.journal.specs.Layout.{most_blocks, count_listed, open_gate_bytes};
 ghost use Rattle.journal.specs.PageImages.{current_of};
@@ -13,7 +13,7 @@ ghost use Rattle.journal.specs.Steps as journal_steps;
 ghost use Rattle.journal.specs.Suits.{suits};
 
 use crate::layout::{BlockCount, home_sector, is_listed, slot_sector};
-use crate::pages::layout::{current_sector, free_sector};
+use crate::pages::layout::{current_sector, free_sector, sum};
 use crate::pairs::{read_pair, write_pair};
 use crate::{commit, pages};
 use sector_disk::{DeviceFault, SectorDevice};
@@ -38,7 +38,7 @@ pub struct NamedRecord {
 
 impl Technique {
     ghost use Rattle.journal.specs.Store.{NamesLatest};
-    ghost use Rattle.journal.specs.Technique.{saved_at, spilled_at, latest_at, saved_of, latest_of, sectors_for, is_journal, HasBlocks, IsSound, InSpill, HasSaved};
+    ghost use Rattle.journal.specs.Technique.{saved_at, spilled_at, latest_at, saved_of, spilled_of, latest_of, record_sum, sectors_for, is_journal, HasBlocks, HasOneMore, IsSound, IsTagged, InSpill, HasSaved};
     ghost use Rattle.journal.specs.declared.technique.NamedRecord.{NamedRecord};
     ghost use Rattle.journal.specs.declared.technique.Technique.TheVariants.{Journal, Pages};
 
@@ -109,45 +109,65 @@ impl Technique {
         read_pair(device, k, out)
     }
 
-    /// Writes a block of an image of so many blocks where a spill of it goes.
+    // The sum in the record that the gate names. By layout 2 there is none, and zeros stand for it.
+    pub(crate) fn record_sum(&self) -> [u8; 32]
+        ensures { result ≡ record_sum self.now }
+    {
+        match self {
+            Technique::Journal => [0; 32],
+            Technique::Pages(named) => sum(&named.listing),
+        }
+    }
+
+    /// Writes a block of an image of so many blocks where a spill of it goes. By layout 3 its tag goes there too, and
+    /// is exchanged in `sum`, that of the record that the next save writes.
     pub(crate) fn write<D: SectorDevice>(
         &self,
         device: &mut D,
         blocks: BlockCount,
+        pending: &[u8; 512],
+        sum: &mut [u8; 32],
         b: u16,
         bytes: &[u8],
     ) -> Result<(), DeviceFault>
         requires below { b < blocks.number }
         requires size { D.sector_count device.old ≡ sectors_for self.now blocks.number }
         requires whole { length bytes.now ≡ 1024 }
-        ensures ok { IsTrue (suits D.SectorDevice device.old) → OnOk result (D.disk device.new ≡ written
-            (written (D.disk device.old) (spilled_at self.now b) (take 512 bytes.now)) (spilled_at self.now b + 1) (drop 512 bytes.now)) }
+        ensures ok { IsTrue (suits D.SectorDevice device.old)
+            → OnOk result (spilled_of self.now (D.disk device.new).content b ≡ bytes.now) }
+        // Once the block is pending, each pending block has its tag, as those did that were before.
+        ensures tagged { IsTrue (suits D.SectorDevice device.old)
+            → IsTagged self.now blocks.number pending.now sum.old (D.disk device.old).content
+            → OnOk result ((next : List ℕ) → HasOneMore pending.now b next
+            → IsTagged self.now blocks.number next sum.new (D.disk device.new).content) }
         ensures only { IsTrue (suits D.SectorDevice device.old)
             → WritesOnly (InSpill self.now b) (D.disk device.old) (D.disk device.new) }
         ensures stops { IsTrue (suits D.SectorDevice device.old)
             → StopsLeave D.SectorDevice device.old device.new (IsAsSynced (InSpill self.now b) (D.disk device.old)) }
         ensures suits { suits D.SectorDevice device.new ≡ suits D.SectorDevice device.old }
         ensures passes { Passes D.SectorDevice device.old device.new result }
-        ensures begins { BeginsAtMost D.SectorDevice device.old device.new 2 0 }
-        ensures reads { ReadsAtMost D.SectorDevice device.old device.new 0 }
+        ensures begins { BeginsAtMost D.SectorDevice device.old device.new (spill_writes (is_journal self.now)) 0 }
+        ensures reads { ReadsAtMost D.SectorDevice device.old device.new (spill_reads (is_journal self.now)) }
     {
         match self {
             Technique::Journal => write_pair(device, slot_sector(b), bytes),
-            Technique::Pages(named) => {
-                pages::write_pair(device, free_sector(&named.listing, b), bytes)
-            }
+            Technique::Pages(named) => pages::spill(device, &named.listing, pending, sum, b, bytes),
         }
     }
 
-    /// Makes the latest texts of an image of so many blocks the saved ones, all at once.
+    /// Makes the latest texts of an image of so many blocks the saved ones, all at once. By layout 3 the record that
+    /// says so has this sum.
     pub(crate) fn save<D: SectorDevice>(
         &mut self,
         device: &mut D,
         blocks: BlockCount,
         pending: &[u8; 512],
+        sum: &[u8; 32],
     ) -> Result<(), DeviceFault>
         requires size { D.sector_count device.old ≡ sectors_for self.old blocks.number }
         requires sound { IsTrue (suits D.SectorDevice device.old) → IsSound self.old blocks.number (D.disk device.old) }
+        requires tagged { IsTrue (suits D.SectorDevice device.old)
+            → IsTagged self.old blocks.number pending.now sum.now (D.disk device.old).content }
         ensures ok { IsTrue (suits D.SectorDevice device.old)
             → OnOk result (HasSaved self.old self.new blocks.number pending.now (D.disk device.old) (D.disk device.new)) }
         ensures stops { IsTrue (suits D.SectorDevice device.old) → StopsLeave D.SectorDevice device.old device.new
@@ -176,7 +196,7 @@ impl Technique {
     {
         match self {
             Technique::Journal => commit::save(device, blocks, pending),
-            Technique::Pages(named) => named.save(device, blocks, pending),
+            Technique::Pages(named) => named.save(device, blocks, pending, sum),
         }
     }
 }
@@ -188,10 +208,13 @@ impl NamedRecord {
         device: &mut D,
         blocks: BlockCount,
         pending: &[u8; 512],
+        sum: &[u8; 32],
     ) -> Result<(), DeviceFault>
         requires size { D.sector_count device.old ≡ pages_layout.sectors_for blocks.number }
         requires sound { IsTrue (D.keeps_model device.old)
             → pages_steps.IsSound blocks.number self.old.is_open self.old.listing (D.disk device.old) }
+        requires spilled { IsTrue (D.keeps_model device.old)
+            → pages_steps.HasSpilled blocks.number self.old.listing pending.now sum.now (D.disk device.old).content }
         ensures ok { IsTrue (D.keeps_model device.old) → OnOk result (pages_steps.HasSaved blocks.number
             self.old.is_open self.old.listing pending.now self.new.listing (D.disk device.old) (D.disk device.new)) }
         ensures turned { OnOk result (self.new.is_open ≡ not self.old.is_open) }
@@ -199,11 +222,18 @@ impl NamedRecord {
             (λ c. pages_steps.HasBlocks blocks.number (current_of self.old.listing (D.disk device.old).content) c
             ⊎ pages_steps.HasBlocks blocks.number (pages_steps.merged self.old.listing pending.now (D.disk device.old).content) c) }
         ensures passes { Passes D.SectorDevice device.old device.new result }
-        ensures begins { BeginsAtMost D.SectorDevice device.old device.new (count_listed pending.now blocks.number + 2) 2 }
-        ensures reads { ReadsAtMost D.SectorDevice device.old device.new (3 * count_listed pending.now blocks.number) }
+        ensures begins { BeginsAtMost D.SectorDevice device.old device.new 2 2 }
+        ensures reads { ReadsAtMost D.SectorDevice device.old device.new 0 }
     {
         let was_open = self.is_open;
-        match pages::save(device, blocks.number, was_open, &mut self.listing, pending) {
+        match pages::save(
+            device,
+            blocks.number,
+            was_open,
+            &mut self.listing,
+            pending,
+            sum,
+        ) {
             Ok(()) => {
                 self.is_open = !was_open;
                 Ok(())

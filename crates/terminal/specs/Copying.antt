@@ -61,7 +61,7 @@ no_recovery = codes "salvaged, not recovered: of a save that was under way some 
 
 -- by layout 3, after those of the damaged blocks
 abbrev pub pages_no_recovery : List ℕ
-pages_no_recovery = line (codes "salvaged, not recovered") (codes "a damaged block may be older, or of a save that was under way, or blank")
+pages_no_recovery = line (codes "salvaged, not recovered") (codes "a damaged block may be older, or written and not saved, or blank")
 
 -- what a salvage of an image with so many sectors tells, whose blocks stood so
 abbrev pub salvage_told : (sectors : ℕ) → (ℕ → Standing) → List ℕ

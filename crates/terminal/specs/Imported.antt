@@ -4,7 +4,8 @@ use Rattle.sector_disk.specs.declared.device.SectorDevice.{Ghosts}
 use Rattle.journal.specs.declared.store.Store.{Store}
 use Rattle.journal.specs.Calls.{StopsLeave}
 use Rattle.journal.specs.Maps.{Maps, committed, latest, spilled}
-use Rattle.journal.specs.Store.{DeviceBegins, DeviceReads, MeansBy, StandsFor, blocks_of, closed_of, device_of, pending_count}
+use Rattle.journal.specs.Costs.{spill_reads, spill_writes}
+use Rattle.journal.specs.Store.{DeviceBegins, DeviceReads, MeansBy, StandsFor, blocks_of, by_older, closed_of, device_of, pending_count}
 use Rattle.terminal.specs.Done.{SavesBlocks}
 use Rattle.terminal.specs.Findings.{AreSound, blocks_for, said_all}
 use Rattle.terminal.specs.Transfer.{as_blocks, spilled_from}
@@ -24,8 +25,8 @@ module _ {D : Type 0} {G : Ghosts D} where
     pub stands : (m : Maps) → StandsFor old m → StandsFor new (spilled_from m b blocks)
     pub few : pending_count new ≤ pending_count old + length blocks
     pub well : G.failures (device_of new) ≡ G.failures (device_of old)
-    pub begins : DeviceBegins old new (2 * length blocks) 0
-    pub reads : DeviceReads old new 0
+    pub begins : DeviceBegins old new (spill_writes (by_older old) * length blocks) 0
+    pub reads : DeviceReads old new (spill_reads (by_older old) * length blocks)
 
   -- These blocks were made those from block b on, in one save, and no other block was changed.
   pub record Imports (b : ℕ) (blocks : List (List ℕ)) (old new : Store D G) : Type 0 where

@@ -4,7 +4,8 @@ ghost use Rattle.std.specs.Prelude.{◌≡◌, ◌≢◌, ◌⊎◌, ◌<◌, �
 ghost use Rattle.std.specs.Io.KnownBytes.{Consumes, IsAtEnd};
 ghost use Rattle.journal.specs.Calls.{StopsLeave};
 ghost use Rattle.journal.specs.Maps.{Maps, latest};
-ghost use Rattle.journal.specs.Store.{Continues, DeviceBegins, DeviceFailed, DeviceReads, DeviceWentWell, KeepsSaved, MeansBy, StandsFor, blocks_of, closed_of, device_of, pending_count};
+ghost use Rattle.journal.specs.Costs.{spill_reads, spill_writes};
+ghost use Rattle.journal.specs.Store.{Continues, DeviceBegins, DeviceFailed, DeviceReads, DeviceWentWell, KeepsSaved, MeansBy, StandsFor, blocks_of, by_older, closed_of, device_of, pending_count};
 ghost use Rattle.terminal.specs.Findings.{AreSound, blocks_for, in_blocks, refusal, said, said_all, told};
 ghost use Rattle.terminal.specs.Imported.{Imports, ImportsSome, LeavesImported, Spills, SpillsNext};
 ghost use Rattle.terminal.specs.Texts.{AreTexts, IsTextOf, IsUnread, OneIsUnread};
@@ -309,8 +310,8 @@ fn spill_blocks<D: SectorDevice>(
     ensures stops { KeepsSaved store.old store.new }
     ensures only { IfErr result (λ e. e ≡ Failure.Device) }
     ensures device { IfErr result (λ e. (closed_of store.old ≡ true) ⊎ DeviceFailed store.old store.new) }
-    ensures begins { DeviceBegins store.old store.new (2 * blocks_for (length bytes.now)) 0 }
-    ensures reads { DeviceReads store.old store.new 0 }
+    ensures begins { DeviceBegins store.old store.new (spill_writes (by_older store.old) * blocks_for (length bytes.now)) 0 }
+    ensures reads { DeviceReads store.old store.new (spill_reads (by_older store.old) * blocks_for (length bytes.now)) }
     ensures continues { Continues store.old store.new }
 {
     let mut left = bytes;
@@ -337,8 +338,8 @@ fn spill_next<'a, D: SectorDevice>(
     ensures device { IfErr result (λ e. (closed_of store.old ≡ true) ⊎ DeviceFailed store.old store.new) }
     ensures well { OnOk result (DeviceWentWell store.old store.new) }
     ensures continues { Continues store.old store.new }
-    ensures begins { DeviceBegins store.old store.new 2 0 }
-    ensures reads { DeviceReads store.old store.new 0 }
+    ensures begins { DeviceBegins store.old store.new (spill_writes (by_older store.old)) 0 }
+    ensures reads { DeviceReads store.old store.new (spill_reads (by_older store.old)) }
 {
     let (piece, left) = cut_block(bytes);
     match store.spill(block, filled(piece).as_slice()) {

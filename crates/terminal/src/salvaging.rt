@@ -229,7 +229,7 @@ fn salvage_text(alloc: Global, sectors: u32, taken: &Taken) -> Result<String, Al
     let mut text = damage_text(alloc, sectors, taken)?;
     writeln!(
         text,
-        "salvaged, not recovered: a damaged block may be older, or of a save that was under way, or blank"
+        "salvaged, not recovered: a damaged block may be older, or written and not saved, or blank"
     )?;
     Ok(text)
 }

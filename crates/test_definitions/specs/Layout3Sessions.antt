@@ -79,7 +79,7 @@ worn = refl
 abbrev pub most_calls : Bool → Wear → List ℕ
 most_calls older wear = writes_of older wear ∷ save_syncs older * wear.commits ∷ reads_of older wear ∷ []
 
-by_layout_3 : most_calls (is_size 544) its_wear ≡ 8 ∷ 2 ∷ 28 ∷ []
+by_layout_3 : most_calls (is_size 544) its_wear ≡ 8 ∷ 2 ∷ 24 ∷ []
 by_layout_3 = refl
 
 by_layout_2 : most_calls (is_size 131) its_wear ≡ 11 ∷ 4 ∷ 30 ∷ []

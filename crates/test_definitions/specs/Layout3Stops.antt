@@ -64,17 +64,16 @@ places : place_at 1 false ∷ place_at 1 true ∷ place_at 2 false ∷ place_at 
 places = refl
 
 abbrev pub spills : List DiskCall
-spills = Write 56 (65 ∷ 65 ∷ []) ∷ Write 57 (65 ∷ 65 ∷ []) ∷ Write 72 (66 ∷ 66 ∷ []) ∷ Write 73 (66 ∷ 66 ∷ []) ∷ []
-
-abbrev pub tags : List DiskCall
-tags = Write 58 (1 ∷ 1 ∷ []) ∷ Write 74 (2 ∷ 2 ∷ []) ∷ []
+spills =
+    Write 56 (65 ∷ 65 ∷ []) ∷ Write 57 (65 ∷ 65 ∷ []) ∷ Write 58 (1 ∷ 1 ∷ [])
+    ∷ Write 72 (66 ∷ 66 ∷ []) ∷ Write 73 (66 ∷ 66 ∷ []) ∷ Write 74 (2 ∷ 2 ∷ []) ∷ []
 
 abbrev pub the_record : DiskCall
 the_record = Write 16 (6 ∷ 0 ∷ [])
 
--- the order of a save: after the spills p + 2 writes for p blocks, and two syncs
+-- the order of a save: each block is spilled with its tag; then come two writes and two syncs
 abbrev pub a_save : List DiskCall
-a_save = spills ++ tags ++ the_record ∷ Sync ∷ Write 8 open_gate ∷ Sync ∷ []
+a_save = spills ++ the_record ∷ Sync ∷ Write 8 open_gate ∷ Sync ∷ []
 
 abbrev pub all_or_nothing : List DiskCall → Bool
 all_or_nothing calls = at_each_stop every_unit (λ image. means_these old_blocks image || means_these new_blocks image) disk_at_rest calls
@@ -89,7 +88,7 @@ unfolding gate_open bits_apart
 new_alone = refl
 
 -- a stop before the gate is written leaves the old ones
-old_alone : at_each_stop every_unit (means_these old_blocks) disk_at_rest (spills ++ tags ++ the_record ∷ Sync ∷ []) ≡ true
+old_alone : at_each_stop every_unit (means_these old_blocks) disk_at_rest (spills ++ the_record ∷ Sync ∷ []) ≡ true
 unfolding gate_open bits_apart
 old_alone = refl
 
@@ -107,11 +106,11 @@ new_or_later = refl
 
 -- ---- other orders lose blocks
 
-one_sync_for_record_and_gate : all_or_nothing (spills ++ tags ++ the_record ∷ Write 8 open_gate ∷ []) ≡ false
+one_sync_for_record_and_gate : all_or_nothing (spills ++ the_record ∷ Write 8 open_gate ∷ []) ≡ false
 unfolding gate_open bits_apart
 one_sync_for_record_and_gate = refl
 
-gate_before_the_record : all_or_nothing (spills ++ tags ++ Write 8 open_gate ∷ Sync ∷ the_record ∷ []) ≡ false
+gate_before_the_record : all_or_nothing (spills ++ Write 8 open_gate ∷ Sync ∷ the_record ∷ []) ≡ false
 unfolding gate_open bits_apart
 gate_before_the_record = refl
 

@@ -75,13 +75,13 @@ fn saves_that_were_stopped_are_checked(rt: HostRuntime) -> Result<(), Fail> {
     let after = report(rt.alloc(), 32, &[(1, "\x08\x00"), (2, "\x08\x00")])?;
     let known = [before.as_str(), after.as_str()];
     let _ = call_over(&rt, &OneDisk::new(&disk), &["forth83", "run", "A"], EIGHTS);
-    // An opening makes a sync and 99 reads; four sectors are read and four written, and a save makes 6 reads, 4 writes and 2 syncs.
-    assert_same!(rt; disk.calls(), 100 + 8 + 12);
-    for (k, fate) in (104..120).zip(FATES.iter().cycle()) {
+    // An opening makes a sync and 99 reads, and four sectors are read; two spills make a read and three writes each, and a save 2 writes and 2 syncs.
+    assert_same!(rt; disk.calls(), 100 + 4 + 8 + 4);
+    for (k, fate) in (104..116).zip(FATES.iter().cycle()) {
         save_is_stopped(&rt, &disk, made.as_slice(), k, *fate, known)?;
     }
     for fate in FATES {
-        save_is_stopped(&rt, &disk, made.as_slice(), 119, fate, known)?;
+        save_is_stopped(&rt, &disk, made.as_slice(), 115, fate, known)?;
     }
     Ok(())
 }

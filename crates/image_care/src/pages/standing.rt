@@ -23,7 +23,7 @@ use shadow::{blocks_of_new, read_record};
 pub enum Standing {
     /// In the place that counts.
     Current,
-    /// In the other place alone. It is older than what counted, or of a save that wasn't finished.
+    /// In the other place alone. It is older than what counted, or was spilled and not saved.
     Other,
     /// In neither place.
     Nowhere,

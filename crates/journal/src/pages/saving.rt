@@ -1,18 +1,16 @@
 // The steps of a save.
-ghost use Rattle.std.specs.Prelude.{◌≡◌, false, true, ℕ, ◌^◌, ◌⊎◌, ◌<◌, ◌≤◌, ◌+◌, ◌*◌, not, if◌then◌else◌, IsTrue, OnOk};
+ghost use Rattle.std.specs.Prelude.{◌≡◌, ◌⊎◌, ◌<◌, ◌≤◌, not, if◌then◌else◌, IsTrue, OnOk};
 ghost use Rattle.sector_disk.specs.Disk.{written, settled};
 ghost use Rattle.journal.specs.Calls.{StopsLeave, BeginsAtMost, ReadsAtMost};
 ghost use Rattle.journal.specs.PageCalls.{Passes};
-ghost use Rattle.journal.specs.Layout.{most_blocks, listed, count_listed};
-ghost use Rattle.journal.specs.PageImages.{current_of, current_tag};
+ghost use Rattle.journal.specs.Layout.{most_blocks, listed};
+ghost use Rattle.journal.specs.PageImages.{current_of};
 ghost use Rattle.journal.specs.PageLayout.{HasFlipped, sectors_for, gate_at, gate_bytes, record_at, sum_in};
 ghost use Rattle.sector_disk.specs.Pages.{InPage};
-ghost use Rattle.journal.specs.Steps.{WritesOnly, IsAsSynced};
-ghost use Rattle.journal.specs.PageSteps.{InFree, HasTags, OnlyTags, HasBlocks, IsSound, HasSaved, merged, merged_tag};
-ghost use Rattle.journal.specs.Tags.{sum_below};
+ghost use Rattle.journal.specs.Steps.{IsAsSynced};
+ghost use Rattle.journal.specs.PageSteps.{HasBlocks, HasSpilled, IsSound, HasSaved, merged};
 
-use super::exchanges::exchange_tags;
-use super::layout::{GATE, gate, list, record_sector, sum, with_sum};
+use super::layout::{GATE, gate, list, record_sector, with_sum};
 use super::pairs::write_through;
 use crate::layout::is_listed;
 use sector_disk::{DeviceFault, SectorDevice};
@@ -53,37 +51,6 @@ fn next_record(blocks: u16, listing: &[u8; 512], pending: &[u8; 512], sum: &[u8;
     with_sum(&flipped(blocks, listing, pending), sum)
 }
 
-// Writes the tags of the pending blocks, and makes of the record the one that is to count.
-fn prepare<D: SectorDevice>(
-    device: &mut D,
-    blocks: u16,
-    listing: &mut [u8; 512],
-    pending: &[u8; 512],
-) -> Result<(), DeviceFault>
-    requires few { blocks ≤ most_blocks }
-    requires size { D.sector_count device.old ≡ sectors_for blocks }
-    ensures bits { OnOk result (HasFlipped blocks listing.old pending.now listing.new) }
-    ensures tags { IsTrue (D.keeps_model device.old) → OnOk result
-        (HasTags blocks listing.old pending.now (D.disk device.old).content (D.disk device.new).content) }
-    ensures others { IsTrue (D.keeps_model device.old)
-        → OnOk result (OnlyTags listing.old (D.disk device.old).content (D.disk device.new).content) }
-    ensures sum { IsTrue (D.keeps_model device.old) → OnOk result
-        (sum_in listing.old ≡ sum_below (current_tag listing.old (D.disk device.old).content) blocks
-        → sum_in listing.new ≡ sum_below (merged_tag listing.old pending.now (D.disk device.old).content) blocks) }
-    ensures only { IsTrue (D.keeps_model device.old)
-        → WritesOnly (InFree blocks listing.old) (D.disk device.old) (D.disk device.new) }
-    ensures stops { IsTrue (D.keeps_model device.old) → StopsLeave D.SectorDevice device.old device.new
-        (IsAsSynced (InFree blocks listing.old) (D.disk device.old)) }
-    ensures passes { Passes D.SectorDevice device.old device.new result }
-    ensures begins { BeginsAtMost D.SectorDevice device.old device.new (count_listed pending.now blocks) 0 }
-    ensures reads { ReadsAtMost D.SectorDevice device.old device.new (3 * count_listed pending.now blocks) }
-{
-    let mut total = sum(listing);
-    exchange_tags(device, blocks, listing, pending, &mut total)?;
-    *listing = next_record(blocks, listing, pending, &total);
-    Ok(())
-}
-
 // Writes the record that doesn't count, and then the gate, which names it.
 fn turn<D: SectorDevice>(device: &mut D, is_open: bool, next: &[u8; 512]) -> Result<(), DeviceFault>
     requires { 32 ≤ D.sector_count device.old }
@@ -102,7 +69,7 @@ fn turn<D: SectorDevice>(device: &mut D, is_open: bool, next: &[u8; 512]) -> Res
 }
 
 /// Makes the free places of the pending blocks their current ones, all at once, and `listing` the record that counts
-/// then.
+/// then, with the sum of their tags and of those of the other blocks.
 // A call of its own, as that of layout 2 is, so that no more than one record lies on the stack.
 #[inline(never)]
 pub(crate) fn save<D: SectorDevice>(
@@ -111,19 +78,22 @@ pub(crate) fn save<D: SectorDevice>(
     is_open: bool,
     listing: &mut [u8; 512],
     pending: &[u8; 512],
+    sum: &[u8; 32],
 ) -> Result<(), DeviceFault>
     requires few { blocks ≤ most_blocks }
     requires size { D.sector_count device.old ≡ sectors_for blocks }
     requires sound { IsTrue (D.keeps_model device.old) → IsSound blocks is_open listing.old (D.disk device.old) }
+    requires spilled { IsTrue (D.keeps_model device.old)
+        → HasSpilled blocks listing.old pending.now sum.now (D.disk device.old).content }
     ensures ok { IsTrue (D.keeps_model device.old) → OnOk result
         (HasSaved blocks is_open listing.old pending.now listing.new (D.disk device.old) (D.disk device.new)) }
     ensures stops { IsTrue (D.keeps_model device.old) → StopsLeave D.SectorDevice device.old device.new
         (λ c. HasBlocks blocks (current_of listing.old (D.disk device.old).content) c
         ⊎ HasBlocks blocks (merged listing.old pending.now (D.disk device.old).content) c) }
     ensures passes { Passes D.SectorDevice device.old device.new result }
-    ensures begins { BeginsAtMost D.SectorDevice device.old device.new (count_listed pending.now blocks + 2) 2 }
-    ensures reads { ReadsAtMost D.SectorDevice device.old device.new (3 * count_listed pending.now blocks) }
+    ensures begins { BeginsAtMost D.SectorDevice device.old device.new 2 2 }
+    ensures reads { ReadsAtMost D.SectorDevice device.old device.new 0 }
 {
-    prepare(device, blocks, listing, pending)?;
+    *listing = next_record(blocks, listing, pending, sum);
     turn(device, is_open, listing)
 }

@@ -23,8 +23,15 @@ pub(crate) fn begin_tag(b: u16) -> Sha256
 pub fn tag_of(b: u16, bytes: &[u8; 1024]) -> [u8; 32]
     ensures { result ≡ tag_of b bytes.now }
 {
+    tag_of_bytes(b, bytes.as_slice())
+}
+
+// The tag of block `b` with these bytes, which are 1,024.
+pub(crate) fn tag_of_bytes(b: u16, bytes: &[u8]) -> [u8; 32]
+    ensures { result ≡ tag_of b bytes.now }
+{
     let mut hasher = begin_tag(b);
-    hasher.update(bytes.as_slice());
+    hasher.update(bytes);
     hasher.finalize()
 }
 

@@ -22,7 +22,7 @@ returns-in-Err-clause-runs g c = λ m change stands.
       stands = f.shut_so;
       kept = keeps_save g.D.SectorDevice m.closed (device_of c.args.store.now) (device_of c.spill_updated.new.store) m.saved (next_map b c.args.space.now m) false open_now
           c.spill_updated.ensures.continues.sectors (λ x since. inl (c.in-Err.ensures.stops m stands open_now x since)) (λ no. absurd (cc));
-      wears = unspilled_wears g.D.SectorDevice (device_of c.args.store.now) (device_of c.spill_updated.new.store) f.before c.spill_updated.ensures.continues.sectors f.begins c.in-Err.ensures.reads;
+      wears = unspilled_wears g.D.SectorDevice (device_of c.args.store.now) (device_of c.spill_updated.new.store) f.before c.spill_updated.ensures.continues.sectors f.begins.0 f.begins.1;
       shuts = λ _. refl;
       last = λ no. absurd (cc);
     }

@@ -1,14 +1,15 @@
-use Rattle.std.proofs.Common.{◌≡◌, true, false, suc, sym, ◌∙◌, ap, subst, take, drop, arith, add-one, Err, rules}
+use Rattle.std.proofs.Common.{◌≡◌, true, false, ◌+◌, length, refl, suc, sym, ◌∙◌, ap, subst, take, drop, arith, add-one, Err, rules}
 use Rattle.std.proofs.lemmas.List.{length-take}
 use Rattle.std.specs.Prelude.{slice_index_or, ◌==◌, ◌||◌}
 use Rattle.block_buffers.specs.declared.buffers.Assigned.{Assigned}
 use Rattle.block_buffers.specs.Buffers.{updated_ones}
 use Rattle.journal.specs.Maps.{spilled}
-use Rattle.journal.specs.Store.{StandsFor, is_pending, device_of, blocks_of}
+use Rattle.journal.specs.Store.{StandsFor, by_older, is_pending, device_of, blocks_of}
+use Rattle.journal.proofs.Costs.{reads_within, spills_within}
 use Rattle.block_words.specs.Words.{all_spilled}
 use Rattle.block_words.specs.Rooms.{within}
 use Rattle.block_words.proofs.Lists.{within_at, within_filter, item_at, among_more}
-use Rattle.block_words.proofs.Saves.{continues_then, keeps_then_spill, spilled_more, split_at, device_fault}
+use Rattle.block_words.proofs.Saves.{begun_more, continues_then, keeps_then_spill, read_more, spilled_more, split_at, device_fault}
 use Rattle.block_words.proofs.saving.spill_updated.Goals as goal
 
 pub spill-requires-clause-below : goal.spill-requires-clause-below
@@ -34,15 +35,15 @@ returns-in-Err-clause-fault g c = λ m stands.
       split = sym same ∙ split_at xs i (slice_index_or xs i nothing) (item_at xs i nothing c.loop-updated-test.true);
       shut_so = c.in-Err.ensures.fault (all_spilled (take i xs) c.args.space.now m) (c.loop-updated.invariant.stands m stands)
           (ap Err (device_fault c.in-Err.field-0 (λ is. absurd (let no : false ≡ true = sym c.loop-updated.invariant.opened ∙ c.in-Err.ensures.closed.0 (ap Err is) in cc))));
-      begins = record {
-        few_writes =
-            let front = length-take i xs in
-            let so_far = c.loop-updated.invariant.begins.few_writes in
-            let now = c.spill.ensures.begins.few_writes in
-            let below = c.loop-updated-test.true in
-            omega (arith, front, so_far, now, below);
-        few_syncs = omega (arith, c.loop-updated.invariant.begins.few_syncs, c.spill.ensures.begins.few_syncs);
-      };
+      begins =
+          let front = length-take i xs in
+          let below = c.loop-updated-test.true in
+          let one : length (take i xs) + 1 ≡ i + 1 = omega (arith, front, below) in (
+            begun_more g.D.SectorDevice c.args.store.now c.loop-updated.store c.spill.new.self c.loop-updated.invariant.continues i one
+                c.loop-updated.invariant.begins c.spill.ensures.begins,
+            read_more g.D.SectorDevice c.args.store.now c.loop-updated.store c.spill.new.self c.loop-updated.invariant.continues i one
+                c.loop-updated.invariant.reads c.spill.ensures.reads,
+          );
     }
 
 pub returns-in-Err-clause-stops : goal.returns-in-Err-clause-stops
@@ -75,7 +76,47 @@ loop-updated-preserved g c =
       pending = λ u. rw add-one
           (c.in-Ok.ensures.pending u ∙ ap (λ t. (u == x.block) || t) (c.loop-updated.invariant.pending u)
           ∙ among_more xs i x u (is_pending c.args.store.now u) (item_at xs i nothing c.loop-updated-test.true));
-      begins = record { few_writes = omega (arith, c.loop-updated.invariant.begins.few_writes, c.spill.ensures.begins.few_writes); few_syncs = omega (arith, c.loop-updated.invariant.begins.few_syncs, c.spill.ensures.begins.few_syncs) };
-      reads = omega (arith, c.loop-updated.invariant.reads, c.spill.ensures.reads);
+      begins =
+          begun_more g.D.SectorDevice c.args.store.now c.loop-updated.store new c.loop-updated.invariant.continues i (omega arith)
+          c.loop-updated.invariant.begins c.spill.ensures.begins;
+      reads =
+          read_more g.D.SectorDevice c.args.store.now c.loop-updated.store new c.loop-updated.invariant.continues i (omega arith)
+          c.loop-updated.invariant.reads c.spill.ensures.reads;
       unmoved = λ zero. absurd (omega (arith, zero));
     }
+
+pub returns-in-Err-clause-begins : goal.returns-in-Err-clause-begins
+returns-in-Err-clause-begins g c =
+    let D = g.D.SectorDevice in
+    let old = c.args.store.now in
+    let new = c.spill.new.self in
+    let i = c.loop-updated.updated-index in
+    let count = ap length (c.deref-updated-items.ensures.0 ∙ c.updated.ensures.updated) in
+    spills_within D (device_of old) (device_of new) (by_older old) (i + 1) (length (updated_ones c.args.buffers.now))
+    (omega (arith, c.loop-updated-test.true, count))
+    (begun_more D old c.loop-updated.store new c.loop-updated.invariant.continues i refl c.loop-updated.invariant.begins c.spill.ensures.begins)
+
+pub returns-in-Err-clause-reads : goal.returns-in-Err-clause-reads
+returns-in-Err-clause-reads g c =
+    let D = g.D.SectorDevice in
+    let old = c.args.store.now in
+    let new = c.spill.new.self in
+    let i = c.loop-updated.updated-index in
+    let count = ap length (c.deref-updated-items.ensures.0 ∙ c.updated.ensures.updated) in
+    reads_within D (device_of old) (device_of new) (by_older old) (i + 1) (length (updated_ones c.args.buffers.now))
+    (omega (arith, c.loop-updated-test.true, count))
+    (read_more D old c.loop-updated.store new c.loop-updated.invariant.continues i refl c.loop-updated.invariant.reads c.spill.ensures.reads)
+
+pub returns-clause-begins : goal.returns-clause-begins
+returns-clause-begins g c =
+    let old = c.args.store.now in
+    let count = ap length (c.deref-updated-items.ensures.0 ∙ c.updated.ensures.updated) in
+    spills_within g.D.SectorDevice (device_of old) (device_of c.loop-updated.store) (by_older old) c.loop-updated.updated-index
+    (length (updated_ones c.args.buffers.now)) (omega (arith, c.loop-updated.auto.updated-index-end, count)) c.loop-updated.invariant.begins
+
+pub returns-clause-reads : goal.returns-clause-reads
+returns-clause-reads g c =
+    let old = c.args.store.now in
+    let count = ap length (c.deref-updated-items.ensures.0 ∙ c.updated.ensures.updated) in
+    reads_within g.D.SectorDevice (device_of old) (device_of c.loop-updated.store) (by_older old) c.loop-updated.updated-index
+    (length (updated_ones c.args.buffers.now)) (omega (arith, c.loop-updated.auto.updated-index-end, count)) c.loop-updated.invariant.reads

@@ -1,9 +1,11 @@
-use Rattle.std.proofs.Common.{◌≡◌, ◌≤◌, ◌+◌, ◌∙◌, subst, sym, arith}
+use Rattle.std.proofs.Common.{◌≡◌, ◌≤◌, ◌+◌, ◌∙◌, length, refl, subst, sym, arith}
 use Rattle.std.proofs.lemmas.Bool.{false_from_ne_true}
 use Rattle.std.specs.Prelude.{nat_lt}
 use Rattle.journal.specs.Layout.{count_below}
 use Rattle.journal.specs.Maps.{spilled}
-use Rattle.journal.specs.Store.{blocks_of, closed_of, is_pending, pending_count}
+use Rattle.journal.specs.Store.{blocks_of, by_older, closed_of, device_of, is_pending, pending_count}
+use Rattle.journal.proofs.Costs.{reads_within, spills_within}
+use Rattle.block_words.proofs.Saves.{begun_more, read_more}
 use Rattle.embed.proofs.Counts.{count_one}
 use Rattle.embed.proofs.Spills.{fewer_left, holds_after, spilled_one}
 use Rattle.embed.proofs.Stores.{continues_then, keeps_then}
@@ -51,28 +53,45 @@ loop-block-preserved g c =
           subst (λ n. count_below (is_pending c.spill.new.self) n ≤ pending_count c.loop-block.store + 1) (sym c.spill.ensures.continues.blocks)
           (count_one (is_pending c.loop-block.store) (is_pending c.spill.new.self) _ (blocks_of c.loop-block.store) c.in_ok-spill.ensures.pending) in
           omega (arith, more, before.pending);
-      begins = record {
-        few_writes = omega (arith, before.begins.few_writes, c.spill.ensures.begins.few_writes);
-        few_syncs = omega (arith, before.begins.few_syncs, c.spill.ensures.begins.few_syncs);
-      };
-      reads = omega (arith, before.reads, c.spill.ensures.reads);
+      begins =
+          begun_more g.D.SectorDevice c.args.store.now c.loop-block.store c.spill.new.self before.continues i (omega arith)
+          before.begins c.spill.ensures.begins;
+      reads =
+          read_more g.D.SectorDevice c.args.store.now c.loop-block.store c.spill.new.self before.continues i (omega arith)
+          before.reads c.spill.ensures.reads;
     }
 
 pub returns-in_err-spill-clause-begins : goal.returns-in_err-spill-clause-begins
 returns-in_err-spill-clause-begins g c =
-    let before = c.loop-block.invariant.begins in
-    record {
-      few_writes = omega (arith, before.few_writes, c.spill.ensures.begins.few_writes, c.loop-block-test.true);
-      few_syncs = omega (arith, before.few_syncs, c.spill.ensures.begins.few_syncs);
-    }
+    let D = g.D.SectorDevice in
+    let old = c.args.store.now in
+    let new = c.spill.new.self in
+    let before = c.loop-block.invariant in
+    let i = c.loop-block.block-index in
+    spills_within D (device_of old) (device_of new) (by_older old) (i + 1) (length c.args.blocks.now) (omega (arith, c.loop-block-test.true))
+    (begun_more D old c.loop-block.store new before.continues i refl before.begins c.spill.ensures.begins)
 
 pub returns-in_err-spill-clause-reads : goal.returns-in_err-spill-clause-reads
-returns-in_err-spill-clause-reads g c = omega (arith, c.loop-block.invariant.reads, c.spill.ensures.reads)
+returns-in_err-spill-clause-reads g c =
+    let D = g.D.SectorDevice in
+    let old = c.args.store.now in
+    let new = c.spill.new.self in
+    let before = c.loop-block.invariant in
+    let i = c.loop-block.block-index in
+    reads_within D (device_of old) (device_of new) (by_older old) (i + 1) (length c.args.blocks.now) (omega (arith, c.loop-block-test.true))
+    (read_more D old c.loop-block.store new before.continues i refl before.reads c.spill.ensures.reads)
 
 pub returns-clause-pending : goal.returns-clause-pending
 returns-clause-pending g c = omega (arith, c.loop-block.invariant.pending, c.loop-block.auto.block-index-end)
 
 pub returns-clause-begins : goal.returns-clause-begins
 returns-clause-begins g c =
-    let all = c.loop-block.invariant.begins in
-    record { few_writes = omega (arith, all.few_writes, c.loop-block.auto.block-index-end); few_syncs = all.few_syncs }
+    let old = c.args.store.now in
+    spills_within g.D.SectorDevice (device_of old) (device_of c.loop-block.store) (by_older old) c.loop-block.block-index (length c.args.blocks.now)
+    (omega (arith, c.loop-block.auto.block-index-end)) c.loop-block.invariant.begins
+
+pub returns-clause-reads : goal.returns-clause-reads
+returns-clause-reads g c =
+    let old = c.args.store.now in
+    reads_within g.D.SectorDevice (device_of old) (device_of c.loop-block.store) (by_older old) c.loop-block.block-index (length c.args.blocks.now)
+    (omega (arith, c.loop-block.auto.block-index-end)) c.loop-block.invariant.reads

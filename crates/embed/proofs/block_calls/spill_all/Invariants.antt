@@ -2,7 +2,8 @@ use Rattle.std.proofs.Common.{◌≡◌, ◌≤◌, ◌+◌, ◌*◌, length, dr
 use Rattle.std.specs.Prelude.{nat_lt}
 use Rattle.std.specs.List.{list_all}
 use Rattle.journal.specs.Maps.{Maps}
-use Rattle.journal.specs.Store.{Continues, DeviceBegins, DeviceReads, DeviceWentWell, KeepsSaved, StandsFor, blocks_of, closed_of, pending_count}
+use Rattle.journal.specs.Costs.{spill_reads, spill_writes}
+use Rattle.journal.specs.Store.{Continues, DeviceBegins, DeviceReads, DeviceWentWell, KeepsSaved, StandsFor, blocks_of, by_older, closed_of, pending_count}
 use Rattle.embed.specs.Spilling.{all_spilled}
 use Rattle.embed.proofs.block_calls.spill_all.Given as goal
 
@@ -20,6 +21,6 @@ invariant-loop-block g l =
       continues : Continues old l.store;
       well : DeviceWentWell old l.store;
       pending : pending_count l.store ≤ pending_count old + l.block-index;
-      begins : DeviceBegins old l.store (2 * l.block-index) 0;
-      reads : DeviceReads old l.store 0;
+      begins : DeviceBegins old l.store (spill_writes (by_older old) * l.block-index) 0;
+      reads : DeviceReads old l.store (spill_reads (by_older old) * l.block-index);
     }

@@ -1,6 +1,8 @@
-use Rattle.std.proofs.Common.{Err, ap, arith}
+use Rattle.std.proofs.Common.{Err, ap, length, arith}
 use Rattle.journal.specs.Store.{by_older, device_of, pending_count}
-use Rattle.journal.proofs.Costs.{most_begins, most_reads}
+use Rattle.journal.proofs.Costs.{reads_few, spills_few}
+use Rattle.block_words.proofs.Saves.{all_begins, all_reads}
+use Rattle.terminal.specs.Findings.{blocks_for}
 use Rattle.terminal.specs.Transfer.{as_blocks, spilled_from}
 use Rattle.terminal.proofs.Saving.{fails_then, length_blocks, saves_then}
 use Rattle.terminal.proofs.importing.import_bytes.Goals as goal
@@ -10,8 +12,6 @@ returns-in-Ok-clause-imported g c =
     let sp = c.in_ok-spill_blocks.ensures.spilled in
     let mid = c.spill_blocks.new.store in
     let blocks = as_blocks c.args.bytes.now in
-    let most = most_begins g.D.SectorDevice (device_of mid) (device_of c.commit.new.self) (pending_count mid) (by_older mid) c.commit.ensures.begins in
-    let most_of = most_reads g.D.SectorDevice (device_of mid) (device_of c.commit.new.self) (pending_count mid) (by_older mid) c.commit.ensures.reads in
     record {
       saved = λ m stands. (
         c.in-Ok.ensures.ok (spilled_from m c.args.first blocks) (sp.stands m stands),
@@ -21,11 +21,12 @@ returns-in-Ok-clause-imported g c =
           after = c.in-Ok.ensures.after (spilled_from m c.args.first blocks) (sp.stands m stands);
         },
       );
-      begins = record {
-        few_writes = omega (arith, sp.few, sp.begins.few_writes, most.few_writes);
-        few_syncs = omega (arith, sp.begins.few_syncs, most.few_syncs);
-      };
-      reads = omega (arith, sp.few, sp.reads, most_of);
+      begins =
+          all_begins g.D.SectorDevice c.args.store.now mid c.commit.new.self c.spill_blocks.ensures.continues (length blocks) sp.few
+          sp.begins c.commit.ensures.begins;
+      reads =
+          all_reads g.D.SectorDevice c.args.store.now mid c.commit.new.self c.spill_blocks.ensures.continues (length blocks) sp.few
+          sp.reads c.commit.ensures.reads;
     }
 
 pub returns-in-Ok-clause-kept : goal.returns-in-Ok-clause-kept
@@ -47,43 +48,40 @@ returns-in-Err-clause-device g c =
 pub returns-in-Ok-clause-begins : goal.returns-in-Ok-clause-begins
 returns-in-Ok-clause-begins g c =
     let sp = c.in_ok-spill_blocks.ensures.spilled in
-    let mid = c.spill_blocks.new.store in
-    let many = length_blocks c.args.bytes.now in
-    let most = most_begins g.D.SectorDevice (device_of mid) (device_of c.commit.new.self) (pending_count mid) (by_older mid) c.commit.ensures.begins in
-    record {
-      few_writes = omega (arith, many, sp.few, c.spill_blocks.ensures.begins.few_writes, most.few_writes);
-      few_syncs = omega (arith, c.spill_blocks.ensures.begins.few_syncs, most.few_syncs);
-    }
+    let n = blocks_for (length c.args.bytes.now) in
+    all_begins g.D.SectorDevice c.args.store.now c.spill_blocks.new.store c.commit.new.self c.spill_blocks.ensures.continues n
+    (omega (arith, length_blocks c.args.bytes.now, sp.few)) c.spill_blocks.ensures.begins c.commit.ensures.begins
 
 pub returns-in-Ok-clause-reads : goal.returns-in-Ok-clause-reads
 returns-in-Ok-clause-reads g c =
     let sp = c.in_ok-spill_blocks.ensures.spilled in
-    let mid = c.spill_blocks.new.store in
-    let most_of = most_reads g.D.SectorDevice (device_of mid) (device_of c.commit.new.self) (pending_count mid) (by_older mid) c.commit.ensures.reads in
-    omega (arith, length_blocks c.args.bytes.now, sp.few, c.spill_blocks.ensures.reads, most_of)
+    let n = blocks_for (length c.args.bytes.now) in
+    all_reads g.D.SectorDevice c.args.store.now c.spill_blocks.new.store c.commit.new.self c.spill_blocks.ensures.continues n
+    (omega (arith, length_blocks c.args.bytes.now, sp.few)) c.spill_blocks.ensures.reads c.commit.ensures.reads
 
 pub returns-in-Err-clause-begins : goal.returns-in-Err-clause-begins
 returns-in-Err-clause-begins g c =
     let sp = c.in_ok-spill_blocks.ensures.spilled in
-    let mid = c.spill_blocks.new.store in
-    let many = length_blocks c.args.bytes.now in
-    let most = most_begins g.D.SectorDevice (device_of mid) (device_of c.commit.new.self) (pending_count mid) (by_older mid) c.commit.ensures.begins in
-    record {
-      few_writes = omega (arith, many, sp.few, c.spill_blocks.ensures.begins.few_writes, most.few_writes);
-      few_syncs = omega (arith, c.spill_blocks.ensures.begins.few_syncs, most.few_syncs);
-    }
+    let n = blocks_for (length c.args.bytes.now) in
+    all_begins g.D.SectorDevice c.args.store.now c.spill_blocks.new.store c.commit.new.self c.spill_blocks.ensures.continues n
+    (omega (arith, length_blocks c.args.bytes.now, sp.few)) c.spill_blocks.ensures.begins c.commit.ensures.begins
 
 pub returns-in-Err-clause-reads : goal.returns-in-Err-clause-reads
 returns-in-Err-clause-reads g c =
     let sp = c.in_ok-spill_blocks.ensures.spilled in
-    let mid = c.spill_blocks.new.store in
-    let most_of = most_reads g.D.SectorDevice (device_of mid) (device_of c.commit.new.self) (pending_count mid) (by_older mid) c.commit.ensures.reads in
-    omega (arith, length_blocks c.args.bytes.now, sp.few, c.spill_blocks.ensures.reads, most_of)
+    let n = blocks_for (length c.args.bytes.now) in
+    all_reads g.D.SectorDevice c.args.store.now c.spill_blocks.new.store c.commit.new.self c.spill_blocks.ensures.continues n
+    (omega (arith, length_blocks c.args.bytes.now, sp.few)) c.spill_blocks.ensures.reads c.commit.ensures.reads
 
 -- Spills that fail are fewer calls than a save of all blocks.
 pub returns-in_err-spill_blocks-clause-begins : goal.returns-in_err-spill_blocks-clause-begins
 returns-in_err-spill_blocks-clause-begins g c =
-    let few = c.spill_blocks.ensures.begins in record { few_writes = omega (arith, few.few_writes); few_syncs = omega (arith, few.few_syncs) }
+    let old = c.args.store.now in
+    spills_few g.D.SectorDevice (device_of old) (device_of c.spill_blocks.new.store) (by_older old) (blocks_for (length c.args.bytes.now)) (pending_count old)
+    c.spill_blocks.ensures.begins
 
 pub returns-in_err-spill_blocks-clause-reads : goal.returns-in_err-spill_blocks-clause-reads
-returns-in_err-spill_blocks-clause-reads g c = omega (arith, c.spill_blocks.ensures.reads)
+returns-in_err-spill_blocks-clause-reads g c =
+    let old = c.args.store.now in
+    reads_few g.D.SectorDevice (device_of old) (device_of c.spill_blocks.new.store) (by_older old) (blocks_for (length c.args.bytes.now)) (pending_count old)
+    c.spill_blocks.ensures.reads

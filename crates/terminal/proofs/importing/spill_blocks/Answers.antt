@@ -1,9 +1,11 @@
 use Rattle.std.proofs.Common.{◌≡◌, ◌∙◌, ◌+◌, ◌<◌, ◌++◌, ◌∷◌, [], length, length-append, append-nil, append_assoc, refl, ap, sym, subst, arith}
 use Rattle.std.proofs.lemmas.Grind.{common_steps}
 use Rattle.sector_disk.proofs.Moments.{elapses_refl}
-use Rattle.block_words.proofs.Saves.{continues_then}
+use Rattle.block_words.proofs.Saves.{begun_more, continues_then, read_more}
 use Rattle.journal.specs.Maps.{spilled}
-use Rattle.journal.specs.Store.{StandsFor, device_of}
+use Rattle.journal.specs.Store.{StandsFor, by_older, device_of}
+use Rattle.journal.proofs.Costs.{reads_within, spills_within}
+use Rattle.terminal.specs.Findings.{blocks_for}
 use Rattle.terminal.specs.Imported.{Spills}
 use Rattle.terminal.specs.Transfer.{as_blocks, block_of, spilled_from}
 use Rattle.terminal.proofs.Saving.{blocks_done, blocks_next, blocks_so_far, keeps_none, keeps_then, none_left, one_block_more, spilled_more}
@@ -77,32 +79,64 @@ loop-block-preserved g c =
       stops = keeps_then c.args.store.now c.loop-block.store new c.args.first inv.done inv.continues c.spill_next.ensures.continues
           inv.stands inv.stops c.spill_next.ensures.stops;
       continues = continues_then c.args.store.now c.loop-block.store new (g.met.D.SectorDevice.widens (device_of new)) inv.continues c.spill_next.ensures.continues;
-      begins = record {
-        few_writes = omega (arith, count, inv.begins.few_writes, c.spill_next.ensures.begins.few_writes);
-        few_syncs = omega (arith, inv.begins.few_syncs, c.spill_next.ensures.begins.few_syncs);
-      };
-      reads = omega (arith, inv.reads, c.spill_next.ensures.reads);
+      begins =
+          begun_more g.D.SectorDevice c.args.store.now c.loop-block.store new inv.continues (length inv.done) count
+          inv.begins c.spill_next.ensures.begins;
+      reads =
+          read_more g.D.SectorDevice c.args.store.now c.loop-block.store new inv.continues (length inv.done) count
+          inv.reads c.spill_next.ensures.reads;
     }
 
 pub returns-then-is_empty-clause-begins : goal.returns-then-is_empty-clause-begins
 returns-then-is_empty-clause-begins g c =
+    let old = c.args.store.now in
     let inv = c.loop-block.invariant in
-    record { few_writes = omega (arith, blocks_so_far inv.done c.loop-block.left.now c.args.bytes.now inv.rest, inv.begins.few_writes); few_syncs = inv.begins.few_syncs }
+    spills_within g.D.SectorDevice (device_of old) (device_of c.loop-block.store) (by_older old) (length inv.done) (blocks_for (length c.args.bytes.now))
+    (omega (arith, blocks_so_far inv.done c.loop-block.left.now c.args.bytes.now inv.rest)) inv.begins
+
+pub returns-then-is_empty-clause-reads : goal.returns-then-is_empty-clause-reads
+returns-then-is_empty-clause-reads g c =
+    let old = c.args.store.now in
+    let inv = c.loop-block.invariant in
+    reads_within g.D.SectorDevice (device_of old) (device_of c.loop-block.store) (by_older old) (length inv.done) (blocks_for (length c.args.bytes.now))
+    (omega (arith, blocks_so_far inv.done c.loop-block.left.now c.args.bytes.now inv.rest)) inv.reads
 
 pub returns-clause-begins : goal.returns-clause-begins
 returns-clause-begins g c =
+    let old = c.args.store.now in
     let inv = c.loop-block.invariant in
-    record { few_writes = omega (arith, blocks_so_far inv.done c.loop-block.left.now c.args.bytes.now inv.rest, inv.begins.few_writes); few_syncs = inv.begins.few_syncs }
+    spills_within g.D.SectorDevice (device_of old) (device_of c.loop-block.store) (by_older old) (length inv.done) (blocks_for (length c.args.bytes.now))
+    (omega (arith, blocks_so_far inv.done c.loop-block.left.now c.args.bytes.now inv.rest)) inv.begins
+
+pub returns-clause-reads : goal.returns-clause-reads
+returns-clause-reads g c =
+    let old = c.args.store.now in
+    let inv = c.loop-block.invariant in
+    reads_within g.D.SectorDevice (device_of old) (device_of c.loop-block.store) (by_older old) (length inv.done) (blocks_for (length c.args.bytes.now))
+    (omega (arith, blocks_so_far inv.done c.loop-block.left.now c.args.bytes.now inv.rest)) inv.reads
 
 pub returns-in_err-left-clause-begins : goal.returns-in_err-left-clause-begins
 returns-in_err-left-clause-begins g c =
+    let D = g.D.SectorDevice in
+    let old = c.args.store.now in
+    let new = c.spill_next.new.store in
     let inv = c.loop-block.invariant in
-    let some : 0 < length c.loop-block.left.now = grind (arith, common_steps) in
-    let next = c.spill_next.ensures.begins in
-    record {
-      few_writes = omega (arith, one_block_more c.loop-block.left.now some, blocks_so_far inv.done c.loop-block.left.now c.args.bytes.now inv.rest, inv.begins.few_writes, next.few_writes);
-      few_syncs = omega (arith, inv.begins.few_syncs, next.few_syncs);
-    }
+    let left = c.loop-block.left.now in
+    let done = length inv.done in
+    let some : 0 < length left = grind (arith, common_steps) in
+    spills_within D (device_of old) (device_of new) (by_older old) (done + 1) (blocks_for (length c.args.bytes.now))
+    (omega (arith, one_block_more left some, blocks_so_far inv.done left c.args.bytes.now inv.rest))
+    (begun_more D old c.loop-block.store new inv.continues done refl inv.begins c.spill_next.ensures.begins)
 
 pub returns-in_err-left-clause-reads : goal.returns-in_err-left-clause-reads
-returns-in_err-left-clause-reads g c = omega (arith, c.loop-block.invariant.reads, c.spill_next.ensures.reads)
+returns-in_err-left-clause-reads g c =
+    let D = g.D.SectorDevice in
+    let old = c.args.store.now in
+    let new = c.spill_next.new.store in
+    let inv = c.loop-block.invariant in
+    let left = c.loop-block.left.now in
+    let done = length inv.done in
+    let some : 0 < length left = grind (arith, common_steps) in
+    reads_within D (device_of old) (device_of new) (by_older old) (done + 1) (blocks_for (length c.args.bytes.now))
+    (omega (arith, one_block_more left some, blocks_so_far inv.done left c.args.bytes.now inv.rest))
+    (read_more D old c.loop-block.store new inv.continues done refl inv.reads c.spill_next.ensures.reads)

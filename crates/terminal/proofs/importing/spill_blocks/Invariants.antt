@@ -1,6 +1,7 @@
 use Rattle.std.proofs.Common.{◌≡◌, ◌≤◌, ◌+◌, ◌-◌, ◌*◌, ◌++◌, ℕ, List, length}
 use Rattle.journal.specs.Maps.{Maps}
-use Rattle.journal.specs.Store.{StandsFor, Continues, DeviceBegins, DeviceReads, DeviceWentWell, KeepsSaved, closed_of, pending_count}
+use Rattle.journal.specs.Costs.{spill_reads, spill_writes}
+use Rattle.journal.specs.Store.{StandsFor, Continues, DeviceBegins, DeviceReads, DeviceWentWell, KeepsSaved, by_older, closed_of, pending_count}
 use Rattle.terminal.specs.Transfer.{as_blocks, spilled_from}
 use Rattle.terminal.proofs.importing.spill_blocks.Given as goal
 
@@ -15,6 +16,6 @@ invariant-loop-block g l = record {
   well : DeviceWentWell l.initial.store l.store;
   stops : KeepsSaved l.initial.store l.store;
   continues : Continues l.initial.store l.store;
-  begins : DeviceBegins l.initial.store l.store (2 * length done) 0;
-  reads : DeviceReads l.initial.store l.store 0;
+  begins : DeviceBegins l.initial.store l.store (spill_writes (by_older l.initial.store) * length done) 0;
+  reads : DeviceReads l.initial.store l.store (spill_reads (by_older l.initial.store) * length done);
 }

@@ -11,7 +11,7 @@ use Rattle.block_buffers.specs.Buffers.{slot_of, assigned}
 use Rattle.block_words.proofs.Lists.{none_past, none_of}
 use Rattle.block_words.proofs.Runs.{source_found, source_read, source_closed, source_failed, refused_runs, still_runs, keeps_store, keeps_saved}
 use Rattle.block_words.proofs.Asked.{asks_past}
-use Rattle.block_words.proofs.Worn.{wears_by, wears_none}
+use Rattle.block_words.proofs.Worn.{reads_by, wears_none}
 use Rattle.journal.specs.Store.{device_of, closed_of, blocks_of, text_of}
 use Rattle.block_words.proofs.buffered_blocks.Blocks.find_text.Goals as goal
 
@@ -50,7 +50,7 @@ returns-in-Ok-clause-runs g c = λ m space stands.
       runs = source_read c.args.u m c.args.self.now.buffers space is none open_now (text_of c.read_text.new.self) (c.in-Ok.ensures.ok m stands);
       stands = c.in-Ok.ensures.state m stands;
       kept = keeps_saved g.D.SectorDevice m.closed (device_of old) (device_of c.read_text.new.self) m.saved open_now c.in-Ok.ensures.continues.sectors (c.in-Ok.ensures.stops m stands open_now);
-      wears = wears_by g.D.SectorDevice (device_of old) (device_of c.read_text.new.self) 1 0 c.in-Ok.ensures.continues.sectors c.in-Ok.ensures.begins c.in-Ok.ensures.reads;
+      wears = reads_by g.D.SectorDevice (device_of old) (device_of c.read_text.new.self) 1 c.in-Ok.ensures.continues.sectors c.in-Ok.ensures.begins c.in-Ok.ensures.reads;
       shuts = λ h. h;
       last = λ _. refl;
     }
@@ -65,7 +65,7 @@ returns-in-Err-clause-runs g c = λ m space stands.
     c.from.ensures g.met.D.SectorDevice.only_now stands (c.read_text.ensures.state m stands)
     (λ f. search rules) (λ f. search rules) (λ f. search rules)
     (source_closed c.args.u m b space is none) (source_failed c.args.u m b space is none)
-    c.read_text.ensures.continues.sectors (c.read_text.ensures.stops m stands) (wears_by g.D.SectorDevice _ _ 1 0 c.read_text.ensures.continues.sectors c.read_text.ensures.begins c.read_text.ensures.reads)
+    c.read_text.ensures.continues.sectors (c.read_text.ensures.stops m stands) (reads_by g.D.SectorDevice _ _ 1 c.read_text.ensures.continues.sectors c.read_text.ensures.begins c.read_text.ensures.reads)
 
 pub returns-then-u-blocks-clause-asks : goal.returns-then-u-blocks-clause-asks
 returns-then-u-blocks-clause-asks g c =

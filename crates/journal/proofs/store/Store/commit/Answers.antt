@@ -11,6 +11,7 @@ use Rattle.journal.proofs.Meaning.{sound_homes}
 use Rattle.journal.proofs.Signing.{listed_same}
 use Rattle.journal.proofs.Stores.{latest_in, latest_size, none_pending, nothing_new, means_either, homes_either, told_by, has_left}
 use Rattle.journal.proofs.Suited.{newer_suits, sectors_suit, suits_keeps}
+use Rattle.journal.proofs.Techniques.{rest_tagged}
 use Rattle.journal.proofs.store.Store.commit.Goals as goal
 
 pub invariant_of-self-in-Ok : goal.invariant_of-self-in-Ok
@@ -20,6 +21,8 @@ invariant_of-self-in-Ok g c =
       size = c.save.ensures.passes.sectors ∙ old.size ∙ sym c.save.ensures.sectors;
       clear = λ b past. c.empty_record-self.ensures b;
       sound = λ model now. (c.in-Ok.ensures.ok (subst IsTrue c.save.ensures.suits model)).sound;
+      tagged = λ model now. rest_tagged c.save.new.self old.blocks.number c.empty_record-self.result c.record_sum-self.result (g.D.SectorDevice.disk c.save.new.device)
+          c.empty_record-self.ensures c.record_sum-self.ensures (c.in-Ok.ensures.ok (subst IsTrue c.save.ensures.suits model)).sound;
       keeps = λ model now b kept. cc;
     }
 

@@ -1,6 +1,7 @@
 use Rattle.std.proofs.Common.{IsTrue, sym, ◌∙◌, subst}
 use Rattle.journal.specs.BySize.{Means}
-use Rattle.journal.specs.Technique.{IsSound}
+use Rattle.sector_disk.specs.Disk.{Disk}
+use Rattle.journal.specs.Technique.{IsSound, IsTagged}
 use Rattle.journal.proofs.Stores.{latest_is}
 use Rattle.journal.proofs.store.Store.read_block.Goals as goal
 
@@ -13,6 +14,9 @@ invariant_of-self g c =
       sound = λ model now.
           let before = subst IsTrue c.read.ensures.suits model in
           subst (IsSound old.technique old.blocks.number) (sym (c.read.ensures.disk before)) (old.sound before now);
+      tagged = λ model now.
+          let before = subst IsTrue c.read.ensures.suits model in
+          subst (λ (d : Disk). IsTagged old.technique old.blocks.number old.pending old.next_sum d.content) (sym (c.read.ensures.disk before)) (old.tagged before now);
       keeps = λ model now b kept. cc;
     }
 

@@ -1,7 +1,7 @@
 use Rattle.std.proofs.Common.{◌≡◌, IsTrue, sym, ◌∙◌, ap, subst}
 use Rattle.sector_disk.specs.Disk.{Disk}
 use Rattle.journal.specs.BySize.{Means}
-use Rattle.journal.specs.Technique.{IsSound, latest_of}
+use Rattle.journal.specs.Technique.{IsSound, IsTagged, latest_of}
 use Rattle.journal.proofs.Stores.{latest_is}
 use Rattle.journal.proofs.store.Store.read_text.Goals as goal
 
@@ -16,6 +16,9 @@ invariant_of-self g c =
       sound = λ model now.
           let before = subst IsTrue c.read.ensures.suits model in
           subst (IsSound t n) (sym (c.read.ensures.disk before)) (old.sound before now);
+      tagged = λ model now.
+          let before = subst IsTrue c.read.ensures.suits model in
+          subst (λ (d : Disk). IsTagged t n old.pending old.next_sum d.content) (sym (c.read.ensures.disk before)) (old.tagged before now);
       keeps = λ model now a kept.
           let before = subst IsTrue c.read.ensures.suits model in
           let same : c.args.b ≡ a = cc in
@@ -34,6 +37,9 @@ invariant_of-self-in-Err g c =
       sound = λ model now.
           let before = subst IsTrue c.read.ensures.suits model in
           subst (IsSound t n) (sym (c.read.ensures.disk before)) (old.sound before now);
+      tagged = λ model now.
+          let before = subst IsTrue c.read.ensures.suits model in
+          subst (λ (d : Disk). IsTagged t n old.pending old.next_sum d.content) (sym (c.read.ensures.disk before)) (old.tagged before now);
       keeps = λ model now a kept.
           let before = subst IsTrue c.read.ensures.suits model in
           c.in-Err.ensures.err ∙ old.keeps before now a kept

@@ -2,9 +2,11 @@ use Rattle.std.proofs.Common.{arith, ◌≡◌, cond, Some, None, sym, ◌∙◌
 use Rattle.std.proofs.lemmas.List.{length-set}
 use Rattle.journal.specs.BySize.{Means}
 use Rattle.journal.specs.Layout.{listed}
-use Rattle.journal.specs.Technique.{spilled_at, spilled_of, InSpill}
-use Rattle.journal.proofs.Stores.{saved_means, pending_more, one_more}
-use Rattle.journal.proofs.Techniques.{in_spills, pair_written, saved_kept, sound_spilled, spilled_kept}
+use Rattle.journal.specs.Costs.{spill_reads, spill_writes}
+use Rattle.journal.specs.Calls.{BeginsAtMost, ReadsAtMost}
+use Rattle.journal.specs.Technique.{spilled_of, InSpill}
+use Rattle.journal.proofs.Stores.{saved_means, pending_more, one_more, told_by}
+use Rattle.journal.proofs.Techniques.{in_spills, saved_kept, sound_spilled, spilled_kept}
 use Rattle.journal.proofs.store.Store.spill.Goals as goal
 
 pub invariant_of-self : goal.invariant_of-self
@@ -18,6 +20,9 @@ invariant_of-self g c =
       sound = λ model now.
           let before = subst IsTrue c.write.ensures.suits model in
           sound_spilled old.blocks.number c.args.b c.requires.below (D.disk old.device) (D.disk new) old.technique (c.write.ensures.only before) (old.sound before now);
+      tagged = λ model now.
+          let before = subst IsTrue c.write.ensures.suits model in
+          c.in-Ok.ensures.tagged before (old.tagged before now) c.list.new.bits (record { here = c.list.ensures.listed; others = c.list.ensures.others });
       keeps = λ model now b kept. cc;
     }
 
@@ -45,7 +50,7 @@ returns-in-Ok-clause-ok g c = λ s stands.
       size = stands.size;
       pending_size = length-set s.pending b (Some c.args.bytes.now) ∙ stands.pending_size;
       pending = λ now a below. pending_more s.pending a b c.args.bytes.now (spilled_of t e.content a) (listed bits a) (omega (arith, stands.pending_size, c.requires.below))
-          (λ same. (ap (listed bits) same ∙ c.list.ensures.listed, ap (spilled_of t e.content) same ∙ pair_written (spilled_at t b) c.args.bytes.now d e (c.in-Ok.ensures.ok stands.model)))
+          (λ same. (ap (listed bits) same ∙ c.list.ensures.listed, ap (spilled_of t e.content) same ∙ c.in-Ok.ensures.ok stands.model))
           (λ other. stands.pending now a below
           ∙ (λ i. cond (sym (c.list.ensures.others a other) i) (Some (sym (spilled_kept n b c.requires.below d e t only a other) i)) None));
       left = λ now x may. subst (λ n. Means n s.saved x) (sym c.write.ensures.passes.sectors)
@@ -78,3 +83,23 @@ returns-in-Err-clause-fault g c =
       pending = λ now. absurd (cc);
       left = λ now. absurd (cc);
     }
+
+pub returns-in-Ok-clause-begins : goal.returns-in-Ok-clause-begins
+returns-in-Ok-clause-begins g c =
+    let old = c.args.self.now in
+    subst (λ t. BeginsAtMost g.D.SectorDevice old.device c.write.new.device (spill_writes t) 0) (sym (told_by old)) c.write.ensures.begins
+
+pub returns-in-Ok-clause-reads : goal.returns-in-Ok-clause-reads
+returns-in-Ok-clause-reads g c =
+    let old = c.args.self.now in
+    subst (λ t. ReadsAtMost g.D.SectorDevice old.device c.write.new.device (spill_reads t)) (sym (told_by old)) c.write.ensures.reads
+
+pub returns-in-Err-clause-begins : goal.returns-in-Err-clause-begins
+returns-in-Err-clause-begins g c =
+    let old = c.args.self.now in
+    subst (λ t. BeginsAtMost g.D.SectorDevice old.device c.write.new.device (spill_writes t) 0) (sym (told_by old)) c.write.ensures.begins
+
+pub returns-in-Err-clause-reads : goal.returns-in-Err-clause-reads
+returns-in-Err-clause-reads g c =
+    let old = c.args.self.now in
+    subst (λ t. ReadsAtMost g.D.SectorDevice old.device c.write.new.device (spill_reads t)) (sym (told_by old)) c.write.ensures.reads

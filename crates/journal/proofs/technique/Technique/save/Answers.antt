@@ -14,6 +14,12 @@ save-requires-in-Pages-clause-sound g c = λ keeps.
     (c.requires.sound (pages_suit g.D.SectorDevice c.args.self.now blocks.number c.args.device.now blocks.many blocks.few c.requires.size c.in-Pages.named c.in-Pages.is keeps)).pages
     c.in-Pages.named c.in-Pages.is
 
+pub save-requires-in-Pages-clause-spilled : goal.save-requires-in-Pages-clause-spilled
+save-requires-in-Pages-clause-spilled g c = λ keeps.
+    let blocks = c.args.blocks in
+    (c.requires.tagged (pages_suit g.D.SectorDevice c.args.self.now blocks.number c.args.device.now blocks.many blocks.few c.requires.size c.in-Pages.named c.in-Pages.is keeps)).pages
+    c.in-Pages.named c.in-Pages.is
+
 pub returns-in-Journal-clause-ok : goal.returns-in-Journal-clause-ok
 returns-in-Journal-clause-ok g c = λ keeps.
     let D = g.D.SectorDevice in
