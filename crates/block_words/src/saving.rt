@@ -1,5 +1,5 @@
 // Saving all that was updated or spilled.
-ghost use Rattle.std.specs.Prelude.{◌≡◌, ◌*◌, ◌×◌, ◌||◌, ℕ, [], true, false, length, is_ok, if◌then◌else◌, OnOk, OnErr, IsOk, IsErrOf};
+ghost use Rattle.std.specs.Prelude.{◌≡◌, ◌*◌, ◌||◌, ℕ, [], true, false, length, is_ok, if◌then◌else◌, OnOk, OnErr, IsOk, IsErrOf};
 ghost use Rattle.journal.specs.Maps.{Maps, shut};
 ghost use Rattle.journal.specs.Costs.{spill_reads, spill_writes};
 ghost use Rattle.journal.specs.Store.{blocks_of, by_older, closed_of, StandsFor, Continues, DeviceFailed, DeviceWentWell, DeviceBegins, DeviceReads, KeepsSaved, is_pending, device_of};
