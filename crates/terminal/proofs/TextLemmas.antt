@@ -1,12 +1,16 @@
 -- What was read of a text that a system opened, and what it is told as where it wasn't had.
-use Rattle.std.proofs.Common.{◌≡◌, ◌∙◌, ◌-◌, ◌≤◌, ◌⊎◌, ⊎_elim, ℕ, List, [], ◌∷◌, ◌++◌, length, take, drop, Option, None, Some, Result, Ok, Err, ap, append-nil, arith, get_or, inl, inr, subst, sym}
+use Rattle.std.proofs.Common.{◌≡◌, ◌∙◌, ◌-◌, ◌≤◌, ◌⊎◌, ⊎_elim, ℕ, List, [], ◌∷◌, ◌++◌, length, take, drop, Option, None, Some, Result, Ok, Err, ap, append-nil, arith, get_or, inl, inr, refl, subst, sym}
 use Rattle.std.proofs.lemmas.List.{take_all}
 use Rattle.std.specs.Borrow.{Bor}
 use Rattle.std.specs.Prelude.{IfErr, IfSome}
 use Rattle.std.specs.Io.KnownBytes.{Consumes, IsAtEnd}
 use Rattle.sector_disk.specs.declared.device.SectorDevice.{Ghosts}
 use Rattle.journal.specs.declared.store.Store.{Store}
+use Rattle.command_line.specs.declared.orders.Form.{Form}
+use Rattle.terminal.specs.Failed.{LooksInVain}
+use Rattle.terminal.specs.Findings.{refusal, said, told}
 use Rattle.terminal.specs.Putting.{LeavesSome, PutsSome}
+use Rattle.terminal.specs.Scripts.{lined}
 use Rattle.terminal.specs.Texts.{IsTextOf, IsUnread, OneIsUnread}
 use Rattle.terminal.specs.declared.failure.Failure.{Failure}
 use Rattle.terminal.specs.declared.failure.Failure.TheVariants.{CannotRead, NoMemory}
@@ -21,6 +25,18 @@ read_whole (Some all) (Some rest) text read end = sym (read ∙ ap (λ l. text +
 pub first_and_others : {A : Type 0} (d : A) (xs : List A) → 1 ≤ length xs → xs ≡ get_or xs 0 d ∷ take (length xs - 1) (drop 1 xs)
 first_and_others d [] some = absurd (omega arith)
 first_and_others d (x ∷ xs) some = ap (λ l. x ∷ l) (sym (take_all (length (x ∷ xs) - 1) xs (omega arith)))
+
+-- ---- a text of a name is all that the reader had left which the system opened
+
+module _ {R : Type 0} (remaining : R → Option (List ℕ)) (opens : R → Type 0) (reader : R) (opened : opens reader) where
+  pub lines_named : (old new : List ℕ) → (bytes : List ℕ) × IfSome (remaining reader) (λ left. bytes ≡ left) × (new ≡ old ++ lined bytes)
+      → (bytes : List ℕ) × IsTextOf remaining opens bytes × (new ≡ old ++ lined bytes)
+  lines_named old new read = (read.0, record { reader = reader; opened = opened; known = read.1 }, read.2)
+
+  pub said_named : (form : Form) (room : ℕ) (bytes : List ℕ)
+      → (file : List ℕ) × IfSome (remaining reader) (λ left. file ≡ left) × (refusal (told form room file) ≡ None) × (bytes ≡ said form file)
+      → (file : List ℕ) × IsTextOf remaining opens file × (refusal (told form room file) ≡ None) × (bytes ≡ said form file)
+  said_named form room bytes read = (read.0, record { reader = reader; opened = opened; known = read.1 }, read.2, read.3)
 
 -- ---- a text that wasn't had
 
@@ -56,9 +72,14 @@ others_unread is_unread paths [] some so_far unread = absurd (omega arith)
 others_unread is_unread paths (path ∷ rest) some so_far unread =
     so_far (inr (subst (λ (l : List (Bor (List ℕ))). OneIsUnread is_unread l) (take_all (length (path ∷ rest) - 1) rest (omega arith)) unread))
 
+-- What it is told as where nothing was done but that.
+pub looked_in_vain : {D T : Type 0} (unread : Type 0) (r : Result T Failure) (device : D) → IfErr r (λ e. e ≡ CannotRead → unread)
+    → IfErr r (λ failure. LooksInVain unread failure device device)
+looked_in_vain unread (Ok t) device cannot = tt
+looked_in_vain unread (Err e) device cannot = record { same = refl; cannot = cannot }
+
 -- ---- a text that was put
 
--- All that the reader had left which the system opened is a text of that name.
 module _ {D R : Type 0} {G : Ghosts D} (remaining : R → Option (List ℕ)) (opens : R → Type 0) (reader : R) (opened : opens reader) (old new : Store D G) (b : ℕ) where
   pub puts_named : PutsSome (λ bytes. IfSome (remaining reader) (λ left. bytes ≡ left)) old new b → PutsSome (IsTextOf remaining opens) old new b
   puts_named puts = record {

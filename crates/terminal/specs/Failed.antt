@@ -62,6 +62,11 @@ IsUnmade failure = (failure ≡ Exists) ⊎ IsUnopened failure
 abbrev pub IsUntouched : {D : Type 0} (failure : Failure) (device after : D) → Type 0
 IsUntouched failure device after = after ≡ device
 
+-- `import --check`: the same, and that a file can't be read is told only where its text wasn't had.
+pub record LooksInVain {D : Type 0} (unread : Type 0) (failure : Failure) (device after : D) : Type 0 where
+  pub same : after ≡ device
+  pub cannot : failure ≡ CannotRead → unread
+
 -- ---- what is told
 
 -- what was found couldn't be printed
@@ -205,11 +210,6 @@ module _ {D : Type 0} (G : Ghosts D) where
     pub cannot : failure ≡ CannotRead → unread
     pub begins : BeginsAtMost G begun after (4 * (blocks_on G device - first) + 3) 4
     pub reads : ReadsAtMost G begun after (4 * (blocks_on G device - first))
-
-  -- `import --check`: no call of the device was made, and that a file can't be read is told only where its text wasn't had.
-  pub record LooksInVain (unread : Type 0) (failure : Failure) (device after : D) : Type 0 where
-    pub same : after ≡ device
-    pub cannot : failure ≡ CannotRead → unread
 
   -- ---- of an image that is opened for reading alone
 

@@ -109,7 +109,7 @@ module _ {D E : Type 0} (G : Ghosts D) (L : Ghosts E) where
       FailsOn G Opened (opened path.now)
       (FailsAfter G (ImportFails G form first (AreTexts is_text sources.items) (OneIsUnread is_unread sources.items))) failure ends
   IsFailed opened made begun looked alone is_text is_unread (CheckImport path first sources form) left left' written written' failure ends =
-      FailsOn G Opened (opened path.now) (LooksInVain G (OneIsUnread is_unread sources.items)) failure ends
+      FailsOn G Opened (opened path.now) (LooksInVain (OneIsUnread is_unread sources.items)) failure ends
   IsFailed opened made begun looked alone is_text is_unread (Check path) left left' written written' failure ends =
       FailsOn L Looked (looked path.now) (CheckFails L written written') failure ends × (failure ≢ Damaged → PrintsNothing failure written written')
   IsFailed opened made begun looked alone is_text is_unread (Digests path) left left' written written' failure ends =

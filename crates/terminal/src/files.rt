@@ -222,7 +222,7 @@ pub fn check_import<H: HostFile, O: HostFiles<H>, B: Read + Drop, Q: TextFiles<B
         (AreTexts (λ path. IsTextOf B.remaining (Q.opens texts.now path)) sources.now)) result.0) }
     // Whatever is told of the files, no call of the image's device is made.
     ensures failed { IfErr result.1 (λ failure. FailsOn ⟦<SectorFile<H> as SectorDevice>⟧ Left.Opened
-        (IsOpened H.HostFile (O.opens files.now path.now)) (LooksInVain ⟦<SectorFile<H> as SectorDevice>⟧
+        (IsOpened H.HostFile (O.opens files.now path.now)) (LooksInVain
         (OneIsUnread (λ path. IsUnread (Q.opens texts.now path) (Q.refuses texts.now path)) sources.now)) failure result.0) }
     ensures unstopped { IfErr result.1 (λ e. e ≢ Failure.Stopped) }
 {

@@ -1,12 +1,13 @@
 use Rattle.std.proofs.Common.{inl}
 use Rattle.std.proofs.lemmas.Result.{IfOk-weaker}
-use Rattle.terminal.proofs.TextLemmas.{opened_unread}
+use Rattle.terminal.proofs.TextLemmas.{opened_unread, said_named}
 use Rattle.terminal.proofs.importing.read_file.Goals as goal
 
 pub returns-in-Ok-clause-said : goal.returns-in-Ok-clause-said
 returns-in-Ok-clause-said g c =
     IfOk-weaker c.read_said.result _ _
-    (λ bytes read. (read.0, record { reader = c.in-Ok.reader; opened = c.in-Ok.ensures.opens; known = read.1 }, read.2, read.3)) c.read_said.ensures.said
+    (λ bytes read. said_named g.B.Read.remaining (g.Q.TextFiles.opens c.args.texts.now c.args.path.now) c.in-Ok.reader c.in-Ok.ensures.opens
+    c.args.form c.args.room bytes.items read) c.read_said.ensures.said
 
 pub returns-in-Ok-clause-cannot : goal.returns-in-Ok-clause-cannot
 returns-in-Ok-clause-cannot g c =

@@ -1,12 +1,13 @@
 use Rattle.std.proofs.Common.{inl, inr}
 use Rattle.std.proofs.lemmas.Result.{IfErr-weaker, on_ok_weaker}
-use Rattle.terminal.proofs.TextLemmas.{told_unread}
+use Rattle.terminal.proofs.TextLemmas.{lines_named, told_unread}
 use Rattle.terminal.proofs.scripts.add_file.Goals as goal
 
 pub returns-in-Ok-clause-added : goal.returns-in-Ok-clause-added
 returns-in-Ok-clause-added g c =
     on_ok_weaker c.add_text.result
-    (λ read. (read.0, record { reader = c.in-Ok.reader; opened = c.in-Ok.ensures.opens; known = read.1 }, read.2)) c.add_text.ensures.added
+    (lines_named g.B.Read.remaining (g.Q.TextFiles.opens c.args.texts.now c.args.path.now) c.in-Ok.reader c.in-Ok.ensures.opens
+    c.args.text.now.items c.add_text.new.text.items) c.add_text.ensures.added
 
 pub returns-in-Ok-clause-only : goal.returns-in-Ok-clause-only
 returns-in-Ok-clause-only g c =
