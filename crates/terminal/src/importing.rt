@@ -237,7 +237,6 @@ fn take_said<E: Write>(
     ensures said { IfOk result (λ bytes. bytes.items ≡ said form file.now) }
     ensures there { IfOk result (λ bytes. blocks_for (length bytes.items) ≤ room) }
     ensures only { IfErr result (λ e. e ≢ Failure.Device) }
-    ensures readable { IfErr result (λ e. e ≢ Failure.CannotRead) }
     ensures unstopped { IfErr result (λ e. e ≢ Failure.Stopped) }
 {
     let Ok(screens) = read_screens(alloc, form, room, file) else {
