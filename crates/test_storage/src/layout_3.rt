@@ -5,7 +5,7 @@ mod formats;
 mod images;
 mod openings;
 mod salvages;
-mod saved_images;
+pub(crate) mod saved_images;
 mod saves;
 mod tags;
 mod upgrades;

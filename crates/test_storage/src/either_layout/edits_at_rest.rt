@@ -260,7 +260,7 @@ fn put_back(
 // A row has the number of saves of the older image, the sectors from one on to the one before another, the number of saves of the wanted image, and what is
 // found.
 fn each_put_back(
-    rt: &HostRuntime,
+    rt: &(impl AllocGlobal + Abort),
     newer: bool,
     saves: &[(u16, u8)],
     rows: &[(usize, u32, u32, usize, &'static str)],
