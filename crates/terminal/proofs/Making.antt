@@ -1,6 +1,6 @@
 -- How a command ended that was to make an image.
-use Rattle.std.proofs.Common.{◌≡◌, ◌⊎◌, ◌≤◌, ◌+◌, ◌*◌, ℕ, Bool, true, false, Result, Ok, Err, inr, refl, subst, sym, arith}
-use Rattle.std.specs.Prelude.{⊤, IsOk, IfErr, IfOk, MatchBool, OnOk}
+use Rattle.std.proofs.Common.{◌≡◌, ◌⊎◌, ◌≤◌, ◌+◌, ◌*◌, ℕ, true, Result, Ok, Err, inr, refl, subst, sym, arith}
+use Rattle.std.specs.Prelude.{⊤, IsOk, IfErr, IfOk, OnOk}
 use Rattle.std.proofs.lemmas.Bool.Decides.{nat_tests}
 use Rattle.sector_disk.specs.declared.device.SectorDevice.{Ghosts}
 use Rattle.journal.specs.Layout as older_layout
@@ -26,9 +26,6 @@ older_sectors n sectors is = grind (arith, nat_tests, is)
 
 pub newer_sectors : (n sectors : ℕ) → newer_label.is_size_for n sectors ≡ true → sectors ≡ newer_layout.sectors_for n
 newer_sectors n sectors is = grind (arith, nat_tests, is)
-
-pub first_case : {A B : Type 0} (t : Bool) → t ≡ true → MatchBool t A B → A
-first_case {A} {B} t is holds = subst (λ (b : Bool). MatchBool b A B) is holds
 
 on_any : {T E : Type 0} {P : Type 0} (r : Result T E) → P → OnOk r P
 on_any (Ok t) p = p

@@ -2,6 +2,7 @@ use Rattle.std.proofs.Common.{◌≡◌, ◌∙◌, ℕ, inl, inr, refl, subst, 
 use Rattle.std.proofs.lemmas.Result.{IfErr-weaker, on_ok_weaker}
 use Rattle.journal.specs.Layout.{sectors_for}
 use Rattle.sector_disk.specs.Opening.{AreZeros}
+use Rattle.terminal.specs.Files.{IsMade, IsUnfinished}
 use Rattle.terminal.proofs.Begun.{not_upgraded, told_cannot, unfinished_are}
 use Rattle.terminal.proofs.files.upgrade_into.Goals as goal
 
@@ -12,7 +13,7 @@ returns-in-Ok-clause-made g c =
     let size : c.args.source.sectors ≡ sectors_for c.in-Some.field-0 = sym counted ∙ c.in-Some.ensures.size in
     let same : c.in-Ok.target.sectors ≡ c.args.source.sectors = c.in-Ok.ensures.sectors ∙ counted in
     let done = c.upgrade_older-outcome in
-    let is = record {
+    let is : IsMade g.H.HostFile (g.O.HostFiles.makes c.args.files.now c.args.new.now) c.args.source.sectors c.in-Ok.target = record {
       file = made.0;
       made = made.1;
       goes = made.2;
@@ -30,7 +31,7 @@ returns-in-Ok-clause-failed g c =
     let size : c.args.source.sectors ≡ sectors_for c.in-Some.field-0 = sym counted ∙ c.in-Some.ensures.size in
     let same : c.in-Ok.target.sectors ≡ c.args.source.sectors = c.in-Ok.ensures.sectors ∙ counted in
     let done = c.upgrade_older-outcome in
-    let is = record {
+    let is : IsMade g.H.HostFile (g.O.HostFiles.makes c.args.files.now c.args.new.now) c.args.source.sectors c.in-Ok.target = record {
       file = made.0;
       made = made.1;
       goes = made.2;
@@ -42,11 +43,12 @@ returns-in-Ok-clause-failed g c =
     IfErr-weaker done.result _ _ (λ e did. inr (c.args.source, refl, c.in-Ok.target, is, done.new.old, done.new.new, refl, did))
     (done.ensures.failed c.in-Some.field-0 size same)
 
-pub returns-in-None-clause-failed : goal.returns-in-None-clause-failed
-returns-in-None-clause-failed g c = inl (inl (inr (c.args.source, refl, (c.args.source, refl, refl))))
+pub returns-in_default-clause-failed : goal.returns-in_default-clause-failed
+returns-in_default-clause-failed g c = inl (inl (inr (c.args.source, refl, (c.args.source, refl, refl))))
 
 pub returns-in-Err-clause-failed : goal.returns-in-Err-clause-failed
 returns-in-Err-clause-failed g c =
     let e = c.in-Err.ensures in
-    inl (not_upgraded c.in-Err.unfinished c.begun_beside.result c.from.result _ _ c.args.source refl c.begun_beside.ensures
+    inl (not_upgraded c.in-Err.unfinished c.begun_beside.result c.from.result (λ device. device ≡ c.args.source)
+    (IsUnfinished g.H.HostFile (g.O.HostFiles.makes c.args.files.now c.args.new.now)) c.args.source refl c.begun_beside.ensures
     (unfinished_are g.H.HostFile _ c.in-Err.unfinished e.unfinished e.empty) (told_cannot c.in-Err.unfinished c.in-Err.fault c.from.result c.from.ensures e.refused))

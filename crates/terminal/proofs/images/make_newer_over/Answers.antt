@@ -1,11 +1,12 @@
 use Rattle.std.proofs.Common.{◌≡◌, ◌∙◌, ap, sym}
+use Rattle.std.proofs.lemmas.Bool.{MatchBool-at_true}
 use Rattle.journal.specs.Maps.{fresh}
 use Rattle.recovery.specs.Formatted.{blank_blocks}
 use Rattle.journal.specs.PageLayout.{sectors_for}
 use Rattle.journal.proofs.Techniques.{pages_sectors}
 use Rattle.journal.proofs.Suited.{stays}
 use Rattle.terminal.specs.Failures.{of_image}
-use Rattle.terminal.proofs.Making.{first_case, newer_sectors}
+use Rattle.terminal.proofs.Making.{newer_sectors}
 use Rattle.terminal.proofs.images.make_newer_over.Goals as goal
 
 pub returns-in-Ok-clause-made : goal.returns-in-Ok-clause-made
@@ -25,8 +26,8 @@ returns-in-Err-clause-failed g c = λ sized.
     let did = c.in-Err.ensures in
     record {
       goes = record { model = stays g.D.SectorDevice c.args.device _ did.sectors did.model did.units; sectors = λ keeps. did.sectors; time = did.time; failures = did.failures };
-      told = c.from.ensures ∙ ap of_image (first_case _ sized did.refusal);
-      failed = did.device (first_case _ sized did.refusal);
+      told = c.from.ensures ∙ ap of_image (MatchBool-at_true _ _ sized did.refusal);
+      failed = did.device (MatchBool-at_true _ _ sized did.refusal);
       stops = λ keeps. did.stops keeps c.args.blocks (newer_sectors c.args.blocks (g.D.SectorDevice.sector_count c.args.device) sized);
       begins = did.begins;
       reads = did.reads;

@@ -1,4 +1,5 @@
 use Rattle.std.proofs.Common.{◌≡◌, ◌∙◌, ap, sym}
+use Rattle.std.proofs.lemmas.Bool.{MatchBool-at_true}
 use Rattle.journal.specs.Layout.{sectors_for}
 use Rattle.journal.specs.Maps.{fresh}
 use Rattle.recovery.specs.Formatted.{blank_blocks}
@@ -6,7 +7,7 @@ use Rattle.journal.specs.Technique.{is_journal}
 use Rattle.journal.proofs.Techniques.{journal_sectors}
 use Rattle.journal.proofs.Suited.{stays}
 use Rattle.terminal.specs.Failures.{of_image}
-use Rattle.terminal.proofs.Making.{first_case, older_sectors}
+use Rattle.terminal.proofs.Making.{older_sectors}
 use Rattle.terminal.proofs.images.make_over.Goals as goal
 
 pub returns-in-Ok-clause-made : goal.returns-in-Ok-clause-made
@@ -26,8 +27,8 @@ returns-in-Err-clause-failed g c = λ sized.
     let did = c.in-Err.ensures in
     record {
       goes = record { model = stays g.D.SectorDevice c.args.device _ did.sectors did.model did.units; sectors = λ keeps. did.sectors; time = did.time; failures = did.failures };
-      told = c.from.ensures ∙ ap of_image (first_case _ sized did.refusal);
-      failed = did.device (first_case _ sized did.refusal);
+      told = c.from.ensures ∙ ap of_image (MatchBool-at_true _ _ sized did.refusal);
+      failed = did.device (MatchBool-at_true _ _ sized did.refusal);
       stops = λ keeps. did.stops keeps c.args.blocks (older_sectors c.args.blocks (g.D.SectorDevice.sector_count c.args.device) sized);
       begins = did.begins;
       reads = did.reads;
