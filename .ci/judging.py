@@ -147,8 +147,10 @@ class Function:
         typed = re.match(r"impl(<[^{]*?>)? (?:(\w+)(?:<([^{]*?)>)? for )?(\w+)", block)
         if not self.indent or not typed:
             return module_of(self.file)
-        # (a module of a path and a type like u8 are written with a capital there)
-        given = [it[0].upper() + it[1:] for it in re.findall(r"\w+", typed[3] or "") if not re.search(rf"\b{it}\b", typed[1] or "")]
+        # (a module of a path and a type like u8 are written with a capital there, a shared borrow and a slice by these words)
+        types_given = re.sub(r"\[(\w+)\]", r"Slice \1", re.sub(r"&('\w+ )?", "Ref ", typed[3] or ""))
+        parameters = re.findall(r"(?:^<|, )(?:const )?'?(\w+)", typed[1] or "")
+        given = [it[0].upper() + it[1:] for it in re.findall(r"\w+", types_given) if it not in parameters]
         declared = types.get(typed[4], [self.file])
         return [*module_of(self.file if typed[2] or self.file in declared else declared[0]), "".join([typed[4], typed[2] or "", *given])]
 

@@ -43,9 +43,9 @@ not_finished (Some device) left failure begun at unmade is told = inr (told, dev
 pub not_upgraded : {D E : Type 0} (unfinished : Option D) (left : Left D E) (failure : Failure) (opened begun : D → Type 0) (source : D) → opened source
     → MatchOption unfinished (left ≡ Opened source) (λ device. left ≡ Upgraded source device) → IfSome unfinished begun
     → IfSome unfinished (λ _. failure ≡ CannotOpen)
-    → (((left ≡ Nothing) × IsUnopened failure) ⊎ ((after : D) × (left ≡ Opened after) × (device : D) × opened device × (after ≡ device)))
+    → (((left ≡ Nothing) × IsUnopened failure) ⊎ ((after : D) × (left ≡ Opened after) × ((device : D) × opened device × (after ≡ device))))
     ⊎ ((failure ≡ CannotOpen) × (source : D) × opened source × (device : D) × begun device × (left ≡ Upgraded source device))
-not_upgraded None left failure opened begun source is at made told = inl (inr (source, at, source, is, refl))
+not_upgraded None left failure opened begun source is at made told = inl (inr (source, at, (source, is, refl)))
 not_upgraded (Some device) left failure opened begun source is at made told = inr (told, source, is, device, made, at)
 
 -- No image was made on it, and of the old one no call was made.

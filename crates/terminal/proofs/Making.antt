@@ -1,5 +1,5 @@
 -- How a command ended that was to make an image.
-use Rattle.std.proofs.Common.{◌≡◌, ◌⊎◌, ◌≤◌, ◌+◌, ◌*◌, ℕ, true, Result, Ok, Err, inr, refl, subst, sym, arith}
+use Rattle.std.proofs.Common.{◌≡◌, ◌∙◌, ◌⊎◌, ◌≤◌, ◌+◌, ◌*◌, ℕ, true, Result, Ok, Err, inr, refl, subst, sym, arith}
 use Rattle.std.specs.Prelude.{⊤, IsOk, IfErr, IfOk, OnOk}
 use Rattle.std.proofs.lemmas.Bool.Decides.{nat_tests}
 use Rattle.sector_disk.specs.declared.device.SectorDevice.{Ghosts}
@@ -31,16 +31,16 @@ on_any : {T E : Type 0} {P : Type 0} (r : Result T E) → P → OnOk r P
 on_any (Ok t) p = p
 on_any (Err e) p = tt
 
-of_none : {T E : Type 0} {P : E → Type 0} (r : Result T E) → IsOk r → IfErr r P
-of_none (Ok t) is = tt
-of_none (Err e) is = absurd cc
+of_none : {T E : Type 0} (P : E → Type 0) (r : Result T E) → IsOk r → IfErr r P
+of_none P (Ok t) is = tt
+of_none P (Err e) is = absurd cc
 
 module _ {D E T : Type 0} (G : Ghosts D) where
   -- The image was made.
   pub made_done : (first : D → Type 0) (P : D → D → Type 0) (device : D) (outcome : Result (Store D G) (Failure × D)) (left : Left D E)
       (r : Result T Failure) → first device → IfOk outcome (λ store. left ≡ Made (device_of store)) → IfErr outcome (λ e. r ≡ Err e.0)
       → IfOk outcome (λ store. P device (device_of store)) → OnOk r (DoneOn G (λ d. Made d) first P left)
-  made_done first P device (Ok store) left r is at failed done = on_any r (device_of store, at, device, is, done)
+  made_done first P device (Ok store) left r is at failed done = on_any r (device_of store, at, (device, is, done))
   made_done first P device (Err e) left r is at failed done = subst (λ (r : Result T Failure). OnOk r (DoneOn G (λ d. Made d) first P left)) (sym failed) tt
 
   -- It wasn't, or not to its end.
@@ -48,16 +48,17 @@ module _ {D E T : Type 0} (G : Ghosts D) where
       (left : Left D E) (r : Result T Failure) → first device → IfErr outcome (λ e. left ≡ Made e.1) → OnOk outcome (IsOk r)
       → IfErr outcome (λ e. r ≡ Err e.0) → IfErr outcome (λ e. P e.0 device e.1)
       → IfErr r (λ failure. N failure ⊎ DoneOn G (λ d. Made d) first (P failure) left)
-  made_failed first P N device (Ok store) left r is at well failed done = of_none r well
+  made_failed first P N device (Ok store) left r is at well failed done = of_none _ r well
   made_failed first P N device (Err e) left r is at well failed done =
       subst (λ (r : Result T Failure). IfErr r (λ failure. N failure ⊎ DoneOn G (λ d. Made d) first (P failure) left)) (sym failed)
-      (inr (e.1, at, device, is, done))
+      (inr (e.1, at, (device, is, done)))
 
-  -- No call of what was made failed.
-  pub made_well : (zero_calls : D → Type 0) (outcome : Result (Store D G) (Failure × D)) (left : Left D E) (r : Result T Failure)
+  -- No call of what was made failed, where none had failed before.
+  pub made_well : (device : D) (outcome : Result (Store D G) (Failure × D)) (left : Left D E) (r : Result T Failure) → G.failures device ≡ 0
       → IfOk outcome (λ store. left ≡ Made (device_of store)) → IfErr outcome (λ e. r ≡ Err e.0)
-      → IfOk outcome (λ store. zero_calls (device_of store)) → OnOk r (EachLeft zero_calls (λ (other : E). ⊤) left)
-  made_well zero_calls (Ok store) left r at failed done =
-      on_any r (subst (λ (left : Left D E). EachLeft zero_calls (λ (other : E). ⊤) left) (sym at) done)
-  made_well zero_calls (Err e) left r at failed done =
-      subst (λ (r : Result T Failure). OnOk r (EachLeft zero_calls (λ (other : E). ⊤) left)) (sym failed) tt
+      → IfOk outcome (λ store. G.failures (device_of store) ≡ G.failures device)
+      → OnOk r (EachLeft (λ (d : D). G.failures d ≡ 0) (λ (other : E). ⊤) left)
+  made_well device (Ok store) left r zero at failed well =
+      on_any r (subst (λ (left : Left D E). EachLeft (λ (d : D). G.failures d ≡ 0) (λ (other : E). ⊤) left) (sym at) (well ∙ zero))
+  made_well device (Err e) left r zero at failed well =
+      subst (λ (r : Result T Failure). OnOk r (EachLeft (λ (d : D). G.failures d ≡ 0) (λ (other : E). ⊤) left)) (sym failed) tt

@@ -185,6 +185,12 @@ module _ {D T : Type 0} (G : Ghosts D) (hears : (old new : T) → LineEnd → Op
           subst (λ (f : Failure). FailsAfter G (RunFails G steps script.is_strict ended.led left' written written') f device after) same
           (after_opening (of_run fault) (breaks fault is))
 
+    unbegun_after : (led : Option (List ℕ)) (failure : Failure) (device after : D) → FailsAfter G (NotBegun G led left' written written') failure device after
+        → FailsAfter G (RunFails G steps script.is_strict led left' written written') failure device after
+    unbegun_after led failure device after (inl refuses) = inl refuses
+    unbegun_after led failure device after (inr opens) =
+        inr (record { begun = opens.begun; recovers = opens.recovers; well = opens.well; same = opens.same; goes = opens.goes; done = inl opens.done })
+
     module _ {E : Type 0} (opened : D → Type 0) where
       -- It went so over an image that was opened on such a device, of which this is left.
       abbrev EndsOn : Left D E → Ended → Type 0
@@ -195,7 +201,7 @@ module _ {D T : Type 0} (G : Ghosts D) (hears : (old new : T) → LineEnd → Op
           (EndsSession G hears steps script.is_strict ended.end ended.is_unsaved led left' written written' tracer tracer') ends)
           → IfOk r (EndsOn ends)
       ends_on led ends (Ok ended) leads session =
-          (session.0, session.1, session.2.0, session.2.1, record { led = led; leads = leads; session = session.2.2 })
+          (session.0, session.1, (session.2.0, session.2.1, record { led = led; leads = leads; session = session.2.2 }))
       ends_on led ends (Err e) leads session = tt
 
       -- No session began.
@@ -205,12 +211,6 @@ module _ {D T : Type 0} (G : Ghosts D) (hears : (old new : T) → LineEnd → Op
       unbegun_on is_unread led ends (Ok ended) leads fails = tt
       unbegun_on is_unread led ends (Err e) leads fails = inr (led, leads, fails)
 
-      unbegun_after : (led : Option (List ℕ)) (failure : Failure) (device after : D) → FailsAfter G (NotBegun G led left' written written') failure device after
-          → FailsAfter G (RunFails G steps script.is_strict led left' written written') failure device after
-      unbegun_after led failure device after (inl refuses) = inl refuses
-      unbegun_after led failure device after (inr opens) =
-          inr (record { begun = opens.begun; recovers = opens.recovers; well = opens.well; same = opens.same; goes = opens.goes; done = inl opens.done })
-
       unbegun_fails : (is_unread : (path : List ℕ) → Type 0) (failure : Failure) (ends : Left D E) → ScriptUnbegun G opened is_text is_unread script left left' written written' failure ends
           → ScriptFailed G opened is_text is_unread steps script left left' written written' failure ends
       unbegun_fails is_unread failure ends (inl unled) = inl unled
@@ -219,7 +219,7 @@ module _ {D T : Type 0} (G : Ghosts D) (hears : (old new : T) → LineEnd → Op
           go : FailsOn G (λ d. Opened d) opened (FailsAfter G (NotBegun G led.0 left' written written')) failure ends
               → FailsOn G (λ d. Opened d) opened (FailsAfter G (RunFails G steps script.is_strict led.0 left' written written')) failure ends
           go (inl none) = inl none
-          go (inr fails) = inr (fails.0, fails.1, fails.2.0, fails.2.1, unbegun_after led.0 failure fails.2.0 fails.0 fails.2.2)
+          go (inr fails) = inr (fails.0, fails.1, (fails.2.0, fails.2.1, unbegun_after led.0 failure fails.2.0 fails.0 fails.2.2))
 
       -- What it was told as.
       module _ {U : Type 0} (ends : Left D E) (r : Result Ended Failure) (told : Result U Failure)
@@ -232,7 +232,7 @@ module _ {D T : Type 0} (G : Ghosts D) (hears : (old new : T) → LineEnd → Op
                 → MatchResult r (λ ended. MatchResult told (λ _. of_end ended.end ≡ None) (λ e. of_end ended.end ≡ Some e)) (λ failure. told ≡ Err failure)
                 → IfOk r (EndsOn ends) → OnOk told (DoneOn G (λ d. Opened d) opened (RunsScript G is_text steps script left left' written written') ends)
             go (Ok ended) (Ok u) is ran =
-                (ran.0, ran.1, ran.2.0, ran.2.1, runs_script ended.end ended.is_unsaved ran.2.0 ran.0 ran.2.2 (at_input ended.end is))
+                (ran.0, ran.1, (ran.2.0, ran.2.1, runs_script ended.end ended.is_unsaved ran.2.0 ran.0 ran.2.2 (at_input ended.end is)))
             go (Err e) (Ok u) is session = absurd (cc)
             go r (Err e) is session = tt
 
@@ -246,7 +246,7 @@ module _ {D T : Type 0} (G : Ghosts D) (hears : (old new : T) → LineEnd → Op
                 → DoneOn G (λ d. Opened d) opened (StopsScript G is_text steps script left left' written written') ends
             go (Ok ended) is ran begun =
                 let end : of_end ended.end ≡ Some Stopped = rw stopped at is in
-                (ran.0, ran.1, ran.2.0, ran.2.1, stops_script ended.end ended.is_unsaved ran.2.0 ran.0 ran.2.2 (at_fault ended.end end))
+                (ran.0, ran.1, (ran.2.0, ran.2.1, stops_script ended.end ended.is_unsaved ran.2.0 ran.0 ran.2.2 (at_fault ended.end end)))
             go (Err e) is session begun = let same : e ≡ Stopped = cc in absurd (begun same)
 
         pub told_failed : (is_unread : (path : List ℕ) → Type 0) → IfErr r (λ failure. ScriptUnbegun G opened is_text is_unread script left left' written written' failure ends)
@@ -260,7 +260,7 @@ module _ {D T : Type 0} (G : Ghosts D) (hears : (old new : T) → LineEnd → Op
             go r (Ok u) is session unbegun = tt
             go (Ok ended) (Err e) is ran unbegun =
                 let by = ran.2.2 in
-                inr (by.led, by.leads, inr (ran.0, ran.1, ran.2.0, ran.2.1, fails_by ended.end ended.is_unsaved ran.2.0 ran.0 by ended.end refl e is))
+                inr (by.led, by.leads, inr (ran.0, ran.1, (ran.2.0, ran.2.1, fails_by ended.end ended.is_unsaved ran.2.0 ran.0 by ended.end refl e is)))
             go (Err e) (Err e') is session unbegun =
                 let same : e ≡ e' = cc in
                 subst (λ (f : Failure). ScriptFailed G opened is_text is_unread steps script left left' written written' f ends) same (unbegun_fails is_unread e ends unbegun)

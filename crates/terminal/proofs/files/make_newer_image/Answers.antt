@@ -16,7 +16,7 @@ returns-in-Ok-clause-failed g c = λ many few.
 
 pub returns-in-Ok-clause-well : goal.returns-in-Ok-clause-well
 returns-in-Ok-clause-well g c =
-    made_well _ _ c.make_newer_over.result c.made.result.0 c.made.result.1 c.made.ensures.made c.made.ensures.failed c.make_newer_over.ensures.well
+    made_well _ c.in-Ok.disk c.make_newer_over.result c.made.result.0 c.made.result.1 c.in-Ok.ensures.made.failures c.made.ensures.made c.made.ensures.failed c.make_newer_over.ensures.well
 
 pub returns-in-Err-clause-failed : goal.returns-in-Err-clause-failed
 returns-in-Err-clause-failed g c = λ many few.

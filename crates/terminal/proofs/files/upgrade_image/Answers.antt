@@ -1,5 +1,7 @@
 use Rattle.std.proofs.Common.{inl, refl}
+use Rattle.sector_disk.specs.contracts.sector_file.SectorFileSectorDevice.TheImpl.{ghosts}
 use Rattle.command_line.specs.declared.orders.Layout.TheVariants.{Two}
+use Rattle.terminal.specs.Files.{IsMade}
 use Rattle.terminal.proofs.Ended.{unopened}
 use Rattle.terminal.proofs.Upgrading.{upgrade_done, upgrade_failed}
 use Rattle.terminal.proofs.files.upgrade_image.Goals as goal
@@ -11,7 +13,8 @@ returns-in-Ok-clause-made g c =
 
 pub returns-in-Ok-clause-failed : goal.returns-in-Ok-clause-failed
 returns-in-Ok-clause-failed g c =
-    upgrade_failed _ Two c.upgrade_into.result.1 c.upgrade_into.result.0 c.in-Ok.source _ _ _ (record { file = c.in-Ok.ensures.file; sectors = c.in-Ok.ensures.sectors; counts = c.in-Ok.ensures.counts; failures = c.in-Ok.ensures.failures })
+    upgrade_failed (ghosts g.row.H g.H.HostFile g.H.HostFile-dict) Two c.upgrade_into.result.1 c.upgrade_into.result.0 c.in-Ok.source _
+    (IsMade g.H.HostFile (g.O.HostFiles.makes c.args.files.now c.args.new.now)) _ (record { file = c.in-Ok.ensures.file; sectors = c.in-Ok.ensures.sectors; counts = c.in-Ok.ensures.counts; failures = c.in-Ok.ensures.failures })
     c.upgrade_into.ensures.failed
 
 pub returns-in-Ok-clause-well : goal.returns-in-Ok-clause-well
