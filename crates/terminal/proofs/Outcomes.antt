@@ -88,18 +88,18 @@ not_help e memory (inl (inl help)) = absurd (let no : OutOfMemory ≡ DisplayHel
 not_help e memory (inl (inr version)) = absurd (let no : OutOfMemory ≡ DisplayVersion = sym memory ∙ version in cc)
 
 -- Help that an error shows was asked for.
-pub asked_for : {kinds : Kinds} (e : Error) → HasKind kinds e → IsHelp (kind_of e) → AsksForHelp kinds
-asked_for {kinds} e (inl memory) help = not_help {P = AsksForHelp kinds} e memory (inl help)
-asked_for {kinds} e (inr among) (inl help) = inl (subst (λ (k : ErrorKind). IsAmong k kinds) help among)
-asked_for {kinds} e (inr among) (inr version) = inr (subst (λ (k : ErrorKind). IsAmong k kinds) version among)
+pub asked_for : (kinds : Kinds) (e : Error) → HasKind kinds e → IsHelp (kind_of e) → AsksForHelp kinds
+asked_for kinds e (inl memory) help = not_help {P = AsksForHelp kinds} e memory (inl help)
+asked_for kinds e (inr among) (inl help) = inl (subst (λ (k : ErrorKind). IsAmong k kinds) help among)
+asked_for kinds e (inr among) (inr version) = inr (subst (λ (k : ErrorKind). IsAmong k kinds) version among)
 
-pub ends_as : {kinds : Kinds} (e : Error) (status : ℕ) → HasKind kinds e
+pub ends_as : (kinds : Kinds) (e : Error) (status : ℕ) → HasKind kinds e
     → (status ≡ 2) ⊎ (status ≡ 5) ⊎ (IsHelp (kind_of e) × EndsHelp status) → (status ≡ 2) ⊎ (status ≡ 5) ⊎ (AsksForHelp kinds × EndsHelp status)
-ends_as e status has (inl refused) = inl refused
-ends_as e status has (inr (inl memory)) = inr (inl memory)
-ends_as e status has (inr (inr shown)) = inr (inr (asked_for e has shown.0, shown.1))
+ends_as kinds e status has (inl refused) = inl refused
+ends_as kinds e status has (inr (inl memory)) = inr (inl memory)
+ends_as kinds e status has (inr (inr shown)) = inr (inr (asked_for kinds e has shown.0, shown.1))
 
-pub prints_same : {kinds : Kinds} {W : Type 0} (contents : W → Option (List ℕ)) {old new : W} (e : Error) → HasKind kinds e
+pub prints_same : (kinds : Kinds) {W : Type 0} (contents : W → Option (List ℕ)) {old new : W} (e : Error) → HasKind kinds e
     → IsHelp (kind_of e) ⊎ (new ≡ old) → AsksForHelp kinds ⊎ (contents new ≡ contents old)
-prints_same contents e has (inl help) = inl (asked_for e has help)
-prints_same contents e has (inr same) = inr (ap contents same)
+prints_same kinds contents e has (inl help) = inl (asked_for kinds e has help)
+prints_same kinds contents e has (inr same) = inr (ap contents same)

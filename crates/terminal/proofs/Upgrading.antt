@@ -17,6 +17,14 @@ use Rattle.terminal.specs.declared.failure.Failure.{Failure}
 use Rattle.terminal.specs.declared.left.Left.{Left}
 use Rattle.terminal.proofs.Becoming.{proceeded}
 
+module _ {D E : Type 0} (G : Ghosts D) where
+  same_source : (failure : Failure) (left : Left D E) (source : D) (opened begun : D → Type 0) → opened source
+      → NotUpgraded G (λ device. device ≡ source) begun failure left → NotUpgraded G opened begun failure left
+  same_source failure left source opened begun is (inl (inl none)) = inl (inl none)
+  same_source failure left source opened begun is (inl (inr one)) = inl (inr (one.0, one.1, (one.2.0, subst opened (sym one.2.1) is, one.2.2)))
+  same_source failure left source opened begun is (inr beside) =
+      inr (beside.0, beside.1, subst opened (sym beside.2) is, beside.3, beside.4, beside.5)
+
 module _ {D E T : Type 0} (G : Ghosts D) where
   pub upgrade_done : (layout : Layout) (r : Result T Failure) (left : Left D E) (source : D) (opened : D → Type 0) (made : ℕ → D → Type 0) → opened source
       → OnOk r (UpgradeDone G (λ device. device ≡ source) made layout left) → OnOk r (UpgradeDone G opened made layout left)
@@ -26,21 +34,14 @@ module _ {D E T : Type 0} (G : Ghosts D) where
       (done.0, done.1, done.2, (done.3.0, subst opened (sym done.3.1) is, done.3.2, done.3.3, done.3.4))
   upgrade_done layout (Err e) left source opened made is done = tt
 
-  same_source : (failure : Failure) (left : Left D E) (source : D) (opened begun : D → Type 0) → opened source
-      → NotUpgraded G (λ device. device ≡ source) begun failure left → NotUpgraded G opened begun failure left
-  same_source failure left source opened begun is (inl (inl none)) = inl (inl none)
-  same_source failure left source opened begun is (inl (inr one)) = inl (inr (one.0, one.1, (one.2.0, subst opened (sym one.2.1) is, one.2.2)))
-  same_source failure left source opened begun is (inr beside) =
-      inr (beside.0, beside.1, subst opened (sym beside.2) is, beside.3, beside.4, beside.5)
-
   pub upgrade_failed : (layout : Layout) (r : Result T Failure) (left : Left D E) (source : D) (opened : D → Type 0) (made : ℕ → D → Type 0) (begun : D → Type 0)
       → opened source → IfErr r (λ failure. UpgradeFailed G (λ device. device ≡ source) made begun layout failure left)
       → IfErr r (λ failure. UpgradeFailed G opened made begun layout failure left)
   upgrade_failed layout (Ok t) left source opened made begun is failed = tt
-  upgrade_failed Two (Err e) left source opened made begun is (inl not) = inl (same_source e left source opened begun is not)
+  upgrade_failed Two (Err e) left source opened made begun is (inl not) = inl (same_source G e left source opened begun is not)
   upgrade_failed Two (Err e) left source opened made begun is (inr both) =
       inr (both.0, subst opened (sym both.1) is, both.2, both.3, both.4, both.5, both.6, both.7)
-  upgrade_failed Three (Err e) left source opened made begun is (inl not) = inl (same_source e left source opened begun is not)
+  upgrade_failed Three (Err e) left source opened made begun is (inl not) = inl (same_source G e left source opened begun is not)
   upgrade_failed Three (Err e) left source opened made begun is (inr both) =
       inr (both.0, subst opened (sym both.1) is, both.2, both.3, both.4, both.5, both.6, both.7)
 

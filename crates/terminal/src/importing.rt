@@ -133,7 +133,10 @@ fn add_files<B: Read + Drop, Q: TextFiles<B>, E: Write>(
     let mut left = room;
     let mut rest = paths;
     while let [path, others @ ..] = rest {
-        left = add_file(alloc, texts, bytes, left, *path, form, all, errors)?;
+        left = match add_file(alloc, texts, bytes, left, *path, form, all, errors) {
+            Ok(more) => more,
+            Err(failure) => return Err(failure),
+        };
         rest = others;
     }
     Ok(())

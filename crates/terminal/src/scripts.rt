@@ -229,7 +229,10 @@ fn add_files<B: Read + Drop, Q: TextFiles<B>>(
 {
     let mut rest = paths;
     while let [path, others @ ..] = rest {
-        add_file(alloc, texts, text, *path)?;
+        match add_file(alloc, texts, text, *path) {
+            Ok(()) => {}
+            Err(failure) => return Err(failure),
+        }
         rest = others;
     }
     Ok(())

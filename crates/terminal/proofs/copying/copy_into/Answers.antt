@@ -1,4 +1,4 @@
-use Rattle.std.proofs.Common.{◌≡◌, ◌∙◌, ap, inr, refl, sym}
+use Rattle.std.proofs.Common.{◌≡◌, ◌∙◌, Some, ap, inr, refl, sym}
 use Rattle.std.proofs.lemmas.Result.{IfErr-weaker, on_ok_weaker}
 use Rattle.terminal.proofs.Begun.{begun_in_part}
 use Rattle.terminal.specs.Copying.{sectors_for_copy}

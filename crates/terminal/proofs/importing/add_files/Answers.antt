@@ -9,13 +9,13 @@ loop-rest-init g c = record { blocks = λ more are sound. (more, are, sound, ref
 
 pub loop-rest-preserved : goal.loop-rest-preserved
 loop-rest-preserved g c = record {
-  blocks = blocks_next _ _ _ _ _ _ _ _ _ _ _ _ (first_and_others _ c.loop-rest.rest.now c.in-len1-up.len_at_least) c.in_ok-left.ensures.added c.loop-rest.invariant.blocks;
+  blocks = blocks_next _ _ _ _ _ _ _ _ _ _ _ _ (first_and_others _ c.loop-rest.rest.now c.in-len1-up.len_at_least) c.in-Ok.ensures.added c.loop-rest.invariant.blocks;
   unread = λ some. others_unread _ _ c.loop-rest.rest.now c.in-len1-up.len_at_least c.loop-rest.invariant.unread some;
 }
 
 pub returns-clause-added : goal.returns-clause-added
 returns-clause-added g c = blocks_all _ _ _ _ _ _ _ _ (grind (arith, common_steps)) c.loop-rest.invariant.blocks
 
-pub returns-in_err-left-clause-cannot : goal.returns-in_err-left-clause-cannot
-returns-in_err-left-clause-cannot g c = λ is.
-    first_unread _ _ _ _ _ (first_and_others _ c.loop-rest.rest.now c.in-len1-up.len_at_least) c.loop-rest.invariant.unread (c.in_err-left.ensures.cannot is)
+pub returns-in-Err-clause-cannot : goal.returns-in-Err-clause-cannot
+returns-in-Err-clause-cannot g c = λ is.
+    first_unread _ _ _ _ _ (first_and_others _ c.loop-rest.rest.now c.in-len1-up.len_at_least) c.loop-rest.invariant.unread (c.in-Err.ensures.cannot is)

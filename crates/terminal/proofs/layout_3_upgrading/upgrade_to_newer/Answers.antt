@@ -8,7 +8,8 @@ use Rattle.terminal.proofs.layout_3_upgrading.upgrade_to_newer.Goals as goal
 
 pub returns-in-Ok-clause-made : goal.returns-in-Ok-clause-made
 returns-in-Ok-clause-made g c =
-    upgrade_done _ Three c.upgrade_newer_into.result.1 c.upgrade_newer_into.result.0 c.in-Ok.source _ _ (record { file = c.in-Ok.ensures.file; sectors = c.in-Ok.ensures.sectors; counts = c.in-Ok.ensures.counts; failures = c.in-Ok.ensures.failures })
+    upgrade_done (ghosts g.row.H g.H.HostFile g.H.HostFile-dict) Three c.upgrade_newer_into.result.1 c.upgrade_newer_into.result.0 c.in-Ok.source _
+    (IsMade g.H.HostFile (g.O.HostFiles.makes c.args.files.now c.args.new.now)) (record { file = c.in-Ok.ensures.file; sectors = c.in-Ok.ensures.sectors; counts = c.in-Ok.ensures.counts; failures = c.in-Ok.ensures.failures })
     c.upgrade_newer_into.ensures.made
 
 pub returns-in-Ok-clause-failed : goal.returns-in-Ok-clause-failed

@@ -1,4 +1,6 @@
-use Rattle.std.proofs.Common.{ap, inl, inr, refl}
+use Rattle.std.proofs.Common.{ap, inl, inr, map, refl}
+use Rattle.clap.specs.Words.{fault_of}
+use Rattle.command_line.specs.Commands.{forth83}
 use Rattle.terminal.proofs.Outcomes.{done_so, ends_as, failed_so, no_memory, not_help, prints_same}
 use Rattle.terminal.proofs.program.command_over.Goals as goal
 
@@ -39,7 +41,7 @@ pub returns-in-Ok-clause-unwritten : goal.returns-in-Ok-clause-unwritten
 returns-in-Ok-clause-unwritten g c = λ refused. absurd (refused c.in-Ok.ensures.fits)
 
 pub returns-in-Err-clause-refused : goal.returns-in-Err-clause-refused
-returns-in-Err-clause-refused g c = λ refused. ends_as c.in-Err.error c.explain.result c.in-Err.ensures.fits c.explain.ensures.refused
+returns-in-Err-clause-refused g c = λ refused. ends_as (fault_of forth83 (map g.S.AsStr.text c.args.words.now)) c.in-Err.error c.explain.result c.in-Err.ensures.fits c.explain.ensures.refused
 
 pub returns-in-Err-clause-unwritten : goal.returns-in-Err-clause-unwritten
-returns-in-Err-clause-unwritten g c = λ refused. prints_same g.W.Write.contents c.in-Err.error c.in-Err.ensures.fits c.explain.ensures.unwritten
+returns-in-Err-clause-unwritten g c = λ refused. prints_same (fault_of forth83 (map g.S.AsStr.text c.args.words.now)) g.W.Write.contents c.in-Err.error c.in-Err.ensures.fits c.explain.ensures.unwritten

@@ -9,13 +9,13 @@ loop-rest-init g c = record { lines = λ more are. (more, are, refl); unread = �
 
 pub loop-rest-preserved : goal.loop-rest-preserved
 loop-rest-preserved g c = record {
-  lines = lines_next _ _ _ _ _ _ _ _ (first_and_others _ c.loop-rest.rest.now c.in-len1-up.len_at_least) c.in_ok-add_file.ensures.added c.loop-rest.invariant.lines;
+  lines = lines_next _ _ _ _ _ _ _ _ (first_and_others _ c.loop-rest.rest.now c.in-len1-up.len_at_least) c.in-Ok.ensures.added c.loop-rest.invariant.lines;
   unread = λ some. others_unread _ _ c.loop-rest.rest.now c.in-len1-up.len_at_least c.loop-rest.invariant.unread some;
 }
 
 pub returns-clause-added : goal.returns-clause-added
 returns-clause-added g c = lines_all _ _ _ _ _ (grind (arith, common_steps)) c.loop-rest.invariant.lines
 
-pub returns-in_err-add_file-clause-only : goal.returns-in_err-add_file-clause-only
-returns-in_err-add_file-clause-only g c =
-    first_unread_of _ _ _ _ _ _ (first_and_others _ c.loop-rest.rest.now c.in-len1-up.len_at_least) c.loop-rest.invariant.unread c.in_err-add_file.ensures.only
+pub returns-in-Err-clause-only : goal.returns-in-Err-clause-only
+returns-in-Err-clause-only g c =
+    first_unread_of _ _ _ _ _ _ (first_and_others _ c.loop-rest.rest.now c.in-len1-up.len_at_least) c.loop-rest.invariant.unread c.in-Err.ensures.only
