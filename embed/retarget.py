@@ -41,6 +41,8 @@ NUMBER = re.compile(r"^(declare i64 @(?:read|write)\(i32)\b")
 # A pair that is loaded, a pointer alone on the stack, and a table of constants with pointers.
 PAIR = re.compile(r"\s*(%\S+) = load \{ (i8|ptr), ptr \}, ptr (%\S+), align 8")
 ROOM = re.compile(r"= alloca ptr(?=,)")
+# What stays a call of its own: that by which a save writes its record and then the gate, since its pages aren't to lie on the stack while the record is made.
+APART = re.compile(r'(define .*@"journal::pages::saving::turn::.*)( #\d+ \{)$')
 # A copy or filling of memory, with its length; and a number for each.
 COPY = re.compile(r"(.*@llvm\.mem(?:cpy|move|set)\.p0(?:\.p0)?\.i64\(.*, )i64 ?(%?\w*)(, i1 .*)")
 COPIES = itertools.count()
@@ -139,7 +141,7 @@ def for_32_bits(line):
     pair = " = load {" in line and PAIR.match(line)
     if pair:
         return split_pair(pair)
-    line = ROOM.sub("= alloca [8 x i8]", line)
+    line = ROOM.sub("= alloca [8 x i8]", APART.sub(r"\1 noinline\2", line))
     if REFUSED.search(line):
         return None
     copy = "@llvm.mem" in line and COPY.match(line)
