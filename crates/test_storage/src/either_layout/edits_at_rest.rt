@@ -37,24 +37,25 @@ fn saved(
     Ok(store.into_device())
 }
 
+// The digest of an image's blocks, or why it isn't opened.
 fn digest_of(disk: &mut MemoryDisk) -> Result<[u8; 32], &'static str> {
     match examine(disk) {
         Ok(held) => Ok(held.digest),
-        Err(_) => Err("not examined"),
+        Err(OpenFault::BadSize) => Err("bad size"),
+        Err(OpenFault::NoLabel) => Err("no label"),
+        Err(OpenFault::OtherVersion) => Err("other version"),
+        Err(OpenFault::WrongCount) => Err("wrong count"),
+        Err(OpenFault::Damaged) => Err("damaged"),
+        Err(OpenFault::Device) => Err("device"),
     }
 }
 
 // What an opening finds: why it refuses the image, or whether its blocks are those of this digest.
 fn found(disk: &mut MemoryDisk, digest: &[u8; 32]) -> &'static str {
-    match examine(disk) {
-        Ok(held) if held.digest == *digest => "same",
+    match digest_of(disk) {
+        Ok(held) if held == *digest => "same",
         Ok(_) => "other",
-        Err(OpenFault::BadSize) => "bad size",
-        Err(OpenFault::NoLabel) => "no label",
-        Err(OpenFault::OtherVersion) => "other version",
-        Err(OpenFault::WrongCount) => "wrong count",
-        Err(OpenFault::Damaged) => "damaged",
-        Err(OpenFault::Device) => "device",
+        Err(told) => told,
     }
 }
 

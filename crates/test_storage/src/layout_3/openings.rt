@@ -109,7 +109,7 @@ fn letter(disk: MemoryDisk) -> Result<u8, &'static str> {
 // An open gate of which one bit changed, any of them, or 14 of its ones. With 16 of these gone it is read as closed.
 #[test]
 fn a_gate_that_changed_a_little_takes_no_save_away(rt: HostRuntime) -> Result<(), Fail> {
-    for bit in 0..64 {
+    for bit in 0..64_u32 {
         assert_same!(rt; letter(with_gate(rt.alloc(), 1 << bit)?)?, b'A', "bit {bit}");
     }
     assert_same!(rt; letter(with_gate(rt.alloc(), 0x0C4D_4F43)?)?, b'A');
