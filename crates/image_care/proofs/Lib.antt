@@ -5,3 +5,4 @@ pub mod Looks
 pub mod Makings
 pub mod Salvages
 pub mod Takings
+pub mod Through

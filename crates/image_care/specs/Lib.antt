@@ -7,4 +7,5 @@ pub mod Salvaged
 pub mod Seen
 pub mod Standing
 pub mod Taken
+pub mod Through
 pub mod View

@@ -5,5 +5,6 @@ mod files;
 mod fused;
 mod memory;
 mod recorded;
+pub(crate) mod scarred;
 mod sectors;
 mod short_calls;

@@ -3,3 +3,4 @@ mod edits_at_rest;
 mod openings;
 mod resting;
 mod saves;
+mod unread_sectors;

@@ -4,7 +4,7 @@ mod examinations;
 mod formats;
 mod images;
 mod openings;
-mod salvages;
+pub(crate) mod salvages;
 pub(crate) mod saved_images;
 mod saves;
 mod tags;

@@ -10,11 +10,11 @@ use std::alloc::Global;
 use std::test::Fail;
 
 // Block 5 counts in its first place, over an older one of A in its second; and block 31 in its second, over a blank one.
-const SAVES: [(u16, u8); 3] = [(5, b'A'), (5, b'B'), (31, b'C')];
+pub(crate) const SAVES: [(u16, u8); 3] = [(5, b'A'), (5, b'B'), (31, b'C')];
 
 // The blocks that aren't blank, as ` 5B` where block 5 begins so, and then the blocks that were taken from other places and those
 // that were lost.
-fn told(alloc: Global, disk: &mut MemoryDisk, taken: &Taken) -> Result<String, Fail> {
+pub(crate) fn told(alloc: Global, disk: &mut MemoryDisk, taken: &Taken) -> Result<String, Fail> {
     let mut text = String::new(alloc);
     for b in 0..32 {
         let Ok(Some(bytes)) = read_block(disk, b) else {
