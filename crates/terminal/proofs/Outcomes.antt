@@ -74,6 +74,12 @@ pub prints_none_but : {T W : Type 0} (contents : W → Option (List ℕ)) (old n
 prints_none_but contents old new failure (Ok t) same = tt
 prints_none_but contents old new failure (Err e) same = λ but other. ap contents (same but other)
 
+pub prints_none_but_two : {T W : Type 0} (contents : W → Option (List ℕ)) (old new : W) (one two : Failure) (r : Result T Failure)
+    → IfErr r (λ e. e ≢ one → e ≢ two → e ≢ CannotWrite → new ≡ old)
+    → IfErr r (λ e. e ≢ one → e ≢ two → PrintsNothing e (contents old) (contents new))
+prints_none_but_two contents old new one two (Ok t) same = tt
+prints_none_but_two contents old new one two (Err e) same = λ but nor other. ap contents (same but nor other)
+
 -- ---- words that give no order
 
 -- Of words that are refused nothing it is memory that wasn't there.

@@ -1,9 +1,10 @@
 -- What `copy`, `salvage`, `list` and `export` do of an image that is only read.
 use Rattle.std.specs.Prelude.{◌≡◌, ◌⊎◌, ℕ, List, Option}
 use Rattle.sector_disk.specs.declared.device.SectorDevice.{Ghosts}
-use Rattle.terminal.specs.Copying.{MakesCopy, MakesSalvage}
+use Rattle.terminal.specs.Copying.{MakesCopy}
 use Rattle.terminal.specs.Done.{DoneOn, Exports, ListsBlock}
 use Rattle.terminal.specs.Shown.{ShowsBlocks, ShowsImage}
+use Rattle.terminal.specs.Through.{MakesSalvage}
 use Rattle.terminal.specs.declared.left.Left.{Left}
 use Rattle.terminal.specs.declared.left.Left.TheVariants as files
 use Rattle.command_line.specs.declared.orders.Form.{Form}

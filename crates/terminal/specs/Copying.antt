@@ -115,9 +115,3 @@ module _ {A B : Type 0} (G : Ghosts A) (H : Ghosts B) where
   abbrev pub MakesCopy : (made : ℕ → B → Type 0) (asked : Option ℕ) (source source' : A) (after : B) → Type 0
   MakesCopy made asked source source' after =
       MadeOf made (sectors_for_copy (G.sector_count source) asked) Copies source source' after
-
-  -- An image was salvaged, which has as many blocks as were asked for.
-  abbrev pub MakesSalvage : (made : ℕ → B → Type 0) (asked : Option ℕ) (written written' : Option (List ℕ))
-      (source source' : A) (after : B) → Type 0
-  MakesSalvage made asked written written' source source' after =
-      MadeOf made (sectors_for_salvage (G.sector_count source) asked) (Salvages written written') source source' after

@@ -1,5 +1,5 @@
 -- What a command over images leaves where it failed, on any device: from the device that it opened or made to what that has become.
-use Rattle.std.specs.Prelude.{◌≡◌, ◌≢◌, ◌⊎◌, ℕ, Bool, true, ◌+◌, ◌-◌, ◌*◌, ◌≤◌, ◌<◌, IsTrue, List, Option, Some, IfSome, option_map}
+use Rattle.std.specs.Prelude.{◌≡◌, ◌≢◌, ◌⊎◌, ℕ, Bool, true, ◌+◌, ◌-◌, ◌*◌, ◌≤◌, ◌<◌, IsTrue, List, [], Option, Some, IfSome, option_map}
 use Rattle.std.specs.Io.KnownBytes.{Appends}
 use Rattle.sector_disk.specs.Counting.{count_up}
 use Rattle.sector_disk.specs.declared.device.SectorDevice.{Ghosts}
@@ -22,6 +22,7 @@ use Rattle.stores.specs.Opened.{image_refusal}
 use Rattle.image_care.specs.Copied.{copied_blocks, copy_refusal}
 use Rattle.image_care.specs.Made.{MakingLeaves, writes_to_make}
 use Rattle.image_care.specs.Salvaged.{salvage_refusal, salvaged_blocks}
+use Rattle.image_care.specs.Through.{ReadsThrough, image_of}
 use Rattle.sessions.specs.Devices.{Becomes}
 use Rattle.sessions.specs.Sessions.{AreFaultless}
 use Rattle.sessions.specs.declared.run_fault.RunFault.{RunFault}
@@ -42,6 +43,7 @@ use Rattle.terminal.specs.Screen.{screen_of}
 use Rattle.terminal.specs.Scripts.{IsLed, StopsFrom, load_line}
 use Rattle.terminal.specs.Shown.{block_refusal, blocks_refusal}
 use Rattle.terminal.specs.Texts.{OneIsUnread}
+use Rattle.terminal.specs.Through.{TellsUnread}
 use Rattle.terminal.specs.Transfer.{as_blocks, spilled_from}
 use Rattle.terminal.specs.declared.failure.Failure.{Failure}
 use Rattle.terminal.specs.declared.failure.Failure.TheVariants.{BadSize, CannotOpen, CannotRead, CannotWrite, Damaged, Device, Exists, InUse, NoBlock, NoMemory, Stopped}
@@ -226,12 +228,29 @@ module _ {D : Type 0} (G : Ghosts D) where
   abbrev pub LookingFails : Failure → (device after : D) → Type 0
   LookingFails = ReadingFails IsUntold (λ sectors image. option_map of_image (image_refusal sectors image))
 
-  -- `check`: of a damaged image of layout 3 each damaged block was told, and of one of layout 2 nothing was printed.
-  pub record CheckFails (written written' : Option (List ℕ)) (failure : Failure) (device after : D) : Type 0 where
+  -- `check`, of a look at an image: of a damaged one of layout 3 each damaged block was told, and of one of layout 2 nothing was printed.
+  pub record LookFails (written written' : Option (List ℕ)) (failure : Failure) (device after : D) : Type 0 where
     pub looks : LookingFails failure device after
     pub damaged : IsTrue (G.keeps_model device) → layout_by_size (G.sector_count device) ≡ Three → failure ≡ Damaged
         → Appends written written' (damage_report (G.sector_count device) (G.disk device).content)
     pub silent : layout_by_size (G.sector_count device) ≡ Two → failure ≢ CannotWrite → written' ≡ written
+
+  -- What is told where a read of it failed: the sectors that can't be read; or they couldn't be told, and the failure is that.
+  abbrev pub UnreadTold : (written written' : Option (List ℕ)) → Failure → (device after : D) → Type 0
+  UnreadTold written written' failure device after =
+      ((failure ≡ Device) × TellsUnread G written written' device after) ⊎ (OnlyRead G device after × IsUntold failure)
+
+  -- What is told more of an image of which a look failed: nothing, or what a failed read asks for.
+  abbrev pub MoreTold : (written written' : Option (List ℕ)) → (first failure : Failure) → (device after : D) → Type 0
+  MoreTold written written' first failure device after =
+      ((first ≢ Device) × (failure ≡ first) × (after ≡ device) × (written' ≡ written))
+      ⊎ ((first ≡ Device) × UnreadTold written written' failure device after)
+
+  -- `check`: a look failed, and not by a call of the device; or a call failed, and then the image was read through.
+  abbrev pub CheckFails : (written written' : Option (List ℕ)) → Failure → (device after : D) → Type 0
+  CheckFails written written' failure device after =
+      ((failure ≢ Device) × LookFails written written' failure device after)
+      ⊎ ((looked : D) × (between : Option (List ℕ)) × LookFails written between Device device looked × UnreadTold between written' failure looked after)
 
   -- `list`, `export`: the image is refused, or a block isn't there.
   abbrev pub ShowingFails : (refusal : (sectors : ℕ) → Image → Option Failure) → Failure → (device after : D) → Type 0
@@ -353,6 +372,24 @@ module _ {D : Type 0} (G : Ghosts D) where
 
 -- ---- of an image that is made of another one: G is of those that are copied or salvaged, H of those that are made
 
+module _ {B : Type 0} (H : Ghosts B) where
+  -- `salvage` of an image on so many sectors, of which this was had: it is made in part, or whole where that alone couldn't be told. What
+  -- was had lies in memory, and no call of the old device is made.
+  pub record HadInPart (sectors : ℕ) (seen : Image) (failure : Failure) (device after : B) : Type 0 where
+    pub goes : Becomes H device after
+    pub stops : IsTrue (suits H device) → StopsLeave H device after
+        (MakingLeaves (H.sector_count device) (salvaged_blocks (H.sector_count device) seen) (H.disk device))
+    pub whole : IsTrue (suits H device) → IsUntold failure
+        → LeavesBlocks H after (salvaged_blocks (H.sector_count device) seen)
+    pub begins : BeginsAtMost H device after (writes_to_make (H.sector_count device)) 4
+    pub looks : ReadsAtMost H device after 1
+    pub well : failure ≢ Device → H.failures after ≡ H.failures device
+    pub told : (failure ≡ Device) ⊎ IsUntold failure ⊎ (Some failure ≡ option_map of_upgrade (salvage_refusal sectors (H.sector_count device)))
+
+  -- The same, or there was no memory for what is told, and nothing was made.
+  abbrev pub HadFails : (sectors : ℕ) (seen : Image) → Failure → (device after : B) → Type 0
+  HadFails sectors seen failure device after = ((failure ≡ NoMemory) × (after ≡ device)) ⊎ HadInPart sectors seen failure device after
+
 module _ {A B : Type 0} (G : Ghosts A) (H : Ghosts B) where
   -- An image of these blocks was made in part: nothing of the old one was written or synced, and a stop at any moment leaves of the
   -- new one no image, or the whole one, or what could be left before.
@@ -390,10 +427,23 @@ module _ {A B : Type 0} (G : Ghosts A) (H : Ghosts B) where
   MakesCopyInPart made begun asked failure source source' after =
       MakesSome begun (MadeOf G H made (sectors_for_copy (G.sector_count source) asked) (CopyFails failure)) failure source source' after
 
+  -- `salvage` of an image that was read through: from its device, or from what was had.
+  abbrev pub ReadFails : (sectors : ℕ) (had unread : List ℕ) → Failure → (through source' : A) (device after : B) → Type 0
+  ReadFails sectors had unread failure through source' device after =
+      ((unread ≡ []) × SalvageFails failure through source' device after)
+      ⊎ ((unread ≢ []) × (source' ≡ through) × HadFails H sectors (image_of had) failure device after)
+
+  -- There was no memory for what is read, and the new device is as it was; or the image was read through, and then salvaged in part.
+  abbrev pub SalvageThroughFails : Failure → (source source' : A) (device after : B) → Type 0
+  SalvageThroughFails failure source source' device after =
+      (OnlyRead G source source' × (failure ≡ NoMemory) × (after ≡ device))
+      ⊎ ((through : A) × (had : List ℕ) × (unread : List ℕ) × ReadsThrough G had unread source through
+      × ReadFails (G.sector_count source) had unread failure through source' device after)
+
   -- A salvage was.
   abbrev pub MakesSalvageInPart : (made : ℕ → B → Type 0) (begun : B → Type 0) (asked : Option ℕ) → Failure → (source source' : A) (after : B) → Type 0
   MakesSalvageInPart made begun asked failure source source' after =
-      MakesSome begun (MadeOf G H made (sectors_for_salvage (G.sector_count source) asked) (SalvageFails failure)) failure source source' after
+      MakesSome begun (MadeOf G H made (sectors_for_salvage (G.sector_count source) asked) (SalvageThroughFails failure)) failure source source' after
 
   -- The old file wasn't opened; or the new one wasn't made, and no call of the old one was made; or P says what was made.
   abbrev pub FailsToMake : (P : A → A → B → Type 0) (looked : A → Type 0) → Failure → Left B A → Type 0

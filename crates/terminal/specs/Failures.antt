@@ -1,5 +1,5 @@
 -- The exit status of a failure, and the failure that a fault is told as.
-use Rattle.std.specs.Prelude.{ℕ, Option, Some, None, Result, Ok, Err}
+use Rattle.std.specs.Prelude.{ℕ, Bool, true, false, Option, Some, None, Result, Ok, Err}
 use Rattle.sector_disk.specs.declared.host_files.FileFault.{FileFault}
 use Rattle.sector_disk.specs.declared.host_files.FileFault.TheVariants as file
 use Rattle.journal.specs.declared.store.StoreFault.{StoreFault}
@@ -33,6 +33,24 @@ status_of NotAScreen = 4
 status_of CannotWrite = 4
 status_of NoMemory = 5
 status_of Stopped = 1
+
+-- whether a call of the image's device failed
+abbrev pub is_device : Failure → Bool
+is_device BadSize = false
+is_device NoLabel = false
+is_device OtherVersion = false
+is_device WrongCount = false
+is_device Damaged = false
+is_device Device = true
+is_device Exists = false
+is_device CannotOpen = false
+is_device InUse = false
+is_device NoBlock = false
+is_device CannotRead = false
+is_device NotAScreen = false
+is_device CannotWrite = false
+is_device NoMemory = false
+is_device Stopped = false
 
 -- a fault of an image is told under its own name
 abbrev pub of_image : OpenFault → Failure

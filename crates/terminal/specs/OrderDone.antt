@@ -111,7 +111,8 @@ module _ {D E : Type 0} (G : Ghosts D) (L : Ghosts E) where
   IsFailed opened made begun looked alone is_text is_unread (CheckImport path first sources form) left left' written written' failure ends =
       FailsOn G Opened (opened path.now) (LooksInVain (OneIsUnread is_unread sources.items)) failure ends
   IsFailed opened made begun looked alone is_text is_unread (Check path) left left' written written' failure ends =
-      FailsOn L Looked (looked path.now) (CheckFails L written written') failure ends × (failure ≢ Damaged → PrintsNothing failure written written')
+      FailsOn L Looked (looked path.now) (CheckFails L written written') failure ends
+      × (failure ≢ Damaged → failure ≢ Device → PrintsNothing failure written written')
   IsFailed opened made begun looked alone is_text is_unread (Digests path) left left' written written' failure ends =
       FailsOn L Looked (looked path.now) (LookingFails L) failure ends × PrintsNothing failure written written'
   IsFailed opened made begun looked alone is_text is_unread (Diff old new) left left' written written' failure ends =

@@ -20,6 +20,7 @@ ghost use Rattle.command_line.specs.declared.orders.Layout.TheVariants.{Two, Thr
 use super::damage::tell_damage;
 use super::failure::Failure;
 use super::left::Left;
+use super::unread_sectors::tell_more;
 use command_line::orders::Layout;
 use image_care::examine;
 use journal::layout::MOST_BLOCKS;
@@ -30,7 +31,7 @@ use std::alloc::{AllocError, Global};
 use std::io::Write;
 
 /// Prints what an image holds. Its file is opened for nothing but that, and is given back. Its failures: `CannotOpen`
-/// or `InUse` where the file can't be opened for reading, then those of `check_over`.
+/// or `InUse` where the file can't be opened for reading, then those of `check_through`.
 pub fn check_image<H: HostFile, O: HostFiles<H>, W: Write, D>(
     alloc: Global,
     files: &O,
@@ -43,17 +44,43 @@ pub fn check_image<H: HostFile, O: HostFiles<H>, W: Write, D>(
     ensures failed { IfErr result.1 (λ failure. FailsOn ⟦<SectorFile<H> as SectorDevice>⟧ Left.Looked
         (IsOpened H.HostFile (O.opens files.now path.now)) (CheckFails ⟦<SectorFile<H> as SectorDevice>⟧
         (W.contents output.old) (W.contents output.new)) failure result.0) }
-    // Nothing was printed, but where the image is damaged or the output failed.
-    ensures unprinted { IfErr result.1 (λ e. e ≢ Failure.Damaged → e ≢ Failure.CannotWrite → output.new ≡ output.old) }
+    // Nothing was printed, but where the image is damaged, a sector of it can't be read, or the output failed.
+    ensures unprinted { IfErr result.1 (λ e. e ≢ Failure.Damaged → e ≢ Failure.Device → e ≢ Failure.CannotWrite
+        → output.new ≡ output.old) }
     // No session has begun that could stop.
     ensures unstopped { IfErr result.1 (λ e. e ≢ Failure.Stopped) }
 {
     match open_disk(files, path) {
         Ok(mut disk) => {
-            let outcome = check_over(alloc, &mut disk, output);
+            let outcome = check_through(alloc, &mut disk, output);
             (Left::Looked(disk), outcome)
         }
         Err(fault) => (Left::Nothing, Err(Failure::from(fault))),
+    }
+}
+
+/// Prints what the image on a device holds, as `check_over`; and where a call of the device failed, which of its
+/// sectors can't be read. Its failures are those of `check_over`; `NoMemory` and `CannotWrite` also where those sectors
+/// couldn't be told.
+/// Rule: MANUAL, forth83 check IMAGE; IMAGE, A sector that can't be read.
+pub fn check_through<D: SectorDevice, W: Write>(
+    alloc: Global,
+    device: &mut D,
+    output: &mut W,
+) -> Result<(), Failure>
+    ensures checks { OnOk result (ChecksImage D.SectorDevice (W.contents output.old) (W.contents output.new) device.old device.new) }
+    ensures failed { IfErr result (λ failure. CheckFails D.SectorDevice (W.contents output.old) (W.contents output.new) failure
+        device.old device.new) }
+    // Where nothing is told of the image, nothing was printed.
+    ensures unprinted { IfErr result (λ e. e ≢ Failure.Damaged → e ≢ Failure.Device → e ≢ Failure.CannotWrite
+        → output.new ≡ output.old) }
+    // Whatever the answer is, nothing was written or synced.
+    ensures only_read { OnlyRead D.SectorDevice device.old device.new }
+    ensures unstopped { IfErr result (λ e. e ≢ Failure.Stopped) }
+{
+    match check_over(alloc, device, output) {
+        Ok(()) => Ok(()),
+        Err(failure) => tell_more(alloc, failure, device, output),
     }
 }
 

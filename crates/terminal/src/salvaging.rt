@@ -1,6 +1,6 @@
 //! What can be had of a damaged image is put into a new file, and told of. The old one is opened for reading alone.
 //! Rule: MANUAL, forth83 salvage OLD NEW [--blocks N]; IMAGE, Layout 3, What can be had of a damaged image.
-ghost use Rattle.std.specs.Prelude.{◌≡◌, ◌≢◌, ◌⊎◌, ◌<◌, ◌++◌, true, Some, None, string_bytes, IsTrue, IfErr, IfOk, IfSome, MatchResult, OnOk, option_map};
+ghost use Rattle.std.specs.Prelude.{◌≡◌, ◌≢◌, ◌⊎◌, ◌<◌, ◌++◌, true, ⊤, Some, None, string_bytes, IsTrue, IfErr, IfOk, IfSome, MatchResult, OnOk, option_map};
 ghost use Rattle.std.specs.Io.KnownBytes.{Appends};
 ghost use Rattle.sector_disk.specs.Counting.{count_up};
 ghost use Rattle.journal.specs.Calls.{StopsLeave};
@@ -11,18 +11,20 @@ ghost use Rattle.recovery.specs.Steps.{OnlyRead, WentWell};
 ghost use Rattle.image_care.specs.Made.{MakingLeaves};
 ghost use Rattle.image_care.specs.Salvaged.{salvage_refusal, salvaged_blocks};
 ghost use Rattle.terminal.specs.Care.{SalvageDone};
-ghost use Rattle.terminal.specs.Copying.{MakesSalvage, Salvages, no_recovery, pages_no_recovery, salvage_told, salvaged_count, sectors_for_salvage, standing_by};
+ghost use Rattle.terminal.specs.Copying.{Salvages, no_recovery, pages_no_recovery, salvage_told, salvaged_count, sectors_for_salvage, standing_by};
 ghost use Rattle.terminal.specs.Damage.{damage_told};
 ghost use Rattle.terminal.specs.Done.{EachLeft, IsGiven, LeavesBlocks};
 ghost use Rattle.terminal.specs.Failed.{MakesSalvageInPart, SalvageFailed, SalvageFails};
 ghost use Rattle.terminal.specs.Failures.{of_upgrade};
 ghost use Rattle.terminal.specs.Files.{IsMade, IsOpened, IsUnfinished};
+ghost use Rattle.terminal.specs.Through.{MakesSalvage};
 
 use super::checking::print;
 use super::copying::{copied, make_file, sectors_by};
 use super::damage::add_damage_line;
 use super::failure::Failure;
 use super::left::Left;
+use super::salvaging_through::salvage_through;
 use image_care::pages::Standing;
 use image_care::{Taken, salvage};
 use journal::layout::is_listed;
@@ -39,7 +41,7 @@ const NO_RECOVERY: &str =
 /// Makes an image of what can be had of a damaged one, by the same layout, in a new file, tells that this is no
 /// recovery, and gives both files. Nothing is made where the old one has the size of no image, or of one of another
 /// number of blocks than is asked for (`BadSize`), or where it can't be opened (`CannotOpen`, `InUse`); and whatever
-/// has the new name already stays as it is (`Exists`). Its other failures are those of `salvage_over`.
+/// has the new name already stays as it is (`Exists`). Its other failures are those of `salvage_through`.
 pub fn salvage_image<K: HostFile, P: HostFiles<K>, H: HostFile, O: HostFiles<H>, W: Write>(
     alloc: Global,
     looking: &P,
@@ -53,9 +55,8 @@ pub fn salvage_image<K: HostFile, P: HostFiles<K>, H: HostFile, O: HostFiles<H>,
     ensures made { OnOk result.1 (SalvageDone ⟦<SectorFile<K> as SectorDevice>⟧ ⟦<SectorFile<H> as SectorDevice>⟧
         (IsOpened K.HostFile (P.opens looking.now old.now)) (IsMade H.HostFile (O.makes files.now new.now)) asked
         (W.contents output.old) (W.contents output.new) result.0) }
-    // No call of either failed.
-    ensures well { OnOk result.1 (EachLeft (λ device. ⟦<SectorFile<H> as SectorDevice>⟧.failures device ≡ 0)
-        (λ device. ⟦<SectorFile<K> as SectorDevice>⟧.failures device ≡ 0) result.0) }
+    // No call of the new one failed. How many reads of the old one failed is told above: one for each sector that couldn't be read.
+    ensures well { OnOk result.1 (EachLeft (λ device. ⟦<SectorFile<H> as SectorDevice>⟧.failures device ≡ 0) (λ _. ⊤) result.0) }
     ensures failed { IfErr result.1 (λ failure. SalvageFailed ⟦<SectorFile<K> as SectorDevice>⟧ ⟦<SectorFile<H> as SectorDevice>⟧
         (IsOpened K.HostFile (P.opens looking.now old.now)) (IsMade H.HostFile (O.makes files.now new.now))
         (IsUnfinished H.HostFile (O.makes files.now new.now)) asked failure result.0) }
@@ -87,7 +88,6 @@ fn salvage_into<A: SectorDevice, H: HostFile, O: HostFiles<H>, W: Write>(
         source.old source.new target)) }
     // Whatever the answer is, nothing of the old image was written or synced.
     ensures kept { OnlyRead A.SectorDevice source.old source.new }
-    ensures old_well { OnOk result.1 (A.failures source.new ≡ A.failures source.old) }
     ensures new_well { OnOk result.1 (IfSome result.0 (λ target. ⟦<SectorFile<H> as SectorDevice>⟧.failures target ≡ 0)) }
     // Where it failed, an image may be made in part, or its file, or no call of the old one was made.
     ensures failed { IfErr result.1 (λ failure. IfSome result.0 (λ target. MakesSalvageInPart A.SectorDevice ⟦<SectorFile<H> as SectorDevice>⟧
@@ -102,7 +102,7 @@ fn salvage_into<A: SectorDevice, H: HostFile, O: HostFiles<H>, W: Write>(
     };
     match make_file(files, new, sectors) {
         Ok(mut target) => {
-            let outcome = salvage_over(alloc, source, &mut target, output);
+            let outcome = salvage_through(alloc, source, &mut target, output);
             (Some(target), outcome)
         }
         Err((failure, unfinished)) => (unfinished, Err(failure)),

@@ -118,3 +118,44 @@ fn making_is_stopped(
     assert!(rt; is_none || is_whole, "{name}, {fate:?} at {k}");
     Ok(())
 }
+
+/// Of the homes of both blocks and of the gate one sector can't be read. What is left of the image is salvaged all the same, and the sector is told; a check
+/// tells it too.
+#[test]
+fn images_with_a_sector_that_cannot_be_read(rt: HostRuntime) -> Result<(), Fail> {
+    let old = Disk::new(&rt)?;
+    let files = OneDisk::new(&old);
+    make_over(&rt, &files);
+    let (input, _) = transcript(&rt, SAVED)?;
+    let _ = call_over(&rt, &files, &["forth83", "run", "A"], input.as_slice());
+    let before = old.copy(&rt)?;
+    for (scar, line, replies) in [
+        (1, "sector 1: can't be read\n", SEVENS),
+        (2, "sector 2: can't be read\n", SEVENS),
+        (69, "block 1: sector 69 can't be read\n", "8224 7  ok\n"),
+        (70, "block 1: sector 70 can't be read\n", SEVENS),
+        (5, "block 1: sector 5 can't be read\n", SEVENS),
+        (130, "block 31: sector 130 can't be read\n", SEVENS),
+    ] {
+        old.scar(scar);
+        let new = Disk::new(&rt)?;
+        let (looking, files) = (OneDisk::new(&old), OneDisk::new(&new));
+        let words = ["forth83", "salvage", "A", "A"];
+        let left = call_over_both(&rt, &files, &looking, &words, b"");
+        let told = format!(in rt.alloc(); "{NO_RECOVERY}{line}")?;
+        assert_same!(rt; (left.status, left.output.as_slice()), (0, told.as_bytes()), "{scar}");
+        assert!(rt; left.errors.is_empty(), "{scar}");
+        let left = call_over(&rt, &files, &["forth83", "run", "A"], BOTH.as_bytes());
+        assert_same!(rt; left.output.as_slice(), replies.as_bytes(), "{scar}");
+        // A check reads neither the record of a closed gate nor a slot.
+        let left = call_over(&rt, &looking, &["forth83", "check", "A"], b"");
+        let is_read = scar != 2 && scar != 5;
+        assert_same!(rt; left.status, if is_read { 3 } else { 0 }, "{scar}");
+        assert!(rt;
+            !is_read || left.output.as_slice() == line.as_bytes(),
+            "{scar}"
+        );
+    }
+    assert!(rt; old.copy(&rt)? == before);
+    Ok(())
+}

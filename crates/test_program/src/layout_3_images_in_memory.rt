@@ -17,6 +17,13 @@ use std::test::Fail;
 /// What the blocks begin with once 7 was saved in two of them.
 const BOTH_SEVENS: &[(u16, &str)] = &[(1, "\x07\x00"), (2, "\x07\x00")];
 
+/// What each salvage tells.
+const PAGES_NO_RECOVERY: &str =
+    "salvaged, not recovered: a damaged block may be older, or written and not saved, or blank\n";
+
+/// Prints the first characters of both blocks.
+const FIRST_CHARACTERS: &[u8] = b"1 BLOCK C@ . 2 BLOCK C@ .\n";
+
 /// What `check` prints of an image of so many blocks, which are blank but for these, of which each begins so.
 fn report(alloc: Global, blocks: u16, starts: &[(u16, &str)]) -> Result<String, Fail> {
     let mut hasher = Sha256::new();
@@ -138,17 +145,31 @@ fn checks_whose_reads_fail(rt: HostRuntime) -> Result<(), Fail> {
     let wanted = report(rt.alloc(), 32, BOTH_SEVENS)?;
     assert_same!(rt; left.output.as_slice(), wanted.as_bytes());
     assert_same!(rt; disk.calls(), 163);
+    let unread = all_unread(rt.alloc())?;
     for k in (0..163).step_by(6) {
         disk.begin(k);
         let left = call_over(&rt, &files, &words, b"");
         check_fault(&rt, &left, k);
-        assert!(rt; left.output.is_empty(), "at {k}");
+        assert!(rt; left.output.as_slice() == unread.as_bytes(), "at {k}");
     }
     assert!(rt; disk.copy(&rt)? == before);
     Ok(())
 }
 
-/// And so do those of a check of a damaged image: of what it printed before that each line is true.
+/// What is told where no sector of an image of 32 blocks can be read any more.
+fn all_unread(alloc: Global) -> Result<String, Fail> {
+    let mut text = String::new(alloc);
+    for k in 0..32 {
+        text.push_str(&format!(in alloc; "sector {k}: can't be read\n")?)?;
+    }
+    for k in 32..544 {
+        let b = (k - 32) / 16;
+        text.push_str(&format!(in alloc; "block {b}: sector {k} can't be read\n")?)?;
+    }
+    Ok(text)
+}
+
+/// And so do those of a check of a damaged image, which told nothing of damage before that.
 #[test]
 fn checks_of_damage_whose_reads_fail(rt: HostRuntime) -> Result<(), Fail> {
     let disk = with_sevens(&rt)?;
@@ -165,11 +186,12 @@ fn checks_of_damage_whose_reads_fail(rt: HostRuntime) -> Result<(), Fail> {
         b"block 1: damaged, whole in its other place\nblock 2: damaged, whole in its other place\n".as_slice();
     assert_same!(rt; (left.status, left.output.as_slice()), (3, told));
     let calls = disk.calls();
+    let unread = all_unread(rt.alloc())?;
     for k in (0..calls).step_by(7) {
         disk.begin(k);
         let left = call_over(&rt, &files, &words, b"");
         check_fault(&rt, &left, k);
-        assert!(rt; told.starts_with(left.output.as_slice()), "at {k}");
+        assert!(rt; left.output.as_slice() == unread.as_bytes(), "at {k}");
     }
     assert!(rt; disk.copy(&rt)? == bytes);
     Ok(())
@@ -184,6 +206,52 @@ fn check_fault(rt: &impl Abort, left: &Left, k: u64) {
     );
 }
 
+/// One sector can't be read. A check tells it with the block that it is of, and a salvage passes it over: it takes the other place of the block.
+#[test]
+fn images_of_layout_3_with_a_sector_that_cannot_be_read(rt: HostRuntime) -> Result<(), Fail> {
+    let old = with_sevens(&rt)?;
+    let before = old.copy(&rt)?;
+    // Both blocks count in their second places, and a blank one lies in the first. Blanks are what the second half of block 1 has.
+    for (scar, damage, line, replies) in [
+        (
+            56,
+            "block 1: damaged, whole in its other place\n",
+            "block 1: sector 56 can't be read\n",
+            "32 7  ok\n",
+        ),
+        (
+            74,
+            "block 2: damaged, whole in its other place\n",
+            "block 2: sector 74 can't be read\n",
+            "7 32  ok\n",
+        ),
+        (57, "", "block 1: sector 57 can't be read\n", "7 7  ok\n"),
+        (48, "", "block 1: sector 48 can't be read\n", "7 7  ok\n"),
+        (0, "", "sector 0: can't be read\n", "7 7  ok\n"),
+    ] {
+        old.scar(scar);
+        let new = Disk::of_length(&rt, LENGTH)?;
+        let (looking, files) = (OneDisk::new(&old), OneDisk::new(&new));
+        let words = ["forth83", "salvage", "A", "A"];
+        let left = call_over_both(&rt, &files, &looking, &words, b"");
+        let told = format!(in rt.alloc(); "{damage}{PAGES_NO_RECOVERY}{line}")?;
+        assert_same!(rt; (left.status, left.output.as_slice()), (0, told.as_bytes()), "{scar}");
+        assert!(rt; left.errors.is_empty(), "{scar}");
+        let left = call_over(&rt, &files, &["forth83", "run", "A"], FIRST_CHARACTERS);
+        assert_same!(rt; left.output.as_slice(), replies.as_bytes(), "{scar}");
+        // A check doesn't read the places that don't count.
+        let left = call_over(&rt, &looking, &["forth83", "check", "A"], b"");
+        let is_read = scar != 48;
+        assert_same!(rt; left.status, if is_read { 3 } else { 0 }, "{scar}");
+        assert!(rt;
+            !is_read || left.output.as_slice() == line.as_bytes(),
+            "{scar}"
+        );
+    }
+    assert!(rt; old.copy(&rt)? == before);
+    Ok(())
+}
+
 /// A copy is stopped at each eleventh call of either device, and at the last ones with each fate: the old image stays byte for byte as it was, and
 /// the new one is none, or whole.
 #[test]
@@ -195,8 +263,8 @@ fn copies_of_layout_3_that_are_stopped(rt: HostRuntime) -> Result<(), Fail> {
 /// And so is a salvage.
 #[test]
 fn salvages_of_layout_3_that_are_stopped(rt: HostRuntime) -> Result<(), Fail> {
-    // Of the old image gate, record and each block with its tag.
-    makings_are_stopped(&rt, "salvage", 98)
+    // Of the old image each sector, and then gate, record and each block with its tag.
+    makings_are_stopped(&rt, "salvage", 544 + 98)
 }
 
 fn makings_are_stopped(

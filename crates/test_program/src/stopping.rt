@@ -99,13 +99,14 @@ impl Bytes {
 }
 
 /// A disk with one file, `A`. From the call `stops_at` on, counted from 0, each fails; if that call is a write, the first half of its
-/// bytes arrives.
+/// bytes arrives. And each read of one sector may fail, by its number.
 #[derive(Drop)]
 pub(crate) struct Disk {
     bytes: RefCell<Bytes>,
     is_there: Cell<bool>,
     made: Cell<u64>,
     stops_at: Cell<u64>,
+    scar: Cell<u64>,
 }
 
 impl Disk {
@@ -127,6 +128,7 @@ impl Disk {
             is_there: Cell::new(false),
             made: Cell::new(0),
             stops_at: Cell::new(u64::MAX),
+            scar: Cell::new(u64::MAX),
         })
     }
 
@@ -139,6 +141,11 @@ impl Disk {
     pub(crate) fn begin(&self, stops_at: u64) {
         self.made.set(0);
         self.stops_at.set(stops_at);
+    }
+
+    /// The sector of this number can't be read from now on.
+    pub(crate) fn scar(&self, sector: u64) {
+        self.scar.set(sector);
     }
 
     /// How many bytes of a call arrive, and whether it goes well.
@@ -230,6 +237,9 @@ impl HostFile for Opened<'_> {
         let room = buffer.len();
         let (_, outcome) = self.power.next(0);
         outcome?;
+        if position / 512 == self.disk.scar.get() {
+            return Err(HostFault::Failed);
+        }
         match self.disk.bytes.try_borrow() {
             Ok(bytes) => Ok(bytes.get(position as usize, buffer).min(room)),
             Err(_) => Err(HostFault::Failed),

@@ -1,6 +1,6 @@
 use Rattle.std.proofs.Common.{refl}
 use Rattle.terminal.specs.declared.failure.Failure.TheVariants.{Damaged, Device}
-use Rattle.terminal.proofs.Outcomes.{both_err, if_done, if_failed, never, printed_only, prints_none, prints_none_but, untouched, used}
+use Rattle.terminal.proofs.Outcomes.{both_err, if_done, if_failed, never, printed_only, prints_none, prints_none_but, prints_none_but_two, untouched, used}
 use Rattle.terminal.proofs.program.perform.Goals as goal
 
 pub returns-in-Memory-clause-done : goal.returns-in-Memory-clause-done
@@ -109,7 +109,7 @@ returns-in-Check-clause-done g c = rw c.in-Check.is c.check_image.ensures.checke
 pub returns-in-Check-clause-failed : goal.returns-in-Check-clause-failed
 returns-in-Check-clause-failed g c =
     rw c.in-Check.is (both_err c.check_image.result.1 _ _ c.check_image.ensures.failed
-    (prints_none_but g.W.Write.contents c.args.output.now c.check_image.new.output Damaged c.check_image.result.1 c.check_image.ensures.unprinted))
+    (prints_none_but_two g.W.Write.contents c.args.output.now c.check_image.new.output Damaged Device c.check_image.result.1 c.check_image.ensures.unprinted))
 
 pub returns-in-Check-clause-stopped : goal.returns-in-Check-clause-stopped
 returns-in-Check-clause-stopped g c = rw c.in-Check.is (never c.check_image.result.1 c.check_image.ensures.unstopped)

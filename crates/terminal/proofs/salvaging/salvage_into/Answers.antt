@@ -6,7 +6,7 @@ use Rattle.terminal.proofs.salvaging.salvage_into.Goals as goal
 
 pub returns-in-Ok-clause-made : goal.returns-in-Ok-clause-made
 returns-in-Ok-clause-made g c =
-    let done = c.salvage_over-outcome in
+    let done = c.salvage_through-outcome in
     on_ok_weaker done.result
     (λ did.
     let sized : sectors_for_salvage (g.A.SectorDevice.sector_count c.args.source.now) c.args.asked ≡ Some c.in-Some.sectors =
@@ -16,7 +16,7 @@ returns-in-Ok-clause-made g c =
 
 pub returns-in-Ok-clause-failed : goal.returns-in-Ok-clause-failed
 returns-in-Ok-clause-failed g c =
-    let done = c.salvage_over-outcome in
+    let done = c.salvage_through-outcome in
     IfErr-weaker done.result _ _
     (λ e did. inr (
       c.in-Some.sectors,

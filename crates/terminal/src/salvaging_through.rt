@@ -1,0 +1,133 @@
+//! An image is read through before it is salvaged, and the sectors that can't be read are passed over.
+//! Rule: MANUAL, forth83 salvage OLD NEW [--blocks N]; IMAGE, A sector that can't be read.
+ghost use Rattle.std.specs.Prelude.{◌≡◌, ◌≢◌, [], true, false, IsTrue, IfErr, OnOk};
+ghost use Rattle.recovery.specs.Steps.{OnlyRead, WentWell};
+ghost use Rattle.image_care.specs.Through.{image_of};
+ghost use Rattle.terminal.specs.Failed.{HadFails, HadInPart, ReadFails, SalvageThroughFails};
+ghost use Rattle.terminal.specs.Through.{SalvagesHad, SalvagesRead, SalvagesThrough, unread_told};
+
+use super::checking::print;
+use super::failure::Failure;
+use super::salvaging::salvage_over;
+use super::unread_sectors::unread_text;
+use image_care::{ReadOnlyFile, read_through};
+use sector_disk::{SectorDevice, SectorFile};
+use std::alloc::Global;
+use std::io::Write;
+
+/// Makes an image of what can be had of the one on another device, as `salvage_over`, after each sector of that one was
+/// read once. Where all could be read that is `salvage_over` itself. Else it is one of what was had, which lies in
+/// memory: blanks stand for each sector that couldn't be read, and these are told after all else. Its failures are
+/// those of `salvage_over`, and `NoMemory` where there is none for what is read, by each layout.
+/// Rule: MANUAL, forth83 salvage OLD NEW [--blocks N]; IMAGE, A sector that can't be read.
+pub fn salvage_through<A: SectorDevice, B: SectorDevice, W: Write>(
+    alloc: Global,
+    old: &mut A,
+    new: &mut B,
+    output: &mut W,
+) -> Result<(), Failure>
+    ensures salvages { OnOk result (SalvagesThrough A.SectorDevice B.SectorDevice
+        (W.contents output.old) (W.contents output.new) old.old old.new new.old new.new) }
+    ensures new_well { OnOk result (B.failures new.new ≡ B.failures new.old) }
+    // Whatever the answer is, nothing of the old image was written or synced.
+    ensures kept { OnlyRead A.SectorDevice old.old old.new }
+    // Where it failed, an image is made in part, or whole, or none.
+    ensures failed { IfErr result (λ failure. SalvageThroughFails A.SectorDevice B.SectorDevice failure old.old old.new new.old new.new) }
+    // Where nothing was salvaged, nothing is told.
+    ensures untold { IfErr result (λ e. e ≢ Failure.CannotWrite → output.new ≡ output.old) }
+    ensures unstopped { IfErr result (λ e. e ≢ Failure.Stopped) }
+{
+    let sectors = old.sectors();
+    match read_through(alloc, old) {
+        Ok((bytes, unread)) => {
+            salvage_read(alloc, old, sectors, bytes, unread.as_slice(), new, output)
+        }
+        Err(_) => Err(Failure::NoMemory),
+    }
+}
+
+/// Salvages an image on so many sectors, of which these bytes were had, and these sectors couldn't be read: from its
+/// device, where there are none.
+fn salvage_read<A: SectorDevice, B: SectorDevice, W: Write>(
+    alloc: Global,
+    old: &mut A,
+    sectors: u32,
+    bytes: Vec<u8>,
+    unread: &[u32],
+    new: &mut B,
+    output: &mut W,
+) -> Result<(), Failure>
+    ensures salvages { OnOk result (SalvagesRead A.SectorDevice B.SectorDevice sectors bytes.items unread.now
+        (W.contents output.old) (W.contents output.new) old.old old.new new.old new.new) }
+    ensures well { OnOk result (WentWell A.SectorDevice B.SectorDevice old.old old.new new.old new.new) }
+    ensures kept { OnlyRead A.SectorDevice old.old old.new }
+    ensures failed { IfErr result (λ failure. ReadFails A.SectorDevice B.SectorDevice sectors bytes.items unread.now failure
+        old.old old.new new.old new.new) }
+    ensures untold { IfErr result (λ e. e ≢ Failure.CannotWrite → output.new ≡ output.old) }
+    ensures unstopped { IfErr result (λ e. e ≢ Failure.Stopped) }
+{
+    if all_were_read(unread) {
+        salvage_over(alloc, old, new, output)
+    } else {
+        salvage_had(alloc, sectors, bytes, unread, new, output)
+    }
+}
+
+/// Whether no sector is listed.
+fn all_were_read(unread: &[u32]) -> bool
+    ensures none { result ≡ true → unread.now ≡ [] }
+    ensures some { result ≡ false → unread.now ≢ [] }
+{
+    match unread {
+        [_, ..] => false,
+        [] => true,
+    }
+}
+
+/// Salvages an image on so many sectors from what was had of it, and tells which sectors couldn't be read.
+fn salvage_had<B: SectorDevice, W: Write>(
+    alloc: Global,
+    sectors: u32,
+    bytes: Vec<u8>,
+    unread: &[u32],
+    new: &mut B,
+    output: &mut W,
+) -> Result<(), Failure>
+    ensures had { OnOk result (SalvagesHad B.SectorDevice sectors (image_of bytes.items) (unread_told sectors unread.now)
+        (W.contents output.old) (W.contents output.new) new.old new.new) }
+    ensures well { OnOk result (B.failures new.new ≡ B.failures new.old) }
+    ensures failed { IfErr result (λ failure. HadFails B.SectorDevice sectors (image_of bytes.items) failure new.old new.new) }
+    ensures untold { IfErr result (λ e. e ≢ Failure.CannotWrite → output.new ≡ output.old) }
+    ensures unstopped { IfErr result (λ e. e ≢ Failure.Stopped) }
+{
+    match unread_text(alloc, sectors, unread) {
+        Ok(text) => {
+            let mut seen = SectorFile::new(ReadOnlyFile::Still(bytes), sectors);
+            salvage_seen(alloc, &mut seen, text.as_bytes(), new, output)
+        }
+        Err(_) => Err(Failure::NoMemory),
+    }
+}
+
+/// Salvages an image whose device keeps the model, and tells more after that.
+fn salvage_seen<A: SectorDevice, B: SectorDevice, W: Write>(
+    alloc: Global,
+    seen: &mut A,
+    more: &[u8],
+    new: &mut B,
+    output: &mut W,
+) -> Result<(), Failure>
+    requires { IsTrue (A.keeps_model seen.old) }
+    ensures had { OnOk result (SalvagesHad B.SectorDevice (A.sector_count seen.old) (A.disk seen.old).content more.now
+        (W.contents output.old) (W.contents output.new) new.old new.new) }
+    ensures well { OnOk result (B.failures new.new ≡ B.failures new.old) }
+    ensures failed { IfErr result (λ failure. HadInPart B.SectorDevice (A.sector_count seen.old) (A.disk seen.old).content failure
+        new.old new.new) }
+    ensures untold { IfErr result (λ e. e ≢ Failure.CannotWrite → output.new ≡ output.old) }
+    ensures unstopped { IfErr result (λ e. e ≢ Failure.Stopped) }
+{
+    match salvage_over(alloc, seen, new, output) {
+        Ok(()) => print(more, output),
+        Err(failure) => Err(failure),
+    }
+}
