@@ -3,6 +3,7 @@ pub mod Examinations
 pub mod Findings
 pub mod Looks
 pub mod Makings
+pub mod Retries
 pub mod Salvages
 pub mod Takings
 pub mod Through

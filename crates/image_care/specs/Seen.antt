@@ -1,5 +1,5 @@
 -- Files that are only read: those of the system, and what was read of one that another program writes.
-use Rattle.std.specs.Prelude.{◌≡◌, ℕ, ◌*◌, Bool, true, false, not, List, [], length, slice_index, ⊤}
+use Rattle.std.specs.Prelude.{◌≡◌, ◌<◌, ℕ, ◌*◌, Bool, true, false, not, List, [], length, slice_index, take, Option, Some, None, ⊤}
 use Rattle.sector_disk.specs.FileBytes.{FileBytes, disk_of_file}
 use Rattle.shadow.specs.Label.{is_size}
 use Rattle.stores.specs.Images.{HasMeaning}
@@ -21,6 +21,32 @@ pub record IsWholeImage (bytes : List ℕ) : Type 0 where
   pub length : length bytes ≡ 512 * sectors
   pub newer : is_size sectors ≡ true
   pub meant : HasMeaning sectors (disk_of_file (still bytes)).content
+
+-- ---- what is read of a file, again and again
+
+-- What a reading of so many sectors gave is no image: it failed, or its bytes have no meaning.
+abbrev pub IsNoImage : (sectors : ℕ) → Option (List ℕ) → Type 0
+IsNoImage sectors None = ⊤
+IsNoImage sectors (Some bytes) = HasMeaning sectors (disk_of_file (still bytes)).content → ⊥
+
+-- A reading that may give this gave something that is no image.
+abbrev pub GaveNoImage : (sectors : ℕ) → (given : Option (List ℕ) → Type 0) → Type 0
+GaveNoImage sectors given = (what : Option (List ℕ)) × given what × IsNoImage sectors what
+
+-- Each of so many readings, of which this says what each may give, gave no image.
+abbrev pub NoneIsWhole : (sectors tries : ℕ) → (gives : ℕ → Option (List ℕ) → Type 0) → Type 0
+NoneIsWhole sectors tries gives = (k : ℕ) → k < tries → GaveNoImage sectors (gives k)
+
+-- One of them gave these bytes.
+abbrev pub IsOneOf : (tries : ℕ) → (gives : ℕ → Option (List ℕ) → Type 0) → (bytes : List ℕ) → Type 0
+IsOneOf tries gives bytes = (k : ℕ) × (k < tries) × gives k (Some bytes)
+
+-- What a reading gives of bytes that nobody writes: the first ones, or it fails where there are fewer.
+abbrev pub IsReadOf : (bytes : List ℕ) (room : ℕ) → Option (List ℕ) → Type 0
+IsReadOf bytes room None = length bytes < room
+IsReadOf bytes room (Some given) = given ≡ take room bytes
+
+-- ---- files
 
 -- whether it lies in memory
 abbrev pub is_still : ReadOnlyFile → Bool

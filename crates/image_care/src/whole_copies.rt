@@ -1,12 +1,13 @@
 // Images of layout 3 that are read whole while another program writes them.
-ghost use Rattle.std.specs.Prelude.{◌≡◌, ◌≢◌, ◌≤◌, ◌<◌, ◌+◌, ◌*◌, ◌^◌, true, IsTrue, IfErr, IfOk, IfSome, length};
+ghost use Rattle.std.specs.Prelude.{◌≡◌, ◌≢◌, ◌≤◌, ◌<◌, ◌+◌, ◌*◌, ◌^◌, ℕ, suc, List, Option, Some, None, true, IsTrue, IfErr, IfOk, IfSome, OnOk, OnErr, length};
 ghost use Rattle.sector_disk.specs.FileBytes.{Gives, disk_of_file};
 ghost use Rattle.shadow.specs.Label.{is_size};
 ghost use Rattle.stores.specs.Images.{HasMeaning};
-ghost use Rattle.image_care.specs.Seen.{IsWholeImage, still};
+ghost use Rattle.image_care.specs.Seen.{GaveNoImage, IsOneOf, IsWholeImage, NoneIsWhole, still};
 
 use crate::looking::look;
-use sector_disk::{FileFault, HostFault, HostFile, SectorFile};
+use recovery::OpenFault;
+use sector_disk::{FileFault, HostFault, HostFile, SectorDevice, SectorFile};
 use shadow::blocks_of_new;
 use std::alloc::Global;
 use std::fs::File;
@@ -97,22 +98,180 @@ pub(crate) fn copied(bytes: &[u8], position: u64, buffer: &mut [u8]) -> usize
     n
 }
 
-// Whether these sectors are a whole image.
-fn is_whole(bytes: &[u8], sectors: u32) -> bool
-    ensures { result ≡ true → HasMeaning sectors (disk_of_file (still bytes.now)).content }
-{
-    look(&mut SectorFile::new(Glance { bytes }, sectors)).is_ok()
+/// A file that is read from its beginning on, again and again, while another program may write it.
+/// Rule: IMAGE, A look while it runs.
+pub trait Readings {
+    /// What the readings from now on may give of so many bytes, each by its number: none where it fails. Of a file of a
+    /// system nothing is known.
+    ghost gives: { Self → ℕ → ℕ → Option (List ℕ) → Type 0 };
+
+    /// Reads as many bytes as there is room for. An error where the reading failed; the bytes may be any then.
+    fn read(&mut self, bytes: &mut [u8]) -> Result<(), HostFault>
+        ensures long { length bytes.new ≡ length bytes.old }
+        ensures given { OnOk result (gives self.old (length bytes.old) 0 (Some bytes.new)) }
+        ensures failed { OnErr result (gives self.old (length bytes.old) 0 None) }
+        ensures later { (room k : ℕ) (what : Option (List ℕ)) → gives self.new room k what → gives self.old room (suc k) what };
 }
 
-// Reads a file from its beginning on, as many bytes as there is room for. Whether they are a whole image: bytes from
-// another place would be none, and then a look while a session saves finds none either (`.ci/pty-trial`).
-fn has_read_whole(file: &File, bytes: &mut [u8], sectors: u32) -> bool
-    ensures long { length bytes.new ≡ length bytes.old }
-    ensures whole { result ≡ true → HasMeaning sectors (disk_of_file (still bytes.new)).content }
+// The readings of a file of this system. Of what they give nothing is claimed.
+#[derive(Drop)]
+pub(crate) struct FileReadings<'a> {
+    pub(crate) file: &'a File,
+}
+
+impl Readings for FileReadings<'_> {
+    ghost gives = { λ readings room k what. Unit {0} };
+
+    // From another place the bytes would be no whole image, and then a look while a session saves finds none either
+    // (`.ci/pty-trial`).
+    fn read(&mut self, bytes: &mut [u8]) -> Result<(), HostFault> {
+        match self.file.read_exact_at(bytes, 0) {
+            Ok(()) => Ok(()),
+            Err(_) => Err(HostFault::Failed),
+        }
+    }
+}
+
+/// The readings of bytes in memory, which nobody writes: each gives the first ones, where there are so many.
+///
+/// What they give is known, so what is said of readings is said of these.
+/// Rule: IMAGE, A look while it runs.
+#[derive(Clone, Copy)]
+pub struct StillReadings<'a> {
+    bytes: &'a [u8],
+}
+
+impl<'a> StillReadings<'a> {
+    /// The readings of these bytes.
+    pub fn new(bytes: &'a [u8]) -> StillReadings<'a>
+        ensures { result.bytes.now ≡ bytes.now }
+    {
+        StillReadings { bytes }
+    }
+}
+
+impl Readings for StillReadings<'_> {
+    ghost use Rattle.image_care.specs.Seen.{IsReadOf};
+
+    ghost gives = { λ readings room k what. IsReadOf readings.bytes.now room what };
+
+    fn read(&mut self, bytes: &mut [u8]) -> Result<(), HostFault> {
+        let room = bytes.len();
+        if self.bytes.len() < room {
+            return Err(HostFault::Failed);
+        }
+        bytes.copy_from_slice(&self.bytes[..room]);
+        Ok(())
+    }
+}
+
+// What was read.
+#[derive(Clone, Copy)]
+enum Reading {
+    // A whole image.
+    Whole,
+    // None: the reading failed, or what another program wrote meanwhile lies over the bytes.
+    Torn,
+    // A look at the bytes failed to read them.
+    Unread,
+}
+
+// What an image is told as of which a look is refused so.
+fn refused(fault: OpenFault) -> Reading
+    ensures torn { result ≡ Reading.Torn → fault ≢ OpenFault.Device }
+    ensures other { result ≢ Reading.Whole }
 {
-    match file.read_exact_at(bytes, 0) {
-        Ok(()) => is_whole(bytes, sectors),
-        Err(_) => false,
+    match fault {
+        OpenFault::Device => Reading::Unread,
+        _ => Reading::Torn,
+    }
+}
+
+// What a device of the size of an image holds.
+fn seen_on<D: SectorDevice>(device: &mut D) -> Reading
+    requires newer { is_size (D.sector_count device.old) ≡ true }
+    ensures whole { IsTrue (D.keeps_model device.old) → result ≡ Reading.Whole
+        → HasMeaning (D.sector_count device.old) (D.disk device.old).content }
+    ensures torn { IsTrue (D.keeps_model device.old) → result ≡ Reading.Torn
+        → HasMeaning (D.sector_count device.old) (D.disk device.old).content → ⊥ }
+{
+    match look(device) {
+        Ok(_) => Reading::Whole,
+        Err(fault) => refused(fault),
+    }
+}
+
+// What these bytes are, as so many sectors.
+fn seen_in(bytes: &[u8], sectors: u32) -> Reading
+    requires newer { is_size sectors ≡ true }
+    ensures whole { result ≡ Reading.Whole → HasMeaning sectors (disk_of_file (still bytes.now)).content }
+    ensures torn { result ≡ Reading.Torn → HasMeaning sectors (disk_of_file (still bytes.now)).content → ⊥ }
+{
+    seen_on(&mut SectorFile::new(Glance { bytes }, sectors))
+}
+
+// Reads so many sectors once.
+fn read_once<R: Readings>(readings: &mut R, bytes: &mut [u8], sectors: u32) -> Reading
+    requires newer { is_size sectors ≡ true }
+    requires long { length bytes.old ≡ 512 * sectors }
+    ensures long { length bytes.new ≡ length bytes.old }
+    ensures whole { result ≡ Reading.Whole → HasMeaning sectors (disk_of_file (still bytes.new)).content }
+    ensures given { result ≡ Reading.Whole → R.gives readings.old (512 * sectors) 0 (Some bytes.new) }
+    ensures torn { result ≡ Reading.Torn → GaveNoImage sectors (R.gives readings.old (512 * sectors) 0) }
+    ensures later { (room k : ℕ) (what : Option (List ℕ)) → R.gives readings.new room k what
+        → R.gives readings.old room (suc k) what }
+{
+    match readings.read(bytes) {
+        Ok(()) => seen_in(bytes, sectors),
+        Err(_) => Reading::Torn,
+    }
+}
+
+// Reads them so often, up to the first time that they are a whole image.
+fn read_until_whole<R: Readings>(
+    readings: &mut R,
+    bytes: &mut [u8],
+    sectors: u32,
+    tries: u32,
+) -> Reading
+    requires newer { is_size sectors ≡ true }
+    requires long { length bytes.old ≡ 512 * sectors }
+    ensures long { length bytes.new ≡ length bytes.old }
+    ensures whole { result ≡ Reading.Whole → HasMeaning sectors (disk_of_file (still bytes.new)).content }
+    ensures given { result ≡ Reading.Whole → IsOneOf tries (R.gives readings.old (512 * sectors)) bytes.new }
+    ensures torn { result ≡ Reading.Torn → NoneIsWhole sectors tries (R.gives readings.old (512 * sectors)) }
+{
+    if tries == 0 {
+        return Reading::Torn;
+    }
+    match read_once(readings, bytes, sectors) {
+        Reading::Whole => Reading::Whole,
+        Reading::Torn => read_until_whole(readings, bytes, sectors, tries - 1),
+        Reading::Unread => Reading::Unread,
+    }
+}
+
+/// Reads an image of layout 3 whole, of so many sectors, while another program may write it. What that one writes
+/// meanwhile may lie over what is read: then it is read again. `InUse` where each of 64 readings gave no image, and
+/// `Cannot` where there is no memory, or a look at the bytes failed to read them.
+/// Rule: IMAGE, A look while it runs.
+pub fn read_whole<R: Readings>(
+    alloc: Global,
+    readings: &mut R,
+    sectors: u32,
+) -> Result<Vec<u8>, FileFault>
+    requires newer { is_size sectors ≡ true }
+    ensures whole { IfOk result (λ bytes. IsWholeImage bytes.items) }
+    ensures given { IfOk result (λ bytes. IsOneOf 64 (R.gives readings.old (512 * sectors)) bytes.items) }
+    ensures in_use { IfErr result (λ fault. fault ≡ FileFault.InUse
+        → NoneIsWhole sectors 64 (R.gives readings.old (512 * sectors))) }
+    ensures fault { IfErr result (λ fault. fault ≢ FileFault.Exists) }
+{
+    let mut bytes = vec![in alloc; 0; 512 * sectors as usize].map_err(|_| FileFault::Cannot)?;
+    match read_until_whole(readings, &mut bytes, sectors, TRIES) {
+        Reading::Whole => Ok(bytes),
+        Reading::Torn => Err(FileFault::InUse),
+        Reading::Unread => Err(FileFault::Cannot),
     }
 }
 
@@ -130,31 +289,15 @@ fn newer_sectors(len: u64) -> Option<u32>
     }
 }
 
-/// Reads the image of layout 3 in a file into memory, with no lock. What another program writes meanwhile may lie over
-/// what is read: then it is read again. `InUse` where that doesn't end, or the file hasn't the length of such an image,
-/// and `Cannot` where there is no memory.
-/// Rule: IMAGE, Layout 3, A look while it runs.
+/// Reads the image of layout 3 in a file into memory, with no lock. `InUse` where that doesn't end, or the file hasn't
+/// the length of such an image, and `Cannot` where there is no memory.
+/// Rule: IMAGE, A look while it runs.
 pub(crate) fn read_whole_image(alloc: Global, file: &File, len: u64) -> Result<Vec<u8>, FileFault>
     ensures whole { IfOk result (λ bytes. IsWholeImage bytes.items) }
     ensures fault { IfErr result (λ fault. fault ≢ FileFault.Exists) }
 {
     match newer_sectors(len) {
-        Some(sectors) => read_again(alloc, file, sectors),
+        Some(sectors) => read_whole(alloc, &mut FileReadings { file }, sectors),
         None => Err(FileFault::InUse),
     }
-}
-
-// Reads so many sectors of a file, again and again, until they are a whole image.
-fn read_again(alloc: Global, file: &File, sectors: u32) -> Result<Vec<u8>, FileFault>
-    requires { is_size sectors ≡ true }
-    ensures whole { IfOk result (λ bytes. IsWholeImage bytes.items) }
-    ensures fault { IfErr result (λ fault. fault ≢ FileFault.Exists) }
-{
-    let mut bytes = vec![in alloc; 0; 512 * sectors as usize].map_err(|_| FileFault::Cannot)?;
-    for _ in 0..TRIES {
-        if has_read_whole(file, &mut bytes, sectors) {
-            return Ok(bytes);
-        }
-    }
-    Err(FileFault::InUse)
 }
