@@ -1,6 +1,6 @@
 -- Rounds at the text, one kind as another.
 use Rattle.std.proofs.Common.{◌≡◌, ℕ, zero, suc, ◌+◌, ◌*◌, ◌<◌, ◌≤◌, true, false, List, [], ◌∷◌, Option, None, Result, Ok, Err, refl, sym, ap, subst, ◌∙◌, arith}
-use Rattle.std.specs.Prelude.{min}
+use Rattle.std.specs.Prelude.{drop, min}
 use Rattle.std.proofs.Math.Nat.{min-eq_left}
 use Rattle.std.proofs.KnownBytes.{Consumes-nil, Appends-nil}
 use Rattle.sector_disk.specs.declared.device.SectorDevice.{Ghosts}
@@ -25,10 +25,13 @@ use Rattle.interpreter.specs.declared.fault.Stop.{Stop}
 use Rattle.interpreter.specs.declared.interpreting.Round.{Round}
 use Rattle.interpreter.specs.declared.interpreting.Round.TheVariants.{GoesOn, Over}
 use Rattle.interpreter.specs.declared.forth.Forth.{Forth}
+use Rattle.interpreter.specs.declared.forth.Picture.{Picture}
+use Rattle.interpreter.specs.declared.place.Place.{Place}
+use Rattle.interpreter.specs.Told.{AreStarts}
 use Rattle.interpreter.specs.Deeds.{Deed, before, after, asking}
 use Rattle.interpreter.specs.Law.{left}
-use Rattle.interpreter.specs.State.{World, Run, with_run}
-use Rattle.interpreter.specs.Representation.{core, device, Represents}
+use Rattle.interpreter.specs.State.{World, Run, with_run, without_load}
+use Rattle.interpreter.specs.Representation.{core, device, Represents, RepresentsWorldIn}
 use Rattle.interpreter.specs.ServiceContract.{LastsAlone, Hands, Handed, KeepsAndWears, Printed, stopped, failed_calls}
 use Rattle.interpreter.specs.Promise.{HasRisenBy}
 use Rattle.data_space.specs.Space.{with_cell}
@@ -39,6 +42,7 @@ use Rattle.interpreter.specs.RoundContract.{Entered, IsAtText, RoundComes, RanRo
 use Rattle.interpreter.specs.TextRounds.{PassesTo, Passed, Advanced, after_text, seen_round}
 use Rattle.interpreter.proofs.Reading.{reads_on}
 use Rattle.interpreter.proofs.Running.{no_calls}
+use Rattle.interpreter.proofs.Underway.{one_fewer}
 
 -- ---- what comes of the text
 
@@ -137,30 +141,42 @@ module _ {D : Type 0} {G : Ghosts D} where
   entered_passed n (Ok v) h = record { levels = h.levels; world = h.world; stands = h.stands; goes = h.goes; maps = h.maps; steps = h.steps }
   entered_passed n (Err f) h = record { levels = h.levels; world = h.world; stands = h.stands; goes = h.goes; maps = h.maps; steps = h.steps }
 
+  -- the innermost load is no longer under way
+  one_load_fewer : {lexicon : Lexicon} {picture : Picture} {blocks : Blocks D G} {kept : List Place} (starts : List Place) (x : World) → starts ≡ drop 1 kept
+      → RepresentsWorldIn lexicon picture blocks kept x → RepresentsWorldIn lexicon picture blocks starts (without_load x)
+  one_load_fewer {lexicon} {picture} {blocks} {kept} starts x fewer s = record {
+    meant = s.meant;
+    held_end = s.held_end;
+    held = s.held;
+    buffers = s.buffers;
+    loads = subst (λ l. AreStarts (drop 1 x.loads) l) (sym fewer) (one_fewer x.loads kept s.loads);
+    maps = s.maps;
+  }
+
   -- the line's text is over
-  pub text_over : (n : ℕ) (old : Forth D G) (returns' : List Entry) (levels : List Level) (x : World) → returns' ≡ old.returns → levels ≡ [] → Represents old levels x
-      → Passed n (λ r. after_text n levels (core old) (with_run r x)) (Ok Over) old (record old { returns = returns' }) x
-  text_over n old returns' [] x same is stands = record {
+  pub text_over : (n : ℕ) (old : Forth D G) (returns' : List Entry) (starts : List Place) (levels : List Level) (x : World) → returns' ≡ old.returns → starts ≡ drop 1 old.loads → levels ≡ [] → Represents old levels x
+      → Passed n (λ r. after_text n levels (core old) (with_run r (without_load x))) (Ok Over) old (record old { returns = returns'; loads = starts }) x
+  text_over n old returns' starts [] x same fewer is stands = record {
     levels = [];
-    world = x;
-    stands = record { rests = stands.rests; left = subst (λ e. IsLeft old.lexicon (language_of x) old.machine e []) (sym same) stands.left };
+    world = without_load x;
+    stands = record { rests = one_load_fewer starts x fewer stands.rests; left = subst (λ e. IsLeft old.lexicon (language_of x) old.machine e []) (sym same) stands.left };
     goes = λ r. refl;
     maps = refl;
     steps = omega arith;
   }
-  text_over n old returns' (l ∷ levels) x same is stands = absurd (let no : l ∷ levels ≡ [] = is in cc)
+  text_over n old returns' starts (l ∷ levels) x same fewer is stands = absurd (let no : l ∷ levels ≡ [] = is in cc)
 
   -- the text of a load is over
-  pub load_over : (n : ℕ) (old : Forth D G) (below : List Entry) (space' : List ℕ) (levels : List Level) (x : World) (block to_in : ℕ)
-      → LeavesLoad old.lexicon (language_of x) old.machine below levels block to_in → space' ≡ with_cell (with_cell old.space 22 block) 20 to_in → Represents old levels x
-      → Passed n (λ r. after_text n levels (core old) (with_run r x)) (Ok GoesOn) old (record old { returns = below; space = space' }) x
-  load_over n old below space' levels x block to_in h wrote stands = record {
+  pub load_over : (n : ℕ) (old : Forth D G) (below : List Entry) (starts : List Place) (space' : List ℕ) (levels : List Level) (x : World) (block to_in : ℕ)
+      → LeavesLoad old.lexicon (language_of x) old.machine below levels block to_in → starts ≡ drop 1 old.loads → space' ≡ with_cell (with_cell old.space 22 block) 20 to_in → Represents old levels x
+      → Passed n (λ r. after_text n levels (core old) (with_run r (without_load x))) (Ok GoesOn) old (record old { returns = below; loads = starts; space = space' }) x
+  load_over n old below starts space' levels x block to_in h fewer wrote stands = record {
     levels = h.outer;
-    world = x;
-    stands = record { rests = stands.rests; left = h.left };
+    world = without_load x;
+    stands = record { rests = one_load_fewer starts x fewer stands.rests; left = h.left };
     goes = λ r.
-        ap (λ l. after_text n l (core old) (with_run r x)) h.is
-        ∙ ap (λ s. left n h.outer (record (core old) { space = s }) (with_run r x)) (sym wrote);
+        ap (λ l. after_text n l (core old) (with_run r (without_load x))) h.is
+        ∙ ap (λ s. left n h.outer (record (core old) { space = s }) (with_run r (without_load x))) (sym wrote);
     maps = refl;
     steps = omega arith;
   }

@@ -9,6 +9,7 @@ use Rattle.stacks.specs.declared.return_stack.Entry.{Entry}
 use Rattle.block_words.specs.declared.buffered_blocks.Blocks.{Blocks}
 use Rattle.lexicon.specs.declared.language.Lexicon.{Lexicon}
 use Rattle.interpreter.specs.declared.forth.Picture.{Picture}
+use Rattle.interpreter.specs.declared.place.Place.{Place}
 use Rattle.lexicon.specs.Language.{Language}
 use Rattle.lexicon.specs.Promise.{Becomes}
 use Rattle.interpreter.specs.Lexicon.{language_of, with_language}
@@ -49,11 +50,11 @@ module _ {D : Type 0} {G : Ghosts D} where
   went {start} {old} new {levels} {x} y stands did same less = record { world = y; stands = stands; gives = did; maps = same; steps = less }
 
   -- the lexicon means something else
-  pub becoming : {lexicon lexicon' : Lexicon} {machine : Doing} {returns : List Entry} {picture : Picture} {blocks : Blocks D G} {levels : List Level} {x : World} (m : Language)
-      → RepresentsIn lexicon machine returns picture blocks levels x → Becomes lexicon lexicon' (language_of x) m
-      → RepresentsIn lexicon' machine returns picture blocks levels (with_language m x)
-  becoming {lexicon} {lexicon'} {machine} {returns} {picture} {blocks} {levels} {x} m s b = record {
-    rests = record { meant = b.stands; held_end = s.rests.held_end; held = s.rests.held; buffers = s.rests.buffers; maps = s.rests.maps };
+  pub becoming : {lexicon lexicon' : Lexicon} {machine : Doing} {returns : List Entry} {picture : Picture} {blocks : Blocks D G} {starts : List Place} {levels : List Level} {x : World} (m : Language)
+      → RepresentsIn lexicon machine returns picture blocks starts levels x → Becomes lexicon lexicon' (language_of x) m
+      → RepresentsIn lexicon' machine returns picture blocks starts levels (with_language m x)
+  becoming {lexicon} {lexicon'} {machine} {returns} {picture} {blocks} {starts} {levels} {x} m s b = record {
+    rests = record { meant = b.stands; held_end = s.rests.held_end; held = s.rests.held; buffers = s.rests.buffers; loads = s.rests.loads; maps = s.rests.maps };
     left = b.left machine returns levels s.left;
   }
 

@@ -22,6 +22,7 @@ use Rattle.cell_machine.specs.Events.{Doing}
 use Rattle.stacks.specs.declared.return_stack.Entry.{Entry}
 use Rattle.lexicon.specs.declared.language.Lexicon.{Lexicon}
 use Rattle.interpreter.specs.declared.forth.Picture.{Picture}
+use Rattle.interpreter.specs.declared.place.Place.{Place}
 use Rattle.interpreter.specs.State.{World, Run, with_run, block_state, blocks_done, fault_of}
 use Rattle.interpreter.specs.Deeds.{Deed, before, after, asking}
 use Rattle.interpreter.specs.Promise.{HasRisenBy}
@@ -122,21 +123,21 @@ module _ {A : Type 0} {D : Type 0} {G : Ghosts D} {word : words.Blocks → Block
       ∙ blocks_ended result h.maps (buffers_of new) space' r.answers (r.failures + failed result) (add_wear r.wear h.wear) (r.saves ++ h.saves) c (with_run (before deed r) x) go
       ∙ ap (λ r. done_of result (record c { space = space' }) (with_run r world) go) (same_run h.answers (failed result) h.wear h.saves r)
 
-  pub rests_on : {lexicon : Lexicon} {picture : Picture} → RepresentsWorldIn lexicon picture old x → RepresentsWorldIn lexicon picture new world
-  rests_on {lexicon} {picture} s =
-      record { meant = s.meant; held_end = s.held_end; held = s.held; buffers = refl; maps = h.holds }
+  pub rests_on : {lexicon : Lexicon} {picture : Picture} {starts : List Place} → RepresentsWorldIn lexicon picture old starts x → RepresentsWorldIn lexicon picture new starts world
+  rests_on {lexicon} {picture} {starts} s =
+      record { meant = s.meant; held_end = s.held_end; held = s.held; buffers = refl; loads = s.loads; maps = h.holds }
 
-  pub stands_on : {lexicon : Lexicon} {machine : Doing} {returns : List Entry} {picture : Picture} {levels : List Level} → RepresentsIn lexicon machine returns picture old levels x → RepresentsIn lexicon machine returns picture new levels world
-  stands_on {lexicon} {machine} {returns} {picture} {levels} s = record { rests = rests_on s.rests; left = s.left }
+  pub stands_on : {lexicon : Lexicon} {machine : Doing} {returns : List Entry} {picture : Picture} {starts : List Place} {levels : List Level} → RepresentsIn lexicon machine returns picture old starts levels x → RepresentsIn lexicon machine returns picture new starts levels world
+  stands_on {lexicon} {machine} {returns} {picture} {starts} {levels} s = record { rests = rests_on s.rests; left = s.left }
 
 module _ {A : Type 0} {D : Type 0} (G : Ghosts D) (word : words.Blocks → BlockOutcome A) (result : Result A BlockFault) (made : Maps → List Save) (old new : Blocks D G) (space space' : List ℕ) where
-  pub called : {lexicon : Lexicon} {picture : Picture} {x : World}
+  pub called : {lexicon : Lexicon} {picture : Picture} {starts : List Place} {x : World}
       → ((m : Maps) → StandsFor (store_of old) m → CallRuns G word result (made m) m (store_of old) (store_of new) (buffers_of old) (buffers_of new) space space')
       → ((m : Maps) → m.closed ≡ true → made m ≡ [])
       → TellsFailures {G = G} result (store_of old) (store_of new)
       → suits G (device_of (store_of new)) ≡ suits G (device_of (store_of old))
-      → RepresentsWorldIn lexicon picture old x → Called G word result old new space space' x
-  called {lexicon} {picture} {x} runs shut cause same s = pick (suits G (device_of (store_of old))) refl
+      → RepresentsWorldIn lexicon picture old starts x → Called G word result old new space space' x
+  called {lexicon} {picture} {starts} {x} runs shut cause same s = pick (suits G (device_of (store_of old))) refl
     where
       pick : (t : Bool) → suits G (device_of (store_of old)) ≡ t → Called G word result old new space space' x
       pick true is =
@@ -212,7 +213,7 @@ module _ {A : Type 0} {D : Type 0} {G : Ghosts D} {word : words.Blocks → Block
   }
 
   pub consulted_failed : {start : Run → Outcome World} (go : A → Core → World → Outcome World) (f : BlockFault) (found : Fault) (h : Called G word (Err f) old.blocks new.blocks old.space space' x)
-      → Reaches word (record (core old) { stack = stack }) x start go → RepresentsWorldIn new.lexicon new.picture new.blocks (world h) → new.steps ≤ old.steps
+      → Reaches word (record (core old) { stack = stack }) x start go → RepresentsWorldIn new.lexicon new.picture new.blocks new.loads (world h) → new.steps ≤ old.steps
       → space' ≡ new.space → stops.fault_of found ≡ fault_of f
       → Consulted start (Err found) old new levels x
   consulted_failed {start} go f found h reaches rests less same is = record {

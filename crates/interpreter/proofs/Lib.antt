@@ -42,4 +42,5 @@ pub mod Expecting
 pub mod Holding
 pub mod Popping
 pub mod Clearing
+pub mod Underway
 pub mod Worded

@@ -24,7 +24,7 @@ use Rattle.interpreter.specs.Lines as lines
 use Rattle.interpreter.specs.State as lines_state
 use Rattle.interpreter.specs.Lines.{line, line_if, with_line, text_of_line, Ended, at_rest, dropped, with_empty_stack, broken, replied, reply, after_fault, end_of_line, ended, place_in}
 use Rattle.interpreter.specs.Promise.{HasRisenBy}
-use Rattle.interpreter.specs.State.{World, Run, with_run, with_output}
+use Rattle.interpreter.specs.State.{World, Run, with_run, with_output, without_loads}
 use Rattle.interpreter.specs.Stops.{fault_of, ending_of}
 use Rattle.interpreter.specs.Text.{compiling}
 use Rattle.interpreter.specs.Terminal.{AppendsSome, Begins}
@@ -257,11 +257,11 @@ ended_broke start deed c x h = record {
 -- ---- a line from its text
 
 pub line_opens : (opening : lines_state.Forth) (bytes : List ℕ) (budget : ℕ) (c : Core) → opening.budget ≡ budget → nat_le (length bytes) 1024 ≡ true → c ≡ with_line bytes budget opening.core
-    → (r : Run) → line opening bytes r ≡ ended (left (suc budget) [] c (with_run r opening.world))
+    → (r : Run) → line opening bytes r ≡ ended (left (suc budget) [] c (with_run r (without_loads opening.world)))
 line_opens opening bytes budget c same short core r =
     ap (λ b. line_if b bytes opening.budget opening.core (with_run r opening.world)) short
-    ∙ ap (λ n. ended (text_of_line n (with_line bytes n opening.core) (with_run r opening.world))) same
-    ∙ ap (λ c. ended (left (suc budget) [] c (with_run r opening.world))) (sym core)
+    ∙ ap (λ n. ended (text_of_line n (with_line bytes n opening.core) (with_run r (without_loads opening.world)))) same
+    ∙ ap (λ c. ended (left (suc budget) [] c (with_run r (without_loads opening.world)))) (sym core)
 
 pub line_too_long : (opening : lines_state.Forth) (bytes : List ℕ) → nat_le (length bytes) 1024 ≡ false → (r : Run) → line opening bytes r ≡ after_fault None LineLength opening.core (with_run r opening.world)
 line_too_long opening bytes long r = ap (λ b. line_if b bytes opening.budget opening.core (with_run r opening.world)) long

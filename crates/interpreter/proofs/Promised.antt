@@ -24,6 +24,7 @@ use Rattle.interpreter.specs.State.{World, Run, new_run, idle, with_run}
 use Rattle.interpreter.specs.Representation.{device}
 use Rattle.interpreter.specs.ServiceContract.{Heard}
 use Rattle.interpreter.specs.Terminal.{Begins}
+use Rattle.interpreter.specs.Told.{loads_told}
 use Rattle.interpreter.proofs.LineContract.{begins_then}
 use Rattle.interpreter.specs.LineContract.{line_end, heard_of, LineLeft, LineBroke, LineBreaksOff, LineComes, RanLine, IsSystem}
 use Rattle.journal.specs.Suits.{suits}
@@ -52,11 +53,12 @@ module _ {D T : Type 0} (G : Ghosts D) (H : TerminalGhosts T) (opening : state.F
   replied e l heard =
       let run : whole ≡ record { ending = line_end e; place = place; core = c; world = with_run (after d idle) x } = ap (λ r. line opening bytes r) (sym (alone d None)) ∙ l.ends idle (λ h. refl) in
       record {
-        turn = record { given = d.given; at_end = d.met || false; reply = d.printed; ending = line_end e; place = place; saves = d.saves; failures = 0 + d.failures; wear = add_wear no_wear d.wear };
+        turn = record { given = d.given; at_end = d.met || false; reply = d.printed; ending = line_end e; place = place; loads = loads_told place x.loads; saves = d.saves; failures = 0 + d.failures; wear = add_wear no_wear d.wear };
         line = record {
           answers = d.answers;
           ends = ap (λ e. e.ending) run;
           placed = ap (λ e. e.place) run;
+          led = ap (λ e. loads_told e.place e.world.loads) run;
           leaves = ap (λ e. between_lines opening.budget e) run;
           taken = ap (λ e. e.world.run.input) run;
           met = ap (λ e. e.world.run.at_end) run;
@@ -95,9 +97,9 @@ module _ {D T : Type 0} (G : Ghosts D) (H : TerminalGhosts T) (opening : state.F
       let shown : List ℕ = d.printed ++ part in
       let front : Begins shown (d.printed ++ d.tried) = (heard.printed.1.0, ap (λ l. d.printed ++ l) heard.printed.1.1 ∙ sym (append_assoc d.printed part heard.printed.1.0)) in
       record {
-        turn = record { given = d.given; at_end = whole.world.run.at_end; reply = whole.world.run.output; ending = whole.ending; place = whole.place; saves = whole.world.run.saves; failures = whole.world.run.failures; wear = whole.world.run.wear };
+        turn = record { given = d.given; at_end = whole.world.run.at_end; reply = whole.world.run.output; ending = whole.ending; place = whole.place; loads = loads_told whole.place whole.world.loads; saves = whole.world.run.saves; failures = whole.world.run.failures; wear = whole.world.run.wear };
         over = between_lines opening.budget whole;
-        line = record { answers = d.answers; ends = refl; placed = refl; leaves = refl; taken = none; met = refl; printed = refl; saved = refl; failed = refl; worn = refl };
+        line = record { answers = d.answers; ends = refl; placed = refl; led = refl; leaves = refl; taken = none; met = refl; printed = refl; saved = refl; failed = refl; worn = refl };
         given = heard.given;
         shown = shown;
         reply = heard.printed.2;
@@ -142,7 +144,7 @@ module _ {D T : Type 0} (G : Ghosts D) (H : TerminalGhosts T) where
           represents = record {
             budget = system.represents.budget ∙ sym budget;
             same_core = record { stack = k.same_core.stack; space = k.same_core.space };
-            rests = record { meant = h.rests.meant; held_end = h.rests.held_end; held = h.rests.held; buffers = h.rests.buffers; maps = h.rests.maps };
+            rests = record { meant = h.rests.meant; held_end = h.rests.held_end; held = h.rests.held; buffers = h.rests.buffers; loads = h.rests.loads; maps = h.rests.maps };
           };
           model = subst IsTrue (sym model) system.model;
         },

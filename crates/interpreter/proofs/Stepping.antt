@@ -56,7 +56,7 @@ none-yes c x go is = by x.definition is
 module _ {D : Type 0} {G : Ghosts D} where
   -- it is done
   pub gave_done : {start : Run → Outcome World} (old new : Forth D G) {levels : List Level} {x : World} (lexicon : Lexicon) (step : Adding Language) (moved : Core → Core) (c : Core)
-      → RepresentsIn lexicon new.machine new.returns new.picture new.blocks levels x → Gives lexicon new.lexicon (language_of x) step
+      → RepresentsIn lexicon new.machine new.returns new.picture new.blocks new.loads levels x → Gives lexicon new.lexicon (language_of x) step
       → ((r : Run) → start r ≡ stepped step moved c (with_run r x)) → moved c ≡ core new → new.steps ≤ old.steps
       → Altered start (Ok tt) old new levels x
   gave_done {start} old new {levels} {x} lexicon step moved c stands g same is less =
@@ -64,7 +64,7 @@ module _ {D : Type 0} {G : Ghosts D} where
       (λ r. same r ∙ ap (λ a. stepped a moved c (with_run r x)) g.1.0 ∙ ap (λ c. Did c (with_run r (with_language g.0 x))) is) refl less
 
   pub step_done : {start : Run → Outcome World} (old new : Forth D G) {levels : List Level} {x : World} (lexicon : Lexicon) (step : Language → Adding Language) (moved : Core → Core) (c : Core)
-      → RepresentsIn lexicon new.machine new.returns new.picture new.blocks levels x → Goes lexicon new.lexicon step
+      → RepresentsIn lexicon new.machine new.returns new.picture new.blocks new.loads levels x → Goes lexicon new.lexicon step
       → ((r : Run) → start r ≡ stepped (step (language_of x)) moved c (with_run r x)) → moved c ≡ core new → new.steps ≤ old.steps
       → Altered start (Ok tt) old new levels x
   step_done {start} old new {levels} {x} lexicon step moved c stands goes same is less =
@@ -72,15 +72,15 @@ module _ {D : Type 0} {G : Ghosts D} where
 
   -- it is refused
   pub gave_refused : {start : Run → Outcome World} {f : Fault} (old new : Forth D G) {levels : List Level} {x : World} (lexicon : Lexicon) (step : Adding Language) (moved : Core → Core) (c : Core) {e : fault.Fault}
-      → RepresentsIn lexicon new.machine new.returns new.picture new.blocks levels x → step ≡ Refuses e → new.lexicon ≡ lexicon → fault_of f ≡ e
+      → RepresentsIn lexicon new.machine new.returns new.picture new.blocks new.loads levels x → step ≡ Refuses e → new.lexicon ≡ lexicon → fault_of f ≡ e
       → ((r : Run) → start r ≡ stepped step moved c (with_run r x)) → c.space ≡ new.space → new.steps ≤ old.steps
       → Altered start (Err f) old new levels x
   gave_refused {start} {f} old new {levels} {x} lexicon step moved c {e} stands refuses kept name same is less =
-      refused new (subst (λ (l : Lexicon). RepresentsIn l new.machine new.returns new.picture new.blocks levels x) (sym kept) stands) c is
+      refused new (subst (λ (l : Lexicon). RepresentsIn l new.machine new.returns new.picture new.blocks new.loads levels x) (sym kept) stands) c is
       (λ r. same r ∙ ap (λ a. stepped a moved c (with_run r x)) refuses ∙ ap (λ e. Ends (Faults e) c (with_run r x)) (sym name)) less
 
   pub step_refused : {start : Run → Outcome World} {f : Fault} (old new : Forth D G) {levels : List Level} {x : World} (lexicon : Lexicon) (step : Language → Adding Language) (moved : Core → Core) (c : Core) {e : fault.Fault}
-      → RepresentsIn lexicon new.machine new.returns new.picture new.blocks levels x → Stops lexicon new.lexicon step e → fault_of f ≡ e
+      → RepresentsIn lexicon new.machine new.returns new.picture new.blocks new.loads levels x → Stops lexicon new.lexicon step e → fault_of f ≡ e
       → ((r : Run) → start r ≡ stepped (step (language_of x)) moved c (with_run r x)) → c.space ≡ new.space → new.steps ≤ old.steps
       → Altered start (Err f) old new levels x
   step_refused {start} {f} old new {levels} {x} lexicon step moved c {e} stands stops name same is less =

@@ -11,7 +11,7 @@ use Rattle.number_io.specs.declared.number.NumberFault.{NumberFault}
 use Rattle.sector_disk.specs.declared.device.SectorDevice.{Ghosts}
 use Rattle.interpreter.specs.declared.fault.Fault.{Fault}
 use Rattle.interpreter.specs.declared.forth.Forth.{Forth}
-use Rattle.interpreter.specs.State.{World, Run, with_run, system_cell, base_cell}
+use Rattle.interpreter.specs.State.{World, Run, with_run, without_load, system_cell, base_cell}
 use Rattle.interpreter.specs.Text.{number_value}
 use Rattle.interpreter.specs.Pictures.{with_base}
 use Rattle.interpreter.specs.Law.{left}
@@ -102,7 +102,7 @@ module _ {D : Type 0} {G : Ghosts D} where
 
 -- ---- a word, and none
 
-pub no-word : (n : ℕ) (levels : List Level) (word : List ℕ) (moved : Core → Core) (c : Core) (x : World) → length word ≡ 0 → word_round n levels word moved c x ≡ after_text n levels (moved c) x
+pub no-word : (n : ℕ) (levels : List Level) (word : List ℕ) (moved : Core → Core) (c : Core) (x : World) → length word ≡ 0 → word_round n levels word moved c x ≡ after_text n levels (moved c) (without_load x)
 no-word n levels [] moved c x is = refl
 no-word n levels (b ∷ word) moved c x is = absurd (omega (arith, is))
 

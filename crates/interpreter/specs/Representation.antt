@@ -14,6 +14,8 @@ use Rattle.cell_machine.specs.Events.{Doing}
 use Rattle.lexicon.specs.declared.language.Lexicon.{Lexicon}
 use Rattle.interpreter.specs.declared.forth.Picture.{Picture}
 use Rattle.interpreter.specs.declared.forth.Forth.{Forth}
+use Rattle.interpreter.specs.declared.place.Place.{Place}
+use Rattle.interpreter.specs.Told.{AreStarts}
 
 module _ {D : Type 0} {G : Ghosts D} where
   abbrev pub device : Forth D G → D
@@ -28,24 +30,25 @@ module _ {D : Type 0} {G : Ghosts D} where
   core forth = record { stack = forth.stack; space = forth.space; steps = forth.steps }
 
   -- The world, in any run. Over a device that doesn't keep the disk model the maps may be any.
-  pub record RepresentsWorldIn (lexicon : Lexicon) (picture : Picture) (blocks : Blocks D G) (x : World) : Type 0 where
+  pub record RepresentsWorldIn (lexicon : Lexicon) (picture : Picture) (blocks : Blocks D G) (starts : List Place) (x : World) : Type 0 where
     pub meant : Means lexicon (language_of x)
     pub held_end : x.held_end ≡ picture.end
     pub held : x.held ≡ picture.held
     pub buffers : x.buffers ≡ buffers_of blocks
+    pub loads : AreStarts x.loads starts
     pub maps : IsTrue (suits G (device_of (store_of blocks))) → StandsFor (store_of blocks) x.maps
 
   -- and what is left to do
-  pub record RepresentsIn (lexicon : Lexicon) (machine : Doing) (returns : List Entry) (picture : Picture) (blocks : Blocks D G) (levels : List Level) (x : World) : Type 0 where
-    pub rests : RepresentsWorldIn lexicon picture blocks x
+  pub record RepresentsIn (lexicon : Lexicon) (machine : Doing) (returns : List Entry) (picture : Picture) (blocks : Blocks D G) (starts : List Place) (levels : List Level) (x : World) : Type 0 where
+    pub rests : RepresentsWorldIn lexicon picture blocks starts x
     pub left : IsLeft lexicon (language_of x) machine returns levels
 
   -- the world, as it is while nothing is said of what is left to do
   abbrev pub RepresentsWorld : Forth D G → World → Type 0
-  RepresentsWorld forth x = RepresentsWorldIn forth.lexicon forth.picture forth.blocks x
+  RepresentsWorld forth x = RepresentsWorldIn forth.lexicon forth.picture forth.blocks forth.loads x
 
   abbrev pub Represents : Forth D G → List Level → World → Type 0
-  Represents forth levels x = RepresentsIn forth.lexicon forth.machine forth.returns forth.picture forth.blocks levels x
+  Represents forth levels x = RepresentsIn forth.lexicon forth.machine forth.returns forth.picture forth.blocks forth.loads levels x
 
   -- where the line ended nothing is known of what was left to do
   abbrev pub RepresentsAfter : {A E : Type 0} → Result A E → Forth D G → List Level → World → Type 0

@@ -12,7 +12,7 @@ use Rattle.interpreter.specs.declared.forth.Forth.{Forth}
 use Rattle.interpreter.specs.Deeds.{asking}
 use Rattle.interpreter.specs.Law.{left}
 use Rattle.interpreter.specs.Promise.{HasRisenBy}
-use Rattle.interpreter.specs.State.{World, Run, with_run, set_cell, to_in_cell}
+use Rattle.interpreter.specs.State.{World, Run, with_run, without_load, set_cell, to_in_cell}
 use Rattle.interpreter.specs.Stops.{fault_of}
 use Rattle.interpreter.specs.Streams.{known}
 use Rattle.interpreter.specs.Text.{serve, back, treat, with_number}
@@ -45,7 +45,7 @@ treated n levels word c x =
 
 -- the next word is paid for and done; without one the text is at its end
 abbrev pub word_round : ℕ → List Level → List ℕ → (Core → Core) → Core → World → Outcome World
-word_round n levels [] moved c x = after_text n levels (moved c) x
+word_round n levels [] moved c x = after_text n levels (moved c) (without_load x)
 word_round n levels (b ∷ word) moved c x =
     charge 1 c (λ e c. Ends e c x) (λ c. treated n levels (b ∷ word) (moved c) x)
 

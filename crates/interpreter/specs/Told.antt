@@ -1,5 +1,5 @@
 -- What is told beside the place of a fault: the word before it, where that begins, and the loads that led there.
-use Rattle.std.specs.Prelude.{◌≡◌, ℕ, zero, suc, ◌-◌, ◌==◌, nat_lt, if◌then◌else◌, List, [], length, take, drop, min, slice_index_or, Option, Some, None}
+use Rattle.std.specs.Prelude.{◌≡◌, ℕ, zero, suc, ◌-◌, ◌==◌, nat_lt, if◌then◌else◌, List, [], ◌∷◌, length, take, drop, min, slice_index_or, Option, Some, None}
 use Rattle.std.proofs.Common.{refl}
 use Rattle.sector_disk.specs.declared.device.SectorDevice.{Ghosts}
 use Rattle.journal.specs.Store.{is_text_of}
@@ -47,10 +47,24 @@ abbrev pub start_told : Option Place → List ℕ → Option Place
 start_told None text = None
 start_told (Some place) text = Some (record { block = place.block; to_in = first_byte place.to_in text })
 
--- the loads that are told: those that are kept, where there is a place
+-- the loads that led to a place: those under way, where there is one
 abbrev pub loads_told : Option Place → List Place → List Place
-loads_told None kept = []
-loads_told (Some place) kept = kept
+loads_told None loads = []
+loads_told (Some place) loads = loads
+
+-- Of a load that was asked for at this place that start is told: where the word begins that asked, in the same block.
+abbrev pub IsStart : (place start : Place) → Type 0
+IsStart place start = (text : List ℕ) × (start ≡ record { block = place.block; to_in = first_byte place.to_in text })
+
+-- Of each load its start is told, of no other, and in the same order.
+abbrev pub AreStarts : (places starts : List Place) → Type 0
+AreStarts [] starts = starts ≡ []
+AreStarts (place ∷ places) [] = ⊥
+AreStarts (place ∷ places) (start ∷ starts) = IsStart place start × AreStarts places starts
+
+pub starts_told : (place : Option Place) (places starts : List Place) → AreStarts places starts → AreStarts (loads_told place places) (loads_told place starts)
+starts_told None places starts h = refl
+starts_told (Some place) places starts h = h
 
 module _ {D : Type 0} {G : Ghosts D} where
   abbrev pub text_found : Option TextPlace → Blocks D G → (space : List ℕ) → List ℕ

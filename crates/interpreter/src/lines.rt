@@ -6,7 +6,7 @@ ghost use Rattle.interpreter.specs.Stops.{fault_of, fault_count};
 
 use crate::fault::{Fault, Stop};
 use crate::forth::Forth;
-use crate::place::{Place, take_loads};
+use crate::place::Place;
 use crate::system_cells::{BLK, STATE, TIB, TIB_COUNT, TO_IN, cell_of};
 use crate::terminal::{IoFault, Terminal};
 use arrayvec::ArrayVec;
@@ -57,7 +57,7 @@ impl<D: SectorDevice> Forth<D> {
     ghost use Rattle.interpreter.specs.Terminals.{print};
     ghost use Rattle.interpreter.specs.Text.{compiling};
     ghost use Rattle.interpreter.specs.Lines.{replied, ended, after_fault, end_of_line, at_rest, dropped, with_empty_stack, with_line, line, place_in};
-    ghost use Rattle.interpreter.specs.State.{World, Forth as Abstract, with_run};
+    ghost use Rattle.interpreter.specs.State.{World, Forth as Abstract, with_run, without_loads};
     ghost use Rattle.interpreter.specs.Representation.{core, device, RepresentsWorld, IsSoundBetweenLines, Represents};
     ghost use Rattle.interpreter.specs.LineContract.{RanLine, LastsLine, line_end, SameStackAndSpace, SameSpace, RepresentsForth, IsSystem, Cleared, Clears, is_broken, Counts};
     ghost use Rattle.block_words.specs.Words.{Save};
@@ -227,11 +227,11 @@ impl<D: SectorDevice> Forth<D> {
         }
     }
 
-    /// Puts the line into the text input buffer.
+    /// Puts the line into the text input buffer. No load is under way.
     fn take_line(&mut self, text: &[u8])
         requires short { length text.now ≤ 1024 }
         requires whole { self.old.steps ≡ self.old.budget }
-        ensures stands { (x : World) → RepresentsWorld self.old x → Represents self.new [] x }
+        ensures stands { (x : World) → RepresentsWorld self.old x → Represents self.new [] (without_loads x) }
         ensures taken { (c : Core) → SameStackAndSpace c self.old → core self.new ≡ with_line text.now self.old.budget c }
         ensures steps { self.new.steps ≡ self.old.budget }
         ensures device { self.new.blocks ≡ self.old.blocks }
@@ -239,6 +239,7 @@ impl<D: SectorDevice> Forth<D> {
     {
         self.machine = Machine::new();
         self.returns.lend().clear();
+        self.loads.clear();
         self.space.set_bytes(TIB, text);
         self.space.set_cell(TIB_COUNT, text.len() as u16);
         self.space.set_cell(TO_IN, 0);
@@ -287,7 +288,6 @@ impl<D: SectorDevice> Forth<D> {
             Ok(()) => self.finish(terminal),
             Err(Stop::Fault(fault)) => {
                 let place = self.here_in_stream();
-                take_loads(self.returns.lend(), &self.starts, &mut self.loads);
                 self.fail(fault, Some(place), terminal)
             }
             Err(Stop::Quit) => self.quit(terminal),

@@ -1,5 +1,5 @@
 //! Where the stream stands when a fault ends a line, and which word was taken before that.
-ghost use Rattle.std.specs.Prelude.{◌≡◌, ◌≤◌, length, min};
+ghost use Rattle.std.specs.Prelude.{◌≡◌, ◌≤◌, ◌<◌, [], ◌∷◌, drop, length, min};
 ghost use Rattle.data_space.specs.Space.{cell_at};
 ghost use Rattle.interpreter.specs.Told.{end_before, first_byte, start_before, text_around, text_of_block, word_before, word_end, word_start};
 
@@ -7,7 +7,7 @@ use crate::forth::Forth;
 use crate::services::lookahead::line_of;
 use arrayvec::ArrayVec;
 use sector_disk::SectorDevice;
-use stacks::{Entry, ReturnStack};
+use std::marker::Model;
 
 /// A place in the input stream: a byte of a block, or of the line itself. Where a fault came it is the byte behind what
 /// was taken from the stream last, and behind the delimiter of that.
@@ -22,26 +22,71 @@ pub struct Place {
 /// How many loads are nested at most.
 pub(crate) const MOST_LOADS: usize = 8;
 
-/// How many entries the return stack has at most.
-const MOST_ENTRIES: usize = 256;
+/// The loads that are under way: of each where the word begins that asked for it, the innermost first. Contracts see it
+/// as that list.
+#[derive(Drop)]
+pub struct Underway {
+    starts: ArrayVec<Place, MOST_LOADS>,
+}
 
-/// Keeps where each load on the return stack was asked for, the innermost first: in which block, and where the word
-/// began there, as `starts` has it from the outermost on. All entries are taken off. No clause speaks of what is kept:
-/// it is there for people who look for a fault.
-pub(crate) fn take_loads(
-    returns: &mut ReturnStack,
-    starts: &[u16; MOST_LOADS],
-    loads: &mut ArrayVec<Place, MOST_LOADS>,
-) {
-    loads.clear();
-    for _ in 0..MOST_ENTRIES {
-        let Ok(entry) = returns.pop() else {
-            return;
-        };
-        if let Entry::Load { block, .. } = entry {
-            let to_in = starts.get(returns.loads()).copied().unwrap_or(0);
-            let _ = loads.try_push(Place { block, to_in });
+impl Model for Underway {
+    ghost use Rattle.std.specs.Prelude.{List};
+    ghost use Rattle.interpreter.specs.declared.place.Place.{Place as AbstractPlace};
+
+    ghost Value = { List AbstractPlace };
+
+    ghost view = { λ u. u.starts.items };
+}
+
+impl Underway {
+    /// None.
+    pub(crate) fn new() -> Self
+        ensures { result ≡ [] }
+    {
+        Underway {
+            starts: ArrayVec::new(),
         }
+    }
+
+    /// How many there are.
+    pub(crate) fn count(&self) -> usize
+        ensures value { result ≡ length self.now }
+        ensures most { result ≤ 8 }
+    {
+        self.starts.len()
+    }
+
+    /// Of each where its word begins.
+    pub(crate) fn starts(&self) -> &[Place]
+        ensures value { result.now ≡ self.now }
+        ensures most { length result.now ≤ 8 }
+    {
+        self.starts.as_slice()
+    }
+
+    /// One more, within the others.
+    pub(crate) fn begin(&mut self, start: Place)
+        requires room { length self.old < 8 }
+        ensures { self.new ≡ start ∷ self.old }
+    {
+        self.starts.insert(0, start);
+    }
+
+    /// The innermost one is over, where there is one.
+    pub(crate) fn end(&mut self)
+        ensures { self.new ≡ drop 1 self.old }
+    {
+        match self.starts.pop_at(0) {
+            Some(_) => {}
+            None => {}
+        }
+    }
+
+    /// None is left.
+    pub(crate) fn clear(&mut self)
+        ensures { self.new ≡ [] }
+    {
+        self.starts.clear();
     }
 }
 

@@ -92,6 +92,7 @@ play_is (suc n) s (b ∷ input) answers short whole =
           answers = answers;
           ends = refl;
           placed = refl;
+          led = refl;
           leaves = refl;
           taken = is_none e.world.run.input (both_first (is_empty e.world.run.input) later.whole whole);
           met = refl;

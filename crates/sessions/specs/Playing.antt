@@ -5,6 +5,7 @@ use Rattle.number_io.specs.Taking.{up_to, from}
 use Rattle.block_words.specs.Words.{Answer}
 use Rattle.interpreter.specs.State.{Forth}
 use Rattle.interpreter.specs.Lines.{Ended, line_on, between_lines, Turn}
+use Rattle.interpreter.specs.Told.{loads_told}
 use Rattle.sessions.specs.Cut.{line_text}
 use Rattle.sessions.specs.Sessions.{Session}
 
@@ -36,6 +37,7 @@ turn_of given e =
       reply = e.world.run.output;
       ending = e.ending;
       place = e.place;
+      loads = loads_told e.place e.world.loads;
       saves = e.world.run.saves;
       failures = e.world.run.failures;
       wear = e.world.run.wear;

@@ -70,11 +70,11 @@ impl<D: SectorDevice> Forth<D> {
         if block == 0 {
             return Err(Fault::NoBlock);
         }
-        let depth = self.returns.stack().loads();
+        let depth = self.loads.count();
         if depth >= MOST_LOADS {
             return Err(Fault::LoadDepth);
         }
-        self.starts[depth] = self.start_before(self.here_in_stream()).to_in;
+        let start = self.start_before(self.here_in_stream());
         let back = Entry::Load {
             block: cell_of(&self.space, BLK),
             to_in: cell_of(&self.space, TO_IN),
@@ -82,6 +82,7 @@ impl<D: SectorDevice> Forth<D> {
         let Ok(()) = self.returns.lend().push(back) else {
             return Err(Fault::ReturnStack);
         };
+        self.loads.begin(start);
         self.space.set_cell(BLK, block);
         self.space.set_cell(TO_IN, 0);
         Ok(())

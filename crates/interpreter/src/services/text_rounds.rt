@@ -18,7 +18,7 @@ impl<D: SectorDevice> Forth<D> {
     ghost use Rattle.cell_machine.specs.Value.{and_then};
     ghost use Rattle.number_io.specs.Number.{number};
     ghost use Rattle.lexicon.specs.Stands.{IsWord, IsSound as IsSoundLexicon};
-    ghost use Rattle.interpreter.specs.State.{World, with_run, system_cell, base_cell};
+    ghost use Rattle.interpreter.specs.State.{World, with_run, without_load, system_cell, base_cell};
     ghost use Rattle.interpreter.specs.Law.{left};
     ghost use Rattle.interpreter.specs.Lexicon.{language_of};
     ghost use Rattle.interpreter.specs.Text.{serve, found_word, with_number, number_value};
@@ -77,11 +77,12 @@ impl<D: SectorDevice> Forth<D> {
     fn leave_text(&mut self) -> Round
         requires idle { self.old.machine.pending ≡ None }
         ensures passed { (n : ℕ) (levels : List Level) (x : World) → Represents self.old levels x → IsAtText levels
-            → Passed n (λ r. after_text n levels (core self.old) (with_run r x)) (Ok result) self.old self.new x }
+            → Passed n (λ r. after_text n levels (core self.old) (with_run r (without_load x))) (Ok result) self.old self.new x }
         ensures down { Decreases (Ok result) (measure self.old) (measure self.new) }
         ensures spares { SparesAll self.old self.new }
     {
         levels();
+        self.loads.end();
         let Ok(entry) = self.returns.lend().pop() else {
             return Round::Over;
         };

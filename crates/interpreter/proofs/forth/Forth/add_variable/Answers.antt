@@ -29,11 +29,11 @@ returns-clause-alters g c = λ levels x stands.
     let room : nat_le (x.here + 2) 60928 ≡ true = le-leb _ _ (omega (arith, at, c.if-here.false)) in
     let wrote : c.set_cell.new.self ≡ with_cell old.space c.here-here.result 0 = grind (arith, common_steps, c.set_cell.ensures.after, c.set_cell.ensures.within) in
     let y = adding name (Created x.here None) x in
-    let named : RepresentsIn c.create.new.self c.args.self.now.machine c.args.self.now.returns c.args.self.now.picture c.args.self.now.blocks levels y =
+    let named : RepresentsIn c.create.new.self c.args.self.now.machine c.args.self.now.returns c.args.self.now.picture c.args.self.now.blocks c.args.self.now.loads levels y =
     becoming (with_word name (Created x.here None) (language_of x)) stands
     (new_word c.create.result c.args.self.now.lexicon c.create.new.self name (λ m. with_word name (Created m.here None) m) (language_of x) c.requires.fits stands.rests.meant c.create.ensures.created c.create.ensures.refused) in
     went _ (allot 2 y)
-    (subst (λ h. RepresentsIn c.set_here.new.self c.args.self.now.machine c.args.self.now.returns c.args.self.now.picture c.args.self.now.blocks levels (record y { here = h + 2 })) (sym at) (becoming _ named (c.set_here.ensures (language_of y) named.rests.meant)))
+    (subst (λ h. RepresentsIn c.set_here.new.self c.args.self.now.machine c.args.self.now.returns c.args.self.now.picture c.args.self.now.blocks c.args.self.now.loads levels (record y { here = h + 2 })) (sym at) (becoming _ named (c.set_here.ensures (language_of y) named.rests.meant)))
     (λ r. needing-yes _ _ _ _ _ room
     ∙ ap (λ s. Did (record old { space = s }) (with_run r (allot 2 y))) (ap (λ a. with_cell old.space a 0) at ∙ sym wrote))
     refl (omega arith)

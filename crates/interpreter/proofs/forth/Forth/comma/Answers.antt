@@ -30,7 +30,7 @@ returns-clause-alters g c = λ levels x stands.
     let wrote : c.set_cell.new.self ≡ with_cell old.space c.here-here.result c.in-Ok.cell = grind (arith, common_steps, c.set_cell.ensures.after, c.set_cell.ensures.within) in
     let becomes = c.set_here.ensures (language_of x) stands.rests.meant in
     went _ (allot 2 x)
-    (subst (λ h. RepresentsIn c.set_here.new.self c.args.self.now.machine c.args.self.now.returns c.args.self.now.picture c.args.self.now.blocks levels (record x { here = h + 2 })) (sym at) (becoming _ stands becomes))
+    (subst (λ h. RepresentsIn c.set_here.new.self c.args.self.now.machine c.args.self.now.returns c.args.self.now.picture c.args.self.now.blocks c.args.self.now.loads levels (record x { here = h + 2 })) (sym at) (becoming _ stands becomes))
     (λ r. popping-one old (with_run r x) _ _ _ c.in-Ok.ensures.ok
     ∙ needing-yes _ _ _ _ _ room
     ∙ ap (λ s. Did (record old { stack = c.pop.new.self; space = s }) (with_run r (allot 2 x))) (ap (λ a. with_cell old.space a c.in-Ok.cell) at ∙ sym wrote))

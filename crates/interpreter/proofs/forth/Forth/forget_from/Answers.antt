@@ -14,7 +14,7 @@ returns-in-Ok-clause-alters g c = λ levels x stands.
     let f = forgotten (language_of x) levels stands.rests.meant stands.left in
     let old = stands.rests in
     went _ (with_language f.0 x)
-    (record { rests = record { meant = f.1.1; held_end = old.held_end; held = old.held; buffers = old.buffers; maps = old.maps }; left = f.1.2 })
+    (record { rests = record { meant = f.1.1; held_end = old.held_end; held = old.held; buffers = old.buffers; loads = old.loads; maps = old.maps }; left = f.1.2 })
     (λ r. ap (λ a. stepped a (λ c. c) (core c.args.self.now) (with_run r x)) f.1.0) refl (omega arith)
 
 pub returns-in-Err-clause-alters : goal.returns-in-Err-clause-alters

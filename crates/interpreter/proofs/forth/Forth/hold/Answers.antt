@@ -24,7 +24,7 @@ returns-clause-alters g c = λ levels x stands.
     let wrote : with_byte old.space (x.held_end - suc x.held) c.args.byte ≡ c.set_byte.new.self = ap (λ a. with_byte old.space a c.args.byte) (sym at) ∙ sym c.set_byte.ensures.after in
     went _ (record x { held = suc x.held })
     (record {
-      rests = record { meant = stands.rests.meant; held_end = stands.rests.held_end; held = more; buffers = stands.rests.buffers; maps = stands.rests.maps };
+      rests = record { meant = stands.rests.meant; held_end = stands.rests.held_end; held = more; buffers = stands.rests.buffers; loads = stands.rests.loads; maps = stands.rests.maps };
       left = stands.left;
     })
     (λ r. needing-yes (nat_lt x.held 66) Hold (core old) (with_run r x) _ room ∙ ap (λ s. Did (record (core old) { space = s }) (with_run r (record x { held = suc x.held }))) wrote)

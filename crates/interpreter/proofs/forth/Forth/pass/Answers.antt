@@ -3,7 +3,7 @@ use Rattle.std.proofs.lemmas.Grind.{common_steps}
 use Rattle.data_space.specs.Space.{with_cell}
 use Rattle.stacks.specs.Stacks.{units}
 use Rattle.interpreter.specs.declared.interpreting.Round.TheVariants.{GoesOn}
-use Rattle.interpreter.specs.State.{with_run, set_cell, to_in_cell}
+use Rattle.interpreter.specs.State.{with_run, without_load, set_cell, to_in_cell}
 use Rattle.interpreter.specs.Representation.{core}
 use Rattle.interpreter.specs.TextRounds.{after_text, treated}
 use Rattle.interpreter.proofs.Treating.{no-word, word-unpaid, word-paid}
@@ -16,7 +16,7 @@ returns-then-look-eq0-clause-passed g c = λ n levels x less stands at.
     let wrote : c.set_cell.new.self ≡ with_cell old.space 20 c.args.look.behind = grind (arith, common_steps, c.set_cell.ensures.after, c.set_cell.ensures.within) in
     passed_as n _ (Ok c.leave_text.result) old
     (λ r. no-word n levels (take c.args.look.count old.text) (λ c'. set_cell to_in_cell c.args.look.behind c') (core old) (with_run r x) (c.requires.whole ∙ c.if-look-eq0.true)
-    ∙ ap (λ s. after_text n levels (record (core old) { space = s }) (with_run r x)) (sym wrote))
+    ∙ ap (λ s. after_text n levels (record (core old) { space = s }) (with_run r (without_load x))) (sym wrote))
     (omega arith) (c.leave_text.ensures.passed n levels x stands at)
 
 pub returns-then-self-eq0-clause-passed : goal.returns-then-self-eq0-clause-passed

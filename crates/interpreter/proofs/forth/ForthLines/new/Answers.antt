@@ -15,6 +15,7 @@ returns-clause-sound g c = λ m gives.
         held_end = refl;
         held = refl;
         buffers = sym c.new-3.ensures.buffers;
+        loads = c.new-4.ensures;
         maps = λ model. subst (λ s. StandsFor {D = g.row.D.Denot} {G = g.D.SectorDevice} s m) (sym e) (gives c.into.result c.into.ensures (subst (λ s. IsTrue (suits g.D.SectorDevice (device_of s))) e model));
       },
     )
@@ -33,6 +34,7 @@ returns-clause-opens g c = λ m gives.
           held_end = refl;
           held = refl;
           buffers = sym c.new-3.ensures.buffers;
+          loads = c.new-4.ensures;
           maps = λ model. subst (λ s. StandsFor {D = g.row.D.Denot} {G = g.D.SectorDevice} s m) (sym e) stands;
         };
       };
