@@ -5,19 +5,21 @@ use Rattle.block_words.specs.Words.{Save}
 use Rattle.interpreter.specs.State.{Forth}
 use Rattle.interpreter.specs.Lines.{LineEnd, Turn}
 use Rattle.interpreter.specs.declared.place.Place.{Place}
-use Rattle.interpreter.specs.Told.{AreRead}
+use Rattle.interpreter.specs.Told.{AreRead, AreStarts}
 use Rattle.sessions.specs.declared.run_end.RunEnd.{RunEnd}
 use Rattle.sessions.specs.declared.run_end.RunEnd.TheVariants as by
 use Rattle.sessions.specs.declared.run_fault.RunFault.{RunFault}
 use Rattle.sessions.specs.Sessions.{AreFaultless, BreaksOff, Completes, StopsAtFault}
 
 module _ {T : Type 0} (hears : (old new : T) → LineEnd → Option Place → List ℕ → List Place → Type 0) where
-  -- It was told of a line once: how the line's turn ended, and which word is the last before the place of its fault, and where that begins.
+  -- It was told of a line once: how the line's turn ended, which word is the last before the place of its fault, and where that
+  -- begins, and of each load that led there where the word begins that asked for it, the innermost first.
   pub record HearsTurn (old : T) (turn : Turn) (new : T) : Type 0 where
     pub start : Option Place
     pub word : List ℕ
     pub loads : List Place
     pub read : AreRead turn.place start word
+    pub led : AreStarts turn.loads loads
     pub heard : hears old new turn.ending start word loads
 
   -- It was told of these lines, of each once, one after another, and of no other.

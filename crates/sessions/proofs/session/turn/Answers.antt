@@ -1,5 +1,6 @@
 use Rattle.std.proofs.Common.{[], ◌≡◌, ◌<◌, ap, subst, sym, ◌∙◌}
-use Rattle.interpreter.specs.Told.{AreRead}
+use Rattle.interpreter.specs.Told.{AreRead, AreStarts, loads_told}
+use Rattle.interpreter.proofs.Underway.{led_by}
 use Rattle.std.specs.Io.BufRead.{strip_last}
 use Rattle.sessions.proofs.OneLine.{was_stopped, was_replied, line_stopped, line_replied, line_unflushed, line_unread}
 use Rattle.sessions.proofs.session.turn.Goals as goal
@@ -45,6 +46,9 @@ returns-in-Ok-clause-done g c = λ opening is.
           word = g.F.Lines.told_word c.line-end.new.self;
           loads = g.F.Lines.told_loads c.line-end.new.self;
           read = subst (λ place. AreRead place (g.F.Lines.told_start c.line-end.new.self) (g.F.Lines.told_word c.line-end.new.self)) (sym (ap (λ t. t.place) done.1 ∙ replied.placed)) (g.met.F.Lines.reads c.line-end.new.self);
+          led = subst (λ loads. AreStarts loads (g.F.Lines.told_loads c.line-end.new.self))
+              (sym (ap (λ t. t.loads) done.1 ∙ led_by opening c.text.result.now replied.turn ran.0 replied.line ∙ ap (λ place. loads_told place ran.0.world.loads) replied.placed))
+              (g.met.F.Lines.leads c.line-end.new.self ran.0 (g.met.F.Lines.shows c.line-end.new.self ran.0 ran.2));
           heard = subst (λ ending. g.T.Tracer.hears c.args.tracer.now c.line_ended.new.self ending (g.F.Lines.told_start c.line-end.new.self) (g.F.Lines.told_word c.line-end.new.self) (g.F.Lines.told_loads c.line-end.new.self))
               (sym (ap (λ t. t.ending) done.1 ∙ replied.ends)) c.line_ended.ensures;
         },
