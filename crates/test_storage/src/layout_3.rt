@@ -4,6 +4,7 @@ mod examinations;
 mod formats;
 mod images;
 mod openings;
+mod readings;
 pub(crate) mod salvages;
 pub(crate) mod saved_images;
 mod saves;
