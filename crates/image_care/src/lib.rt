@@ -29,4 +29,4 @@ pub use reading_through::read_through;
 pub use salvage_source::Taken;
 pub use salvaging::salvage;
 pub use view::{Listing, View};
-pub use whole_copies::{Readings, StillReadings, read_whole};
+pub use whole_copies::{Readings, StillReadings, read_whole, read_whole_file};

@@ -1,7 +1,7 @@
 // The files of this system, opened for reading alone.
 ghost use Rattle.std.specs.Prelude.{◌≡◌, ◌≢◌, false, IsTrue, IfErr};
 
-use crate::whole_copies::{copied, read_whole_image};
+use crate::whole_copies::{FileReadings, copied, read_whole_file};
 use sector_disk::{FileFault, HostFault, HostFile, HostFiles};
 use std::fs::{File, Files, Metadata, OpenOptions, TryLockError};
 use std::io::ErrorKind;
@@ -150,7 +150,11 @@ impl<R: Files<File = File> + AllocGlobal> HostFiles<ReadOnlyFile> for ReadingFil
             }
             Err(FileFault::InUse) if self.takes_copies => {
                 let len = length_of(self.rt, &file)?;
-                let bytes = read_whole_image(self.rt.alloc(), &file, len)?;
+                let bytes = read_whole_file(
+                    self.rt.alloc(),
+                    &mut FileReadings { file: &file },
+                    len,
+                )?;
                 Ok(ReadOnlyFile::Still(bytes))
             }
             Err(fault) => Err(fault),

@@ -1,6 +1,7 @@
 // Images of layout 3 that are read whole while another program writes them.
-ghost use Rattle.std.specs.Prelude.{◌≡◌, ◌≢◌, ◌≤◌, ◌<◌, ◌+◌, ◌*◌, ◌^◌, ℕ, suc, List, Option, Some, None, true, IsTrue, IfErr, IfOk, IfSome, OnOk, OnErr, length};
+ghost use Rattle.std.specs.Prelude.{◌≡◌, ◌≢◌, ◌≤◌, ◌<◌, ◌+◌, ◌*◌, ◌^◌, ℕ, suc, List, Option, Some, None, true, IsTrue, IfErr, IfOk, OnOk, OnErr, length};
 ghost use Rattle.sector_disk.specs.FileBytes.{Gives, disk_of_file};
+ghost use Rattle.sector_disk.specs.Opening.{sectors_in};
 ghost use Rattle.shadow.specs.Label.{is_size};
 ghost use Rattle.stores.specs.Images.{HasMeaning};
 ghost use Rattle.image_care.specs.Seen.{GaveNoImage, IsOneOf, IsWholeImage, NoneIsWhole, still};
@@ -275,29 +276,32 @@ pub fn read_whole<R: Readings>(
     }
 }
 
-// How many sectors a file of this length has, where an image of layout 3 has so many.
-fn newer_sectors(len: u64) -> Option<u32>
-    ensures newer { IfSome result (λ n. is_size n ≡ true) }
+// How many sectors a file of this length has, as where it is opened.
+fn sectors_in(len: u64) -> u32
+    ensures { result ≡ sectors_in len }
 {
     if len % 512 != 0 {
-        return None;
+        return 0;
     }
-    let sectors = u32::try_from(len / 512).unwrap_or(0);
-    match blocks_of_new(sectors) {
-        Some(_) => Some(sectors),
-        None => None,
-    }
+    u32::try_from(len / 512).unwrap_or(0)
 }
 
-/// Reads the image of layout 3 in a file into memory, with no lock. `InUse` where that doesn't end, or the file hasn't
-/// the length of such an image, and `Cannot` where there is no memory.
+/// Reads the image of layout 3 that a file of this length has, with no lock, as `read_whole`. `InUse` too where that is
+/// not the length of such an image.
 /// Rule: IMAGE, A look while it runs.
-pub(crate) fn read_whole_image(alloc: Global, file: &File, len: u64) -> Result<Vec<u8>, FileFault>
+pub fn read_whole_file<R: Readings>(
+    alloc: Global,
+    readings: &mut R,
+    len: u64,
+) -> Result<Vec<u8>, FileFault>
     ensures whole { IfOk result (λ bytes. IsWholeImage bytes.items) }
+    ensures in_use { IfErr result (λ fault. fault ≡ FileFault.InUse → is_size (sectors_in len) ≡ true
+        → NoneIsWhole (sectors_in len) 64 (R.gives readings.old (512 * sectors_in len))) }
     ensures fault { IfErr result (λ fault. fault ≢ FileFault.Exists) }
 {
-    match newer_sectors(len) {
-        Some(sectors) => read_whole(alloc, &mut FileReadings { file }, sectors),
+    let sectors = sectors_in(len);
+    match blocks_of_new(sectors) {
+        Some(_) => read_whole(alloc, readings, sectors),
         None => Err(FileFault::InUse),
     }
 }

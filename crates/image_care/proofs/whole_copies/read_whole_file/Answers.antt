@@ -1,0 +1,17 @@
+use Rattle.std.proofs.Common.{◌≡◌, ◌∙◌, ◌*◌, true, false, ap, subst, sym}
+use Rattle.std.specs.Prelude.{IfErr}
+use Rattle.sector_disk.specs.declared.host_files.FileFault.TheVariants.{InUse}
+use Rattle.shadow.specs.Label.{is_size}
+use Rattle.stores.proofs.Results.{if_err}
+use Rattle.image_care.specs.Seen.{NoneIsWhole}
+use Rattle.image_care.proofs.whole_copies.read_whole_file.Goals as goal
+
+pub returns-in-Some-clause-in_use : goal.returns-in-Some-clause-in_use
+returns-in-Some-clause-in_use g c =
+    if_err c.read_whole.result (λ fault none is sized. none is)
+    (subst (λ n. IfErr c.read_whole.result (λ fault. fault ≡ InUse → NoneIsWhole n 64 (g.R.Readings.gives c.args.readings.now (512 * n))))
+    c.sectors_in-sectors.ensures c.read_whole.ensures.in_use)
+
+pub returns-in-None-clause-in_use : goal.returns-in-None-clause-in_use
+returns-in-None-clause-in_use g c = λ is sized.
+    absurd (let no : false ≡ true = sym c.in-None.ensures.none ∙ ap is_size c.sectors_in-sectors.ensures ∙ sized in cc)
