@@ -5,9 +5,9 @@ ghost use Rattle.sector_disk.specs.SectorFile.{has_failed_sync};
 use crate::{
     FileFault, HostFault, HostFiles, SectorDevice, SectorFile, StdFile, create_disk, open_disk,
 };
-use std::fs::{File, Files, Metadata, OpenOptions, TryLockError};
+use std::fs::{File, Files, Metadata, OpenOptions, Permissions, TryLockError};
 use std::io::ErrorKind;
-use std::os::unix::fs::MetadataExt;
+use std::os::unix::fs::{MetadataExt, OpenOptionsExt, PermissionsExt};
 use std::path::Path;
 use std::{fs, io};
 
@@ -17,17 +17,42 @@ pub type FileDisk = SectorFile<StdFile>;
 /// The names of this program's standard streams.
 const STREAMS: [&str; 3] = ["/dev/stdin", "/dev/stdout", "/dev/stderr"];
 
+/// The rights that a new file has, of which the system takes those away that the user doesn't give.
+const ANY_RIGHTS: u32 = 0o666;
+
+/// Those of a file that is to be as another one, whose rights can't be seen: to read and write it is its owner's.
+const FEWEST_RIGHTS: u32 = 0o600;
+
 /// The files of this system. Each is locked as long as it is open: only programs that ask for the lock are kept out.
 /// Rule: IMAGE, The file; DECISIONS, The device and the image.
 #[derive(Drop)]
 pub struct StdFiles<'a, R> {
     rt: &'a R,
+    like: Option<&'a str>,
 }
 
 impl<'a, R: Files<File = File>> StdFiles<'a, R> {
     /// The files that this runtime reaches.
     pub fn new(rt: &'a R) -> StdFiles<'a, R> {
-        StdFiles { rt }
+        StdFiles { rt, like: None }
+    }
+
+    /// Those too, but each that is made has the rights of the file of this name, where one is given: who may read it,
+    /// write it and run it. At no time has it more. Where the system doesn't let them be set it has fewer.
+    /// Rule: DECISIONS, The device and the image.
+    pub fn with_rights_of(rt: &'a R, like: Option<&'a str>) -> StdFiles<'a, R> {
+        StdFiles { rt, like }
+    }
+
+    // The rights that a file which is made is to have, where it is to have those of another one.
+    fn rights(&self) -> Option<u32> {
+        match self.like {
+            Some(path) => match fs::metadata(self.rt, path) {
+                Ok(of) => Some(of.mode() & 0o777),
+                Err(_) => Some(FEWEST_RIGHTS),
+            },
+            None => None,
+        }
     }
 }
 
@@ -51,15 +76,21 @@ impl<R: Files<File = File>> HostFiles<StdFile> for StdFiles<'_, R> {
     }
 
     fn make(&self, path: &str) -> Result<StdFile, FileFault> {
+        let rights = self.rights();
         let file = OpenOptions::new()
             .read(true)
             .write(true)
             .create_new(true)
+            .mode(rights.unwrap_or(ANY_RIGHTS))
             .open(self.rt, path)
             .map_err(|error| match error.kind() {
                 ErrorKind::AlreadyExists => FileFault::Exists,
                 _ => FileFault::Cannot,
             })?;
+        // Those that the system took away when it made the file come back.
+        if let Some(rights) = rights {
+            let _ = file.set_permissions(Permissions::from_mode(rights));
+        }
         lock(&file)?;
         Ok(StdFile::new(file, 0))
     }

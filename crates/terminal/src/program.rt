@@ -78,7 +78,7 @@ pub fn command<F: Lines<FileDisk>, M: Lines<MemoryDisk>, S: AsStr, R: Input, W: 
     ensures broken { AsksForNothing (map S.text words.now) → result ≡ 4 → BreaksInMemory ⟦<MemoryDisk as SectorDevice>⟧
         (R.remaining input.old) (R.remaining input.new) (W.contents output.old) (W.contents output.new) }
 {
-    let files = StdFiles::new(rt);
+    let files = StdFiles::with_rights_of(rt, old_image(rt.alloc(), words));
     let looking = ReadingFiles::with_copies(rt);
     let alone = ReadingFiles::new(rt);
     let texts = StdTexts::new(rt);
@@ -86,6 +86,16 @@ pub fn command<F: Lines<FileDisk>, M: Lines<MemoryDisk>, S: AsStr, R: Input, W: 
         rt, &files, &looking, &alone, &texts, words, input, output, errors,
     );
     status
+}
+
+/// The name of the image of which the words order another one to be made. None where they order none.
+fn old_image<S: AsStr>(alloc: Global, words: &[S]) -> Option<&str> {
+    match order(alloc, words) {
+        Ok(Order::Upgrade(old, _, _)) => Some(old),
+        Ok(Order::Copy(old, _, _)) => Some(old),
+        Ok(Order::Salvage(old, _, _)) => Some(old),
+        _ => None,
+    }
 }
 
 /// Does what the words ask for, and answers the exit status, as `command`, over the images of any system of files, and

@@ -3,7 +3,8 @@ use crate::devices::sectors::{put, sector};
 use recovery::format;
 use sector_disk::{FileDisk, FileFault, HostFault, HostFiles, SectorDevice, SectorFile, StdFiles};
 use std::fs;
-use std::os::unix::fs::{MetadataExt, symlink};
+use std::fs::Permissions;
+use std::os::unix::fs::{MetadataExt, PermissionsExt, symlink};
 use std::test::Fail;
 
 /// How many sectors an image of 32 blocks has.
@@ -46,6 +47,26 @@ fn a_name_in_no_folder_is_not_kept(rt: HostRuntime) {
         Err(HostFault::Failed)
     );
     assert_eq!(rt; files.keep_name("image"), Ok(()));
+}
+
+/// A file that is made has the rights of the one that it is to be like, whatever the mask takes away; and where that one's can't be seen, it is its owner's.
+#[test]
+fn a_file_has_the_rights_of_another(rt: HostRuntime) -> Result<(), Fail> {
+    let folder = "files_rights";
+    let (old, new) = ("files_rights/old", "files_rights/new");
+    let _ = fs::remove_dir_all(&rt, folder);
+    fs::create_dir(&rt, folder)?;
+    fs::write(&rt, old, b"".as_slice())?;
+    for rights in [0o600, 0o640, 0o664, 0o666, 0o755, 0o400] {
+        fs::set_permissions(&rt, old, Permissions::from_mode(rights))?;
+        drop(StdFiles::with_rights_of(&rt, Some(old)).make(new)?);
+        assert_eq!(rt; fs::metadata(&rt, new)?.mode() & 0o777, rights);
+        fs::remove_file(&rt, new)?;
+    }
+    drop(StdFiles::with_rights_of(&rt, Some("files_rights/none")).make(new)?);
+    assert_eq!(rt; fs::metadata(&rt, new)?.mode() & 0o177, 0);
+    fs::remove_dir_all(&rt, folder)?;
+    Ok(())
 }
 
 /// Each sector of the largest image stands at its place, and the whole file has its room from the beginning.
