@@ -88,10 +88,14 @@ pub fn create_disk<H: HostFile, O: HostFiles<H>>(
         ≡ record { reads = 0; writes = 0; syncs = 0 }) }
     ensures failures { IfOk result (λ d. ⟦<SectorFile<H> as SectorDevice>⟧.failures d ≡ 0) }
     ensures sync { IfOk result (λ d. has_failed_sync d ≡ false) }
-    // A file that was made and not finished is what the system made, later. It has no sectors, so it isn't written.
+    // A file that was made and not finished is what the system made, later. It has no sectors, so it isn't written; and no call
+    // of the device was counted yet, and none has failed.
     ensures unfinished { IfErr result (λ e. IfSome e.1 (λ d. (file : H) × O.makes files.now path.now file
         × WentOn H.HostFile file (file_of d))) }
     ensures empty { IfErr result (λ e. IfSome e.1 (λ d. sectors_of d ≡ 0)) }
+    ensures uncounted { IfErr result (λ e. IfSome e.1 (λ d. ⟦<SectorFile<H> as SectorDevice>⟧.counts d
+        ≡ record { reads = 0; writes = 0; syncs = 0 })) }
+    ensures unfailed { IfErr result (λ e. IfSome e.1 (λ d. ⟦<SectorFile<H> as SectorDevice>⟧.failures d ≡ 0)) }
     ensures refused { IfErr result (λ e. IfSome e.1 (λ _. e.0 ≡ FileFault.Cannot)) }
 {
     match files.make(path) {
@@ -118,6 +122,9 @@ fn finish<H: HostFile, O: HostFiles<H>>(
     // It is handed back where it wasn't finished.
     ensures unfinished { IfErr result (λ e. MatchOption e.1 ⊥ (λ d. WentOn H.HostFile file (file_of d))) }
     ensures empty { IfErr result (λ e. IfSome e.1 (λ d. sectors_of d ≡ 0)) }
+    ensures uncounted { IfErr result (λ e. IfSome e.1 (λ d. ⟦<SectorFile<H> as SectorDevice>⟧.counts d
+        ≡ record { reads = 0; writes = 0; syncs = 0 })) }
+    ensures unfailed { IfErr result (λ e. IfSome e.1 (λ d. ⟦<SectorFile<H> as SectorDevice>⟧.failures d ≡ 0)) }
     ensures cannot { IfErr result (λ e. e.0 ≡ FileFault.Cannot) }
 {
     match fill_and_sync(&mut file, sectors) {

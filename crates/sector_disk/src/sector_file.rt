@@ -57,6 +57,8 @@ impl<H: HostFile> SectorFile<H> {
     pub(crate) fn unfinished(file: H) -> SectorFile<H>
         ensures file { file_of result ≡ file }
         ensures sectors { sectors_of result ≡ 0 }
+        ensures failures { ⟦<SectorFile<H> as SectorDevice>⟧.failures result ≡ 0 }
+        ensures counts { ⟦<SectorFile<H> as SectorDevice>⟧.counts result ≡ record { reads = 0; writes = 0; syncs = 0 } }
     {
         SectorFile {
             file,

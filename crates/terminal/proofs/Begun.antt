@@ -22,9 +22,11 @@ opened_are G opens (Ok d) file sectors counts failures = record { file = file; s
 opened_are G opens (Err e) file sectors counts failures = tt
 
 pub unfinished_are : {H : Type 0} (G : Ghosts H) (makes : H → Type 0) (o : Option (SectorFile H G))
-    → IfSome o (λ d. (file : H) × makes file × WentOn G file (file_of d)) → IfSome o (λ d. sectors_of d ≡ 0) → IfSome o (IsUnfinished G makes)
-unfinished_are G makes (Some d) made empty = record { file = made.0; made = made.1; goes = made.2; empty = empty }
-unfinished_are G makes None made empty = tt
+    → IfSome o (λ d. (file : H) × makes file × WentOn G file (file_of d)) → IfSome o (λ d. sectors_of d ≡ 0)
+    → IfSome o (λ d. d.counts ≡ record { reads = 0; writes = 0; syncs = 0 }) → IfSome o (λ d. d.failures ≡ 0) → IfSome o (IsUnfinished G makes)
+unfinished_are G makes (Some d) made empty counts failures =
+    record { file = made.0; made = made.1; goes = made.2; empty = empty; counts = counts; failures = failures }
+unfinished_are G makes None made empty counts failures = tt
 
 -- It is told as one that can't be opened.
 pub told_cannot : {D : Type 0} (o : Option D) (fault : FileFault) (failure : Failure) → failure ≡ of_file fault

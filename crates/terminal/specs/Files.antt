@@ -30,12 +30,14 @@ module _ {H : Type 0} (G : Ghosts H) where
     pub counts : device.counts ≡ record { reads = 0; writes = 0; syncs = 0 }
     pub failures : device.failures ≡ 0
 
-  -- The device is a file that was made and not finished. It has no sectors.
+  -- The device is a file that was made and not finished. It has no sectors, no call of it was counted yet, and none has failed.
   pub record IsUnfinished (makes : H → Type 0) (device : SectorFile H G) : Type 0 where
     pub file : H
     pub made : makes file
     pub goes : WentOn G file (file_of device)
     pub empty : sectors_of device ≡ 0
+    pub counts : device.counts ≡ record { reads = 0; writes = 0; syncs = 0 }
+    pub failures : device.failures ≡ 0
 
 -- The store was opened on the device, and no call of it failed: the image there means some blocks, the store has these, nothing is
 -- pending, and it isn't closed.

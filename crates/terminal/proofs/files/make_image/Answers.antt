@@ -29,4 +29,4 @@ pub returns-in-Err-clause-failed : goal.returns-in-Err-clause-failed
 returns-in-Err-clause-failed g c =
     let e = c.in-Err.ensures in
     inl (not_finished c.in-Err.unfinished c.begun.result c.from.result _ c.begun.ensures (unmade c.in-Err.fault c.from.result c.from.ensures)
-    (unfinished_are g.H.HostFile _ c.in-Err.unfinished e.unfinished e.empty) (told_cannot c.in-Err.unfinished c.in-Err.fault c.from.result c.from.ensures e.refused))
+    (unfinished_are g.H.HostFile _ c.in-Err.unfinished e.unfinished e.empty e.uncounted e.unfailed) (told_cannot c.in-Err.unfinished c.in-Err.fault c.from.result c.from.ensures e.refused))

@@ -51,4 +51,4 @@ returns-in-Err-clause-failed g c =
     let e = c.in-Err.ensures in
     inl (not_upgraded c.in-Err.unfinished c.begun_beside.result c.from.result (λ device. device ≡ c.args.source)
     (IsUnfinished g.H.HostFile (g.O.HostFiles.makes c.args.files.now c.args.new.now)) c.args.source refl c.begun_beside.ensures
-    (unfinished_are g.H.HostFile _ c.in-Err.unfinished e.unfinished e.empty) (told_cannot c.in-Err.unfinished c.in-Err.fault c.from.result c.from.ensures e.refused))
+    (unfinished_are g.H.HostFile _ c.in-Err.unfinished e.unfinished e.empty e.uncounted e.unfailed) (told_cannot c.in-Err.unfinished c.in-Err.fault c.from.result c.from.ensures e.refused))
