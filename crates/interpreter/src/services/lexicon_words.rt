@@ -13,8 +13,8 @@ use system_words::words::LexiconWord;
 /// The last address at which `HERE` may stand.
 pub(crate) const LAST_HERE: u16 = 60928;
 
-/// How far `PAD` is from `HERE`.
-const PAD_OFFSET: u16 = 324;
+/// How far `PAD` is from `HERE`, and so how far behind it a picture ends.
+pub(crate) const PAD_OFFSET: u16 = 324;
 
 /// Where `HERE` would stand, moved by this many bytes with their sign.
 fn moved_here(here: u16, n: u16) -> u32

@@ -7,6 +7,7 @@ ghost use Rattle.cell_machine.specs.Cells.{double};
 
 use crate::fault::{Fault, Stop};
 use crate::forth::{Forth, Picture};
+use crate::services::lexicon_words::PAD_OFFSET;
 use crate::system_cells::{BASE, cell_of};
 use crate::terminal::Terminal;
 use number_io::Held;
@@ -15,9 +16,6 @@ use system_words::words::PictureWord;
 
 /// How many bytes are held at most.
 const CAPACITY: u8 = 66;
-
-/// How far behind `HERE` the picture ends.
-const UNDER_PAD: u16 = 324;
 
 /// The digits of a cell, and a blank after them.
 fn unsigned_text(cell: u16, base: u16) -> Held
@@ -192,7 +190,7 @@ impl<D: SectorDevice> Forth<D> {
         ensures spares { Spares result self.old self.new }
     {
         self.picture = Picture {
-            end: self.lexicon.here() + UNDER_PAD,
+            end: self.lexicon.here() + PAD_OFFSET,
             held: 0,
         };
         Ok(())
