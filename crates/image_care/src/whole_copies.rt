@@ -295,6 +295,7 @@ pub fn read_whole_file<R: Readings>(
     len: u64,
 ) -> Result<Vec<u8>, FileFault>
     ensures whole { IfOk result (λ bytes. IsWholeImage bytes.items) }
+    ensures given { IfOk result (λ bytes. IsOneOf 64 (R.gives readings.old (512 * sectors_in len)) bytes.items) }
     ensures in_use { IfErr result (λ fault. fault ≡ FileFault.InUse → is_size (sectors_in len) ≡ true
         → NoneIsWhole (sectors_in len) 64 (R.gives readings.old (512 * sectors_in len))) }
     ensures fault { IfErr result (λ fault. fault ≢ FileFault.Exists) }

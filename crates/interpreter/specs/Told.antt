@@ -52,7 +52,7 @@ abbrev pub loads_told : Option Place → List Place → List Place
 loads_told None loads = []
 loads_told (Some place) loads = loads
 
--- Of a load that was asked for at this place that start is told: where the word begins that asked, in the same block.
+-- Of a load that was asked for at this place that start is told: in the same block, where the last word before it begins in some text.
 abbrev pub IsStart : (place start : Place) → Type 0
 IsStart place start = (text : List ℕ) × (start ≡ record { block = place.block; to_in = first_byte place.to_in text })
 

@@ -13,7 +13,7 @@ use Rattle.sessions.specs.Sessions.{AreFaultless, BreaksOff, Completes, StopsAtF
 
 module _ {T : Type 0} (hears : (old new : T) → LineEnd → Option Place → List ℕ → List Place → Type 0) where
   -- It was told of a line once: how the line's turn ended, which word is the last before the place of its fault, and where that
-  -- begins, and of each load that led there where the word begins that asked for it, the innermost first.
+  -- begins, and of each load that led there where the last word before its place begins in some text, the innermost first.
   pub record HearsTurn (old : T) (turn : Turn) (new : T) : Type 0 where
     pub start : Option Place
     pub word : List ℕ

@@ -228,11 +228,12 @@ module _ {D : Type 0} (G : Ghosts D) where
   abbrev pub LookingFails : Failure → (device after : D) → Type 0
   LookingFails = ReadingFails IsUntold (λ sectors image. option_map of_image (image_refusal sectors image))
 
-  -- `check`, of a look at an image: of a damaged one of layout 3 each damaged block was told, and of one of layout 2 nothing was printed.
+  -- `check`, of a look at an image: of a damaged one of layout 3 each damaged block was told, and else nothing was printed.
   pub record LookFails (written written' : Option (List ℕ)) (failure : Failure) (device after : D) : Type 0 where
     pub looks : LookingFails failure device after
     pub damaged : IsTrue (G.keeps_model device) → layout_by_size (G.sector_count device) ≡ Three → failure ≡ Damaged
         → Appends written written' (damage_report (G.sector_count device) (G.disk device).content)
+    pub unprinted : failure ≢ CannotWrite → failure ≢ Damaged → written' ≡ written
     pub silent : layout_by_size (G.sector_count device) ≡ Two → failure ≢ CannotWrite → written' ≡ written
 
   -- What is told where a read of it failed: the sectors that can't be read; or they couldn't be told, and the failure is that.

@@ -27,6 +27,7 @@ returns-in-Err-clause-failed g c =
         told = λ keeps. device_first (looked.exact keeps);
       };
       damaged = looked.damaged;
+      unprinted = λ write damaged. ap contents (looked.unprinted write damaged);
       silent = λ two other. ap contents (looked.silent two other);
     }) told)
     c.tell_more.ensures.told
