@@ -88,8 +88,8 @@ pub fn command<F: Lines<FileDisk>, M: Lines<MemoryDisk>, S: AsStr, R: Input, W: 
     status
 }
 
-/// The name of the image of which the words order another one to be made. None where they order none. Where they can't be
-/// read it is no name: a file that is made then has the fewest rights.
+/// The name of the image of which the words order another one to be made. None where they order none. Where they can't
+/// be read it is no name: a file that is made then has the fewest rights.
 fn old_image<S: AsStr>(alloc: Global, words: &[S]) -> Option<&str> {
     match order(alloc, words) {
         Ok(Order::Upgrade(old, _, _)) => Some(old),
