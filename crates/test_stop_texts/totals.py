@@ -115,6 +115,12 @@ def is_open(sectors):
     return sectors[1][:8] == OPEN[:8]
 
 
+def is_open_gate(gate):
+    """Whether a gate of layout 3 is open: its first eight bytes are nearer to those of an open one than to zeros, by the bits that differ."""
+    bits, mark = (int.from_bytes(it[:8], "big") for it in (gate, OPEN))
+    return bin(bits ^ mark).count("1") < bin(bits).count("1")
+
+
 def bits_of(blocks):
     bits = bytearray(480)
     for b in blocks:
@@ -217,7 +223,7 @@ class Newer(Store):
     """By layout 3: an opening looks at all blocks, and writes nothing."""
 
     def open(self):
-        self.gate = self.disk.read(8)[:8] == OPEN[:8]
+        self.gate = is_open_gate(self.disk.read(8))
         found = self.disk.read(16 if self.gate else 24)
         self.second, self.sum = set(listed(found, self.blocks)), found[480:]
         tags = []
