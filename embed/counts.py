@@ -14,7 +14,11 @@ import sys
 
 ROOT = os.path.dirname(os.path.dirname(os.path.abspath(__file__)))
 BLOCKS, PAIR, OLD, NEW = 32, (2, 3), bytes([7]) * 1024, bytes([8]) * 1024
-TORN = bytes(range(255, 127, -1)) * 4
+
+
+def torn(k):
+    """What stands in a torn sector, as in disk.c: a gate of layout 3 is open or closed by these bytes too."""
+    return bytes((37 * i + k + 11) % 256 for i in range(512))
 
 
 def read_model():
@@ -57,7 +61,7 @@ def stopped(call, sectors, at):
 def left(disk):
     """The images that a stop leaves: each unsynced sector lost, kept or torn."""
     places = sorted(disk.unsynced)
-    for fate in itertools.product(*((disk.synced[k], disk.now[k], TORN) for k in places)):
+    for fate in itertools.product(*((disk.synced[k], disk.now[k], torn(k)) for k in places)):
         sectors = list(disk.synced)
         for k, data in zip(places, fate):
             sectors[k] = data

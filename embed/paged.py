@@ -8,7 +8,7 @@ It shares no code with the library. The disk, the store and the block words are 
 import itertools
 import sys
 
-from counts import BLOCKS, MODEL, NEW, OLD, OPENED_TEXT, PAIR, SESSIONS_TEXT, TORN
+from counts import BLOCKS, MODEL, NEW, OLD, OPENED_TEXT, PAIR, SESSIONS_TEXT, torn
 
 # every how many calls an opening is stopped
 EACH = 16
@@ -66,7 +66,7 @@ def left(disk):
         sectors = list(disk.synced)
         for page, fate in zip(pages, fates):
             for k in range(8 * page, 8 * page + 8):
-                sectors[k] = (disk.synced[k], disk.now[k], TORN)[k % 3 if fate == 3 else fate]
+                sectors[k] = (disk.synced[k], disk.now[k], torn(k))[k % 3 if fate == 3 else fate]
         yield sectors
 
 
