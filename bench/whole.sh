@@ -10,60 +10,11 @@ program=${2:-$root/crates/forth83/out/forth83}
 work=$(mktemp -d ${3:+-p "$3"})
 trap 'rm -rf "$work"' EXIT
 cd "$work"
-gcc -std=c11 -O2 -o whole "$here/whole.c"
-"$program" new image --blocks 200
+. "$here/systems.sh"
 cp image plain
 "$program" new newer --blocks 200 --layout 3
-steps=1000000000
-
-others=
-for other in gforth gforth-fast pforth; do
-    if command -v "$other" > /dev/null; then others="$others $other"; fi
-done
 echo "load: $(cut -d' ' -f1-3 /proc/loadavg); rounds: $rounds; beside forth83:${others:- no other Forth is installed}"
 
-# SYSTEM INPUT: nanoseconds of the processor. The others are given their text as a file: from standard input they take lines far slower. It is
-# INPUT.fth where that is there, with INPUT.others before it; Lua's is INPUT.lua.
-once() {
-    case $1 in
-    forth83) ./whole run 1 "$2" "$program" run image --steps "$steps" ;;
-    lua) ./whole run 1 empty lua "$2.lua" ;;
-    *) as_file "$2" && ./whole run 1 empty "$1" "$2.fs" ;;
-    esac | cut -d' ' -f3
-}
-as_file() {
-    text=$1
-    if [ -f "$1.fth" ]; then text=$1.fth; fi
-    { if [ -f "$1.others" ]; then cat "$1.others"; fi; cat "$text"; echo bye; } > "$1.fs"
-}
-row() {
-    printf '%-44s %-12s %12s %s\n' "$1" "$2" "$3" "$4"
-}
-# WHAT INPUT BASE UNITS UNIT: the processor's time over that of the input BASE, by units. The systems take turns; the least of the rounds counts.
-compared() {
-    systems="forth83 $others"
-    if [ -f "$2.lua" ] && command -v lua > /dev/null; then systems="$systems lua"; fi
-    for _ in $(seq "$rounds"); do
-        for system in $systems; do
-            echo "$system $(once "$system" "$2") $(once "$system" "$3")"
-        done
-    done | awk -v units="$4" '
-        !($1 in long) || $2 < long[$1] { long[$1] = $2 }
-        !($1 in short) || $3 < short[$1] { short[$1] = $3 }
-        END {
-            for (s in long) each[s] = (long[s] - short[s]) / units
-            for (s in long) {
-                over = each["gforth-fast"] > 0 ? sprintf(", %.2f of gforth-fast", each[s] / each["gforth-fast"]) : ""
-                printf "%s %.1f %.3f %s\n", s, each[s], long[s] / 1e9, over
-            }
-        }' > took
-    for system in $systems; do
-        row "$1" "$system" "$(awk -v s="$system" '$1 == s { print $2 }' took) ns" \
-            "a $5; in all $(awk -v s="$system" '$1 == s { print $3 }' took) s$(sed -n "s/^$system [^,]*,/,/p" took)"
-    done
-}
-
-: > empty
 # ---- lines and words
 awk 'BEGIN { for (i = 0; i < 200000; i++) print "1 2 + ." }' > lines
 compared "200,000 lines 1 2 + ." lines empty 200000 line
@@ -118,121 +69,8 @@ compared "LOAD of 100 full blocks, 20 times" load empty 2000 block
 compared "the same beside 3900 words" load.3900 defined.3900 2000 block
 others=$saved
 
-# ---- the programs: whole/NAME.fth or untuned/NAME.fth for every Forth, whole/NAME.lua in Lua where it has one
-# NAME KIND LINE CALL: the program with a line of Forth at its end, or a call of Lua, as NAME.KIND and what else `once` takes
-written() {
-    text=$here/whole/$1.fth
-    if [ ! -f "$text" ]; then text=$here/untuned/$1.fth; fi
-    { cat "$text"; echo "$3"; } > "$1.$2.fth"
-    # a cell has two bytes here
-    sed 's/CELL+/2+/g; s/CELLS/DUP +/g' "$1.$2.fth" > "$1.$2"
-    if [ -f "$here/whole/$1.lua" ]; then { cat "$here/whole/$1.lua"; echo "$4"; } > "$1.$2.lua"; fi
-}
-# NAME: whether all systems say the same result of the program
-agree() {
-    {
-        "$program" run image --steps "$steps" < "$1.result"
-        for other in $others; do as_file "$1.result" && "$other" "$1.result.fs" < empty; done
-        if [ -f "$1.result.lua" ] && command -v lua > /dev/null; then lua "$1.result.lua"; fi
-    } | tr -s '[:space:]' ' ' | grep -o 'result -\?[0-9]*' > said
-    # shellcheck disable=SC2086
-    set -- forth83 $others
-    [ "$(wc -l < said)" -ge $# ] && [ "$(sort -u said | wc -l)" -eq 1 ]
-}
-# INPUT: whether it ends within so many steps
-within() {
-    ! "$program" run image --steps "$2" < "$1" | grep -q STEPS
-}
-# INPUT: the steps that its longest line takes
-steps_of() {
-    low=0 high=100000000
-    while [ $((high - low)) -gt 1 ]; do
-        middle=$(((low + high) / 2))
-        if within "$1" "$middle"; then high=$middle; else low=$middle; fi
-    done
-    echo "$high"
-}
-instructions() {
-    valgrind --tool=callgrind --callgrind-out-file=/dev/null "$program" run image --steps "$steps" < "$1" 2>&1 |
-        awk '/Collected/ { print $4 }'
-}
-# NAME FEW MANY LONG: its time a step beside the others, and its instructions a step
-measured() {
-    name=$1
-    written "$name" result RESULT 'print("result", result())'
-    if ! agree "$name"; then
-        echo "$name: the systems disagree: $(tr '\n' ' ' < said)"
-        exit 1
-    fi
-    written "$name" base '' ''
-    for turns in "$2" "$3" "$4"; do written "$name" "$turns" "$turns TURNS" "turns($turns)"; done
-    a=$(steps_of "$name.$2")
-    b=$(steps_of "$name.$3")
-    each=$(((b - a) / ($3 - $2)))
-    compared "$name" "$name.$4" "$name.base" "$((each * $4))" step
-    cp took "$name.took"
-    if command -v valgrind > /dev/null; then
-        echo "$(instructions "$name.$2") $(instructions "$name.$3") $a $b" |
-            awk '{ printf "%.1f\n", ($2 - $1) / ($4 - $3) }' > "$name.instructions"
-        row "$name, instructions" forth83 "$(cat "$name.instructions")" "a step, of $each a turn"
-    fi
-}
-while read -r name few many long; do
-    measured "$name" "$few" "$many" "$long"
-done <<END
-loop 2 4 2000
-calls 10 20 3000
-fib 1 2 150
-deferred 1 2 150
-sieve 1 2 150
-sort 1 2 100
-matrix 1 2 300
-gcd 1 2 80
-scale 2 4 2500
-records 10 20 5000
-END
-
-# ---- programs that nothing was tuned to, by halves
-while read -r name few many long; do
-    measured "$name" "$few" "$many" "$long"
-done <<END
-adler 1 2 400
-bits 1 2 150
-calc 2 4 4000
-colours 1 2 20
-digits 1 2 300
-ledger 1 2 400
-names 1 2 60
-ring 1 2 800
-roots 1 2 100
-scanner 4 8 800
-table 1 2 200
-torus 1 2 20
-END
-# HALF: geometric means of its programs: time over each other system, and instructions a step
-means() {
-    for name in $("$here/halves.sh" | awk -v half="$1" '$1 == half { print $2 }'); do
-        sed "s/^/$name /" "$name.took"
-        if [ -f "$name.instructions" ]; then echo "$name instructions $(cat "$name.instructions")"; fi
-    done | awk '
-        { each[$1, $2] = $3; names[$1]; systems[$2] }
-        END {
-            for (s in systems) {
-                if (s == "forth83") continue
-                count = sum = most = 0
-                for (n in names) {
-                    if (!((n, s) in each)) continue
-                    value = s == "instructions" ? each[n, s] : each[n, "forth83"] / each[n, s]
-                    count++
-                    sum += log(value)
-                    if (value > most) most = value
-                }
-                printf "%s %.2f, at most %.2f\n", s, exp(sum / count), most
-            }
-        }' | sort | while read -r what mean; do row "geometric mean of those $1, over" "$what" "$mean" ""; done
-}
-means chosen
-means kept
+# ---- programs
+"$here/programs.sh" "$rounds" "$program"
 
 # ---- saves: a hundred of each size in one session, the same on the same disk by others, in turn; the least of the rounds
 for blocks in 1 2 3 4; do
