@@ -86,8 +86,9 @@ fn the_other_half_of_a_home_is_kept(rt: HostRuntime) -> Result<(), Fail> {
         let Ok(Some(bytes)) = read_block(&mut new, 5) else {
             return Err("not read")?;
         };
-        assert!(rt; bytes[..512].iter().all(|byte| *byte == first), "{scar}");
-        assert!(rt; bytes[512..].iter().all(|byte| *byte == second), "{scar}");
+        let (one, other) = bytes.split_at(512);
+        assert!(rt; one.iter().all(|byte| *byte == first), "{scar}");
+        assert!(rt; other.iter().all(|byte| *byte == second), "{scar}");
     }
     Ok(())
 }
