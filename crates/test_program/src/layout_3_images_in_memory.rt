@@ -162,8 +162,8 @@ fn all_unread(alloc: Global) -> Result<String, Fail> {
     for k in 0..32 {
         text.push_str(&format!(in alloc; "sector {k}: can't be read\n")?)?;
     }
-    for k in 32..544 {
-        let b = (k - 32) / 16;
+    for k in 32_u32..544 {
+        let b = k.saturating_sub(32) / 16;
         text.push_str(&format!(in alloc; "block {b}: sector {k} can't be read\n")?)?;
     }
     Ok(text)
