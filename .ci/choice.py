@@ -1,7 +1,7 @@
-"""What a run of the gate tries: each edit of must-fail/, all of a crate that changed since the last whole run that passed, and of the rest a fifth, which
+"""What a run of the gate tries: each edit of must-fail/, all of a crate that changed since a run that passed tried all, and of the rest a fifth, which
 goes round. Of the crates of tests it has a fifth proved, which goes round too; all of them are run each time.
 
-What the crates were in the last whole run stands in docs/GATE.md, in a block that is read and written here: a sum of each crate's files. Where there is no
+What the crates were in that run stands in docs/GATE.md, in a block that is read and written here: a sum of each crate's files. Where there is no
 such block, or it can't be read, all counts as changed. Which fifth it is goes by the number of commits, so that five commits after each other try all; where
 that isn't known, by a sum of all files.
 """
@@ -61,7 +61,7 @@ def git(*words):
 
 
 class Record:
-    """The last whole run that passed: what the page says of it, and the sum of each crate then."""
+    """The last run that tried all wrong bodies, and passed: what the page says of it, and the sum of each crate then."""
 
     def __init__(self, head, sums):
         self.head, self.sums = head, sums
@@ -138,7 +138,7 @@ class Choice:
         fixed = [it for it in self.names if "must-fail" in self.folders[it]]
         changed = [it for it in self.names if it not in fixed and it.partition("/")[0] in self.changed]
         rest = len(self.names) - len(fixed) - len(changed)
-        since = "the last whole run that passed" if self.record else "a whole run of which docs/GATE.md has no record that can be read"
+        since = "the last run that tried all wrong bodies, and passed" if self.record else "one of which docs/GATE.md has no record that can be read"
         said[0] += f": {self.count(fixed)} of must-fail/, {self.count(changed)} of crates that changed, and part {self.fifth + 1} of {FIFTHS} of the rest"
         if not rest:
             said[0] = said[0].replace("the rest", "the rest, which is none")
