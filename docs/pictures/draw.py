@@ -136,13 +136,14 @@ def layouts():
             y += 30
             leaves = leaves if left == "the same" else left
             kind = "both" if "or all" in leaves else "new" if "new" in leaves else "old"
-            kind = "new" if left.endswith("the new blocks alone") else kind
             picture.box(x, y - 18, 300, 26, "")
             if calls == "sync":
                 picture.box(x, y - 18, 8, 26, "sync")
             picture.text(x + 14, y, f"{step.split(',')[0]}: {shortened(calls, 44)}", "small")
             picture.box(x + 306, y - 18, 200, 26, kind)
-            picture.text(x + 406, y, {"old": "the old blocks", "both": "the old or all the new", "new": "all the new blocks"}[kind], "small", "middle")
+            leaving = {"old": "the old blocks", "both": "the old or all the new", "new": "all the new blocks"}[kind]
+            leaving = "old or new, then the new" if left.endswith("the new blocks alone") else leaving
+            picture.text(x + 406, y, leaving, "small", "middle")
     return picture
 
 
