@@ -135,14 +135,15 @@ def layouts():
         for step, calls, left in rows_below(text, "| Step | Calls |"):
             y += 30
             leaves = leaves if left == "the same" else left
-            kind = "both" if "or all" in leaves else "new" if "new" in leaves else "old"
+            is_last = left.endswith("once it has returned, the new blocks alone")
+            kind = "both" if "or all" in leaves or is_last else "new" if "new" in leaves else "old"
             picture.box(x, y - 18, 300, 26, "")
             if calls == "sync":
                 picture.box(x, y - 18, 8, 26, "sync")
             picture.text(x + 14, y, f"{step.split(',')[0]}: {shortened(calls, 44)}", "small")
             picture.box(x + 306, y - 18, 200, 26, kind)
             leaving = {"old": "the old blocks", "both": "the old or all the new", "new": "all the new blocks"}[kind]
-            leaving = "old or new, then the new" if left.endswith("the new blocks alone") else leaving
+            leaving = "the same, then all the new" if is_last else leaving
             picture.text(x + 406, y, leaving, "small", "middle")
     return picture
 
