@@ -50,6 +50,10 @@ abbrev pub cell_of_word : Option Named → Option ℕ
 cell_of_word None = None
 cell_of_word (Some w) = cell_of w.kind
 
+abbrev pub kind_of_word : Option Named → Option (Kind ℕ ℕ)
+kind_of_word None = None
+kind_of_word (Some w) = Some w.kind
+
 -- a word has this token
 abbrev pub is_token : Dictionary → ℕ → Bool
 is_token d token = nat_lt 0 token && nat_le token (length d.words)

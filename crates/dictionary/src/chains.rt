@@ -9,7 +9,7 @@ ghost use Rattle.std.specs.Bool.{OnTrue, OnFalse};
 ghost use Rattle.std.specs.Int.{from_le_bytes, Width};
 ghost use Rattle.std.specs.Int.Width.{w32};
 ghost use Rattle.dictionary.specs.Words.{same_text, is_name, find_in, entry, with_immediate, with_part};
-ghost use Rattle.dictionary.specs.Dictionary.{word_of, kind_of, body_of, cell_of, body_of_word, cell_of_word};
+ghost use Rattle.dictionary.specs.Dictionary.{word_of, kind_of, body_of, cell_of, body_of_word, cell_of_word, kind_of_word};
 ghost use Rattle.dictionary.specs.Chains.{joined, mixed, number_of};
 
 use crate::{Kind, NAME_LIMIT, NoMemory, Place, Token, WORD_LIMIT, Word};
@@ -283,6 +283,17 @@ impl Chains {
     {
         match self.headers.get(usize::from(token.wrapping_sub(1))) {
             Some(header) => header.cell,
+            None => None,
+        }
+    }
+
+    /// What the word is.
+    #[inline(always)]
+    pub(crate) fn kind(&self, token: Token) -> Option<Kind>
+        ensures { option_map kind_of result ≡ kind_of_word (entry self.now token) }
+    {
+        match self.headers.get(usize::from(token.wrapping_sub(1))) {
+            Some(header) => Some(header.kind),
             None => None,
         }
     }

@@ -2,7 +2,7 @@
 ghost use Rattle.std.specs.Prelude.{◌≡◌, ◌+◌, Some, length, option_map, IfOk, IfSome, OnOk, OnErr, IsSome, IsTrue};
 ghost use Rattle.std.specs.Result.{result_err};
 ghost use Rattle.dictionary.specs.Words.{find, find_in, entry, with_immediate, with_part};
-ghost use Rattle.dictionary.specs.Dictionary.{first_dictionary, word_of, body_of_word, cell_of_word, is_token, may_be_vocabulary, add_refusal, with_word, immediate_refusal, does_refusal, forget_refusal, forgotten, IsValid};
+ghost use Rattle.dictionary.specs.Dictionary.{first_dictionary, word_of, kind_of, body_of_word, cell_of_word, kind_of_word, is_token, may_be_vocabulary, add_refusal, with_word, immediate_refusal, does_refusal, forget_refusal, forgotten, IsValid};
 
 use crate::chains::{Chains, mixed};
 use crate::system::first_words;
@@ -203,6 +203,14 @@ impl Dictionary {
         ensures { result ≡ cell_of_word (entry self.now.words token) }
     {
         self.words.cell(token)
+    }
+
+    /// What the word with the token is. None where no word has it: at 0, and above `len`.
+    #[inline(always)]
+    pub fn kind(&self, token: Token) -> Option<Kind>
+        ensures { option_map kind_of result ≡ kind_of_word (entry self.now.words token) }
+    {
+        self.words.kind(token)
     }
 
     /// Makes the most recent word immediate. `Protected` where that is a system word.
