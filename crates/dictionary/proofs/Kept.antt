@@ -8,7 +8,7 @@ use Rattle.dictionary.specs.declared.chains.Header.{Header}
 use Rattle.dictionary.specs.declared.words.Kind.TheVariants as Kind
 use Rattle.std.proofs.lemmas.Option.{slice_get_past}
 use Rattle.dictionary.specs.Words.{same_text, find_in, entry}
-use Rattle.dictionary.specs.Dictionary.{Named, kind_of, body_of, cell_of}
+use Rattle.dictionary.specs.Dictionary.{Named}
 use Rattle.dictionary.specs.Chains.{header_word, number_of, strand, vocabulary_of, strand_of, last_in, IsLinked, IsChained}
 use Rattle.dictionary.proofs.Links.{get_at, get-map, get-below, get-append, get-end, get-take, last_in-same, last_in-below, last_in-chain, fits, named_in, named_in-last, find_in-strand}
 
@@ -91,8 +91,8 @@ linked_push chain most link hs last h l linked range =
       ];
     }
 
-chained_push : (hs : List Header) (last newest : List ℕ) (h : Header) → IsChained hs last newest → length hs < 4096 → h.previous ≡ get_or last h.vocabulary 0 → h.older ≡ get_or newest (strand_of (header_word h)) 0 → h.vocabulary ≤ 4096 → 0 < h.len → h.len ≤ 31 → h.number ≡ number_of h.vocabulary (take h.len h.name) → h.body ≡ body_of (kind_of h.kind) → h.cell ≡ cell_of (kind_of h.kind) → IsChained (hs ++ h ∷ []) (set last h.vocabulary (length hs + 1)) (set newest (strand_of (header_word h)) (length hs + 1))
-chained_push hs last newest h c lt prev older voc some short number body cell =
+chained_push : (hs : List Header) (last newest : List ℕ) (h : Header) → IsChained hs last newest → length hs < 4096 → h.previous ≡ get_or last h.vocabulary 0 → h.older ≡ get_or newest (strand_of (header_word h)) 0 → h.vocabulary ≤ 4096 → 0 < h.len → h.len ≤ 31 → h.number ≡ number_of h.vocabulary (take h.len h.name) → IsChained (hs ++ h ∷ []) (set last h.vocabulary (length hs + 1)) (set newest (strand_of (header_word h)) (length hs + 1))
+chained_push hs last newest h c lt prev older voc some short number =
     let len : length (hs ++ h ∷ []) ≡ suc (length hs) = grind (arith, common_steps) in
     record {
       room = omega arith;
@@ -106,14 +106,6 @@ chained_push hs last newest h c lt prev older voc some short number body cell =
         | inl p ↦ c.numbers k g p.1
         | inr p ↦ rw p.1 number
       ];
-      bodies = λ k g at. elim (at_pushed hs h k g at) [
-        | inl p ↦ c.bodies k g p.1
-        | inr p ↦ rw p.1 body
-      ];
-      cells = λ k g at. elim (at_pushed hs h k g at) [
-        | inl p ↦ c.cells k g p.1
-        | inr p ↦ rw p.1 cell
-      ];
     }
 
 pub copied_name : (name copied rest : List ℕ) → copied ≡ name → take (length name) (copied ++ rest) ≡ name
@@ -125,10 +117,10 @@ copied_name (x ∷ name) (y ∷ copied) rest e =
     rw (first, copied_name name copied rest others) refl
 
 -- with the name as it was before it was copied
-pub chained_named : (hs : List Header) (last newest : List ℕ) (h : Header) (name : List ℕ) → take h.len h.name ≡ name → IsChained hs last newest → length hs < 4096 → h.previous ≡ get_or last h.vocabulary 0 → h.older ≡ get_or newest (strand h.vocabulary name) 0 → h.vocabulary ≤ 4096 → 0 < h.len → h.len ≤ 31 → h.number ≡ number_of h.vocabulary name → h.body ≡ body_of (kind_of h.kind) → h.cell ≡ cell_of (kind_of h.kind) → IsChained (hs ++ h ∷ []) (set last h.vocabulary (length hs + 1)) (set newest (strand h.vocabulary name) (length hs + 1))
-chained_named hs last newest h name is c lt prev older voc some short own body cell =
+pub chained_named : (hs : List Header) (last newest : List ℕ) (h : Header) (name : List ℕ) → take h.len h.name ≡ name → IsChained hs last newest → length hs < 4096 → h.previous ≡ get_or last h.vocabulary 0 → h.older ≡ get_or newest (strand h.vocabulary name) 0 → h.vocabulary ≤ 4096 → 0 < h.len → h.len ≤ 31 → h.number ≡ number_of h.vocabulary name → IsChained (hs ++ h ∷ []) (set last h.vocabulary (length hs + 1)) (set newest (strand h.vocabulary name) (length hs + 1))
+chained_named hs last newest h name is c lt prev older voc some short own =
     subst (λ n. IsChained (hs ++ h ∷ []) (set last h.vocabulary (length hs + 1)) (set newest (strand h.vocabulary n) (length hs + 1))) is
-    (chained_push hs last newest h c lt prev (subst (λ n. h.older ≡ get_or newest (strand h.vocabulary n) 0) (sym is) older) voc some short (subst (λ n. h.number ≡ number_of h.vocabulary n) (sym is) own) body cell)
+    (chained_push hs last newest h c lt prev (subst (λ n. h.older ≡ get_or newest (strand h.vocabulary n) 0) (sym is) older) voc some short (subst (λ n. h.number ≡ number_of h.vocabulary n) (sym is) own))
 
 -- ---- pop
 
@@ -174,13 +166,11 @@ chained_pop hs last newest k h c n at =
       strands = linked_pop strand_of 4096 (λ h. h.older) hs newest k h c.strands n at;
       names = λ i g found. c.names i g (at_kept hs k i g found).1;
       numbers = λ i g found. c.numbers i g (at_kept hs k i g found).1;
-      bodies = λ i g found. c.bodies i g (at_kept hs k i g found).1;
-      cells = λ i g found. c.cells i g (at_kept hs k i g found).1;
     }
 
 -- ---- an edit of a header that leaves name, vocabulary and links
 
-set-other : {X : Type 0} (xs : List X) (i k : ℕ) (x : X) → k ≢ i → slice_get (set xs i x) k ≡ slice_get xs k
+pub set-other : {X : Type 0} (xs : List X) (i k : ℕ) (x : X) → k ≢ i → slice_get (set xs i x) k ≡ slice_get xs k
 set-other [] i k x ne = refl
 set-other (y ∷ ys) zero zero x ne = absurd (ne refl)
 set-other (y ∷ ys) zero (suc k) x ne = refl
@@ -192,12 +182,12 @@ set-same [] i x y e = cc
 set-same (z ∷ zs) zero x y e = cc
 set-same (z ∷ zs) (suc i) x y e = set-same zs i x y e
 
-set-here : {X : Type 0} (xs : List X) (i : ℕ) (x y : X) → slice_get xs i ≡ Some x → slice_get (set xs i y) i ≡ Some y
+pub set-here : {X : Type 0} (xs : List X) (i : ℕ) (x y : X) → slice_get xs i ≡ Some x → slice_get (set xs i y) i ≡ Some y
 set-here [] i x y e = cc
 set-here (z ∷ zs) zero x y e = refl
 set-here (z ∷ zs) (suc i) x y e = set-here zs i x y e
 
--- the same links, number, name and vocabulary; body and cell are the kind's
+-- the same links, number, name and vocabulary
 pub record IsAlike (h g : Header) : Type 0 where
   pub number : g.number ≡ h.number
   pub previous : g.previous ≡ h.previous
@@ -205,8 +195,6 @@ pub record IsAlike (h g : Header) : Type 0 where
   pub vocabulary : g.vocabulary ≡ h.vocabulary
   pub len : g.len ≡ h.len
   pub name : g.name ≡ h.name
-  pub body : g.body ≡ body_of (kind_of g.kind)
-  pub cell : g.cell ≡ cell_of (kind_of g.kind)
 
 -- by cases on whether two places are the same
 pub one_place : (k i : ℕ) → (k ≡ i) ⊎ (k ≢ i)
@@ -261,18 +249,6 @@ chained_edit hs last newest i h g c at alike =
             let is : f ≡ g = set-same hs i g f (subst (λ j. slice_get (set hs i g) j ≡ Some f) same found) in
             rw (is, alike.number, alike.vocabulary, alike.len, alike.name) (c.numbers i h at)
         | inr other ↦ c.numbers k f (sym (set-other hs i k g other) ∙ found)
-      ];
-      bodies = λ k f found. elim (one_place k i) [
-        | inl same ↦
-            let is : f ≡ g = set-same hs i g f (subst (λ j. slice_get (set hs i g) j ≡ Some f) same found) in
-            rw is alike.body
-        | inr other ↦ c.bodies k f (sym (set-other hs i k g other) ∙ found)
-      ];
-      cells = λ k f found. elim (one_place k i) [
-        | inl same ↦
-            let is : f ≡ g = set-same hs i g f (subst (λ j. slice_get (set hs i g) j ≡ Some f) same found) in
-            rw is alike.cell
-        | inr other ↦ c.cells k f (sym (set-other hs i k g other) ∙ found)
       ];
     }
 
@@ -364,8 +340,6 @@ chained_none last newest e f = record {
   strands = linked_none strand_of 4096 (λ h. h.older) newest f;
   names = λ k h at. cc;
   numbers = λ k h at. cc;
-  bodies = λ k h at. cc;
-  cells = λ k h at. cc;
 }
 
 -- ---- the forms that the code has

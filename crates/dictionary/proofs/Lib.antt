@@ -2,3 +2,4 @@ pub mod Links
 pub mod Kept
 pub mod Rows
 pub mod Mixed
+pub mod Said

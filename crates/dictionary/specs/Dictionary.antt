@@ -36,19 +36,9 @@ abbrev pub body_of : Kind ℕ ℕ → Option ℕ
 body_of (Colon place) = Some place
 body_of _ = None
 
--- the cell that a constant leaves, and a created word without a part
-abbrev pub cell_of : Kind ℕ ℕ → Option ℕ
-cell_of (Created data_address None) = Some data_address
-cell_of (Constant value) = Some value
-cell_of _ = None
-
 abbrev pub body_of_word : Option Named → Option ℕ
 body_of_word None = None
 body_of_word (Some w) = body_of w.kind
-
-abbrev pub cell_of_word : Option Named → Option ℕ
-cell_of_word None = None
-cell_of_word (Some w) = cell_of w.kind
 
 abbrev pub kind_of_word : Option Named → Option (Kind ℕ ℕ)
 kind_of_word None = None

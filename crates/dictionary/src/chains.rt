@@ -9,10 +9,12 @@ ghost use Rattle.std.specs.Bool.{OnTrue, OnFalse};
 ghost use Rattle.std.specs.Int.{from_le_bytes, Width};
 ghost use Rattle.std.specs.Int.Width.{w32};
 ghost use Rattle.dictionary.specs.Words.{same_text, is_name, find_in, entry, with_immediate, with_part};
-ghost use Rattle.dictionary.specs.Dictionary.{word_of, kind_of, body_of, cell_of, body_of_word, cell_of_word, kind_of_word};
+ghost use Rattle.dictionary.specs.Dictionary.{word_of, kind_of, kind_of_word};
+ghost use Rattle.dictionary.specs.Briefs.{brief_of};
 ghost use Rattle.dictionary.specs.Chains.{joined, mixed, number_of};
 
-use crate::{Kind, NAME_LIMIT, NoMemory, Place, Token, WORD_LIMIT, Word};
+use crate::briefs::{Briefs, brief_in};
+use crate::{Brief, Kind, NAME_LIMIT, NoMemory, Place, Token, WORD_LIMIT, Word};
 use std::alloc::Global;
 use std::marker::Model;
 
@@ -87,9 +89,6 @@ pub(crate) struct Header {
     // The word before this one in the same vocabulary, or 0.
     previous: Token,
     here: u16,
-    // What the kind says of a body and of a cell that is left, each where one test finds it: a call looks at nothing else.
-    body: Option<Place>,
-    cell: Option<u16>,
     kind: Kind,
 }
 
@@ -107,27 +106,6 @@ impl Header {
     }
 }
 
-/// The body of a word of this kind, if it is a colon definition.
-fn body_in(kind: Kind) -> Option<Place>
-    ensures { result ≡ body_of (kind_of kind) }
-{
-    match kind {
-        Kind::Colon(place) => Some(place),
-        _ => None,
-    }
-}
-
-/// The cell that a word of this kind leaves, if it does nothing else.
-fn cell_in(kind: Kind) -> Option<u16>
-    ensures { result ≡ cell_of (kind_of kind) }
-{
-    match kind {
-        Kind::Created(data_address, None) => Some(data_address),
-        Kind::Constant(cell) => Some(cell),
-        _ => None,
-    }
-}
-
 /// The words, oldest first.
 #[derive(Drop)]
 pub(crate) struct Chains {
@@ -136,18 +114,21 @@ pub(crate) struct Chains {
     last: Vec<Token>,
     // By the strand: its last word, or 0.
     newest: Vec<Token>,
+    // What a call asks of each word first.
+    briefs: Briefs,
 }
 
 impl Model for Chains {
     ghost use Rattle.std.specs.Prelude.{List, map, ◌≤◌, vec_capacity};
     ghost use Rattle.dictionary.specs.Dictionary.{Named};
+    ghost use Rattle.dictionary.specs.Briefs.{IsToldOf};
     ghost use Rattle.dictionary.specs.Chains.{header_word, IsChained};
 
     ghost Value = { List Named };
 
     ghost view = { λ c. map header_word c.headers.items };
 
-    ghost invariant = { λ c. IsChained c.headers.items c.last.items c.newest.items × (4096 ≤ vec_capacity c.headers) };
+    ghost invariant = { λ c. IsChained c.headers.items c.last.items c.newest.items × (4096 ≤ vec_capacity c.headers) × IsToldOf c.headers.items c.briefs };
 }
 
 impl Chains {
@@ -158,10 +139,12 @@ impl Chains {
         let headers = Vec::with_capacity(alloc, WORD_LIMIT)?;
         let last = vec![in alloc; 0; WORD_LIMIT + 1]?;
         let newest = vec![in alloc; 0; STRANDS]?;
+        let briefs = Briefs::new(alloc)?;
         Ok(Chains {
             headers,
             last,
             newest,
+            briefs,
         })
     }
 
@@ -194,14 +177,13 @@ impl Chains {
             immediate: word.immediate,
             previous: self.last[word.vocabulary as usize],
             here: word.here,
-            body: body_in(word.kind),
-            cell: cell_in(word.kind),
             kind: word.kind,
         };
         let token = self.headers.len() + 1;
         if self.headers.push(header).is_ok() {
             self.last[word.vocabulary as usize] = token as Token;
             self.newest[strand] = token as Token;
+            self.briefs.set(token as Token, brief_in(word.kind));
         }
     }
 
@@ -213,6 +195,8 @@ impl Chains {
         if let Some(header) = self.headers.pop() {
             self.last[header.vocabulary as usize] = header.previous;
             self.newest[strand(header.number)] = header.older;
+            let token = self.headers.len() + 1;
+            self.briefs.set(token as Token, Brief::Other);
         }
     }
 
@@ -265,28 +249,6 @@ impl Chains {
         })
     }
 
-    /// The place of the body, where the word is a colon definition.
-    #[inline(always)]
-    pub(crate) fn body(&self, token: Token) -> Option<Place>
-        ensures { result ≡ body_of_word (entry self.now token) }
-    {
-        match self.headers.get(usize::from(token.wrapping_sub(1))) {
-            Some(header) => header.body,
-            None => None,
-        }
-    }
-
-    /// The cell that the word leaves, where it does nothing else.
-    #[inline(always)]
-    pub(crate) fn cell(&self, token: Token) -> Option<u16>
-        ensures { result ≡ cell_of_word (entry self.now token) }
-    {
-        match self.headers.get(usize::from(token.wrapping_sub(1))) {
-            Some(header) => header.cell,
-            None => None,
-        }
-    }
-
     /// What the word is.
     #[inline(always)]
     pub(crate) fn kind(&self, token: Token) -> Option<Kind>
@@ -296,6 +258,23 @@ impl Chains {
             Some(header) => Some(header.kind),
             None => None,
         }
+    }
+
+    /// What a call asks of the word first.
+    #[inline(always)]
+    pub(crate) fn brief(&self, token: Token) -> Brief
+        requires { token ≤ 4096 }
+        ensures { result ≡ brief_of (entry self.now token) }
+    {
+        self.briefs.says(token)
+    }
+
+    /// What a call asks of the word first, for any number.
+    #[inline(always)]
+    pub(crate) fn brief_of_any(&self, token: Token) -> Brief
+        ensures { result ≡ brief_of (entry self.now token) }
+    {
+        self.briefs.says_of_any(token)
     }
 
     /// Makes the last word immediate.
@@ -321,7 +300,7 @@ impl Chains {
             Kind::Created(data, _) => {
                 let header = &mut self.headers[last];
                 header.kind = Kind::Created(data, Some(part));
-                header.cell = None;
+                self.briefs.set((last + 1) as Token, Brief::Other);
                 true
             }
             _ => false,

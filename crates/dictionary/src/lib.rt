@@ -11,10 +11,11 @@
 
 pub use system::is_compile_only;
 pub use words::{
-    Dictionary, DictionaryFault, FORTH, Kind, NAME_LIMIT, NoMemory, Place, SYSTEM_WORD_COUNT,
-    Token, WORD_LIMIT, Word,
+    Brief, Dictionary, DictionaryFault, FORTH, Kind, NAME_LIMIT, NoMemory, Place,
+    SYSTEM_WORD_COUNT, Token, WORD_LIMIT, Word,
 };
 
+mod briefs;
 mod chains;
 mod system;
 mod words;

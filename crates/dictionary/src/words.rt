@@ -1,8 +1,9 @@
 //! The words with both vocabularies: adding, search and forgetting.
-ghost use Rattle.std.specs.Prelude.{◌≡◌, ◌+◌, Some, length, option_map, IfOk, IfSome, OnOk, OnErr, IsSome, IsTrue};
+ghost use Rattle.std.specs.Prelude.{◌≡◌, ◌≤◌, ◌+◌, Some, length, option_map, IfOk, IfSome, OnOk, OnErr, IsSome, IsTrue};
 ghost use Rattle.std.specs.Result.{result_err};
 ghost use Rattle.dictionary.specs.Words.{find, find_in, entry, with_immediate, with_part};
-ghost use Rattle.dictionary.specs.Dictionary.{first_dictionary, word_of, kind_of, body_of_word, cell_of_word, kind_of_word, is_token, may_be_vocabulary, add_refusal, with_word, immediate_refusal, does_refusal, forget_refusal, forgotten, IsValid};
+ghost use Rattle.dictionary.specs.Briefs.{brief_of};
+ghost use Rattle.dictionary.specs.Dictionary.{first_dictionary, word_of, kind_of, kind_of_word, is_token, may_be_vocabulary, add_refusal, with_word, immediate_refusal, does_refusal, forget_refusal, forgotten, IsValid};
 
 use crate::chains::{Chains, mixed};
 use crate::system::first_words;
@@ -43,6 +44,17 @@ pub enum Kind {
     Constant(u16),
     /// A word made by `VOCABULARY`.
     Vocabulary,
+}
+
+/// What a call asks of a word first: whether it has a body, or leaves a cell and does nothing else.
+#[derive(Clone, Copy)]
+pub enum Brief {
+    /// Neither, so its kind says what it is; or no word has the token.
+    Other,
+    /// The place of its body.
+    Body(Place),
+    /// The cell that it leaves.
+    Cell(u16),
 }
 
 /// A word as it stands in the dictionary.
@@ -185,24 +197,23 @@ impl Dictionary {
         self.words.get(token)
     }
 
-    /// The place of the body of the word with the token. None where it is no colon definition, or no word has the
-    /// token.
-    #[inline(always)]
-    pub fn body(&self, token: Token) -> Option<Place>
-        ensures { result ≡ body_of_word (entry self.now.words token) }
-    {
-        self.words.body(token)
-    }
-
-    /// The cell that the word with the token leaves, where it does nothing else: the value of a constant, or the data
-    /// address of a word that `CREATE` or `VARIABLE` made and that has no part. None for any other word, and where no
-    /// word has the token.
+    /// What a call asks of the word first, where the token is 4,096 at most.
     /// Rule: LANGUAGE, Dictionary.
     #[inline(always)]
-    pub fn cell(&self, token: Token) -> Option<u16>
-        ensures { result ≡ cell_of_word (entry self.now.words token) }
+    pub fn brief(&self, token: Token) -> Brief
+        requires { token ≤ 4096 }
+        ensures { result ≡ brief_of (entry self.now.words token) }
     {
-        self.words.cell(token)
+        self.words.brief(token)
+    }
+
+    /// What a call asks of the word first, for any number: `Other` where no word has the token.
+    /// Rule: LANGUAGE, Dictionary.
+    #[inline(always)]
+    pub fn brief_of_any(&self, token: Token) -> Brief
+        ensures { result ≡ brief_of (entry self.now.words token) }
+    {
+        self.words.brief_of_any(token)
     }
 
     /// What the word with the token is. None where no word has it: at 0, and above `len`.

@@ -4,6 +4,8 @@ ghost use Rattle.dictionary.specs.Words.{Created, Constant, Vocabulary};
 ghost use Rattle.lexicon.specs.Promise.{fault_of};
 ghost use Rattle.lexicon.specs.Running.{called_kind};
 ghost use Rattle.lexicon.specs.Adding.{name_fault};
+ghost use Rattle.dictionary.specs.declared.words.Brief.TheVariants as told;
+ghost use Rattle.dictionary.specs.Briefs.{brief_kind};
 ghost use Rattle.dictionary.specs.Dictionary.{kind_of as place_kind, body_of as place_body};
 ghost use Rattle.lexicon.specs.Kinds.{data_address, makes_vocabulary, data_field};
 
@@ -11,21 +13,22 @@ use crate::language::LexiconRefusal;
 use cell_machine::calls::Called;
 use dictionary::{DictionaryFault, Kind};
 
-/// What a word of this kind is to the machine.
+/// What a word of this kind is to the machine, where it has no body and isn't a mere cell.
 #[inline(always)]
-pub(crate) fn called_as(kind: Kind) -> Called
+pub(crate) fn called_rarely(kind: Kind) -> Called
+    requires { brief_kind (place_kind kind) ≡ told.Other }
     ensures { result ≡ called_kind (place_kind kind) }
 {
     match kind {
-        Kind::Primitive => Called::Outside,
-        Kind::Colon(place) => Called::Body(place),
-        Kind::Created(data_address, None) => Called::Cell(data_address),
         Kind::Created(data_address, Some(place)) => Called::Part {
             place,
             data_address,
         },
-        Kind::Constant(cell) => Called::Cell(cell),
+        Kind::Primitive => Called::Outside,
         Kind::Vocabulary => Called::Outside,
+        Kind::Created(_, None) => unreachable!(),
+        Kind::Colon(_) => unreachable!(),
+        Kind::Constant(_) => unreachable!(),
     }
 }
 

@@ -58,6 +58,10 @@ impl Calls for Table {
         }
         Called::Outside
     }
+
+    fn called_here(&self, token: u16) -> Called {
+        self.called(token)
+    }
 }
 
 /// The bodies of the words: 133 calls the constant 134 and the part of 135, which adds 1; 136 calls a word that isn't
