@@ -2,7 +2,7 @@
 use Rattle.std.proofs.Common.{◌≡◌, ℕ, zero, suc, ◌+◌, ◌*◌, ◌<◌, ◌≤◌, List, [], ◌∷◌, Option, Some, None, Result, Ok, Err, refl, sym, ap, subst, ◌∙◌, arith}
 use Rattle.dictionary.specs.Words.{Kind, Primitive, Colon, Created, Constant, Vocabulary, entry}
 use Rattle.compiler.specs.Definition.{Body}
-use Rattle.std.specs.Prelude.{Bool, true, false, not, nat_lt, ◌==◌, length, option_map}
+use Rattle.std.specs.Prelude.{Bool, true, false, not, nat_lt, ◌==◌, if◌then◌else◌, length, option_map}
 use Rattle.std.proofs.lemmas.Bool.{eqb-true}
 use Rattle.dictionary.specs.System.{is_marked_only}
 use Rattle.cell_machine.specs.Limits.{data_cells, return_units}
@@ -39,8 +39,8 @@ use Rattle.interpreter.specs.Law.{left, next}
 use Rattle.lexicon.specs.declared.language.Lexicon.{Lexicon}
 use Rattle.lexicon.specs.Language.{Language}
 use Rattle.lexicon.specs.Stands.{Stands as Means}
-use Rattle.lexicon.specs.Laws.{SystemWordsAreOutside}
-use Rattle.lexicon.specs.Running.{meanings, meaning_of, word_meaning, AsksFor}
+use Rattle.lexicon.specs.Laws.{SystemWordsLook}
+use Rattle.lexicon.specs.Running.{here_token, pad_token, looks, or_looks, meanings, meaning_of, word_meaning, AsksFor}
 use Rattle.interpreter.specs.Lexicon.{language_of, IsDue}
 use Rattle.interpreter.specs.RoundContract.{IsAtText, Decreases}
 use Rattle.interpreter.proofs.Entering.{may_word}
@@ -79,6 +79,40 @@ service_falls (op.Text place) s0 s1 s2 es0 es1 es2 falls paid free le = paid_fal
 service_falls (op.AbortText place) s0 s1 s2 es0 es1 es2 falls paid free le = paid_falls s0 s1 s2 es0 es2 paid le
 service_falls (op.Compile w) s0 s1 s2 es0 es1 es2 falls paid free le = paid_falls s0 s1 s2 es0 es2 paid le
 service_falls (op.Does place) s0 s1 s2 es0 es1 es2 falls paid free le = omega (arith, falls, free)
+
+-- a system word that only looks has a row, and leaves a cell
+module _ (x : Language) (w : ℕ) where
+  abbrev seen : Bool → Bool → Meaning
+  seen b d = if b then GivesCell x.here else (if d then GivesCell (x.here + 324) else Outside)
+
+  unseen : (b d : Bool) → (w == here_token) ≡ b → (w == pad_token) ≡ d → at_token rows w ≡ None → seen b d ≡ Outside
+  unseen true d e f none = let row : at_token rows here_token ≡ None = subst (λ v. at_token rows v ≡ None) (eqb-true w here_token e) none in cc
+  unseen false true e f none = let row : at_token rows pad_token ≡ None = subst (λ v. at_token rows v ≡ None) (eqb-true w pad_token f) none in cc
+  unseen false false e f none = refl
+
+  pub no_look : at_token rows w ≡ None → looks x w ≡ Outside
+  no_look none = unseen (w == here_token) (w == pad_token) refl refl none
+
+  seen_no_body : (b d : Bool) (parts : List Trees) → seen b d ≡ RunsBody parts → ⊥
+  seen_no_body true d parts e = cc
+  seen_no_body false true parts e = cc
+  seen_no_body false false parts e = cc
+
+  pub looks_no_body : (parts : List Trees) → looks x w ≡ RunsBody parts → ⊥
+  looks_no_body parts e = seen_no_body (w == here_token) (w == pad_token) parts e
+
+looks_outside : (m : Meaning) → or_looks m Outside ≡ m
+looks_outside Outside = refl
+looks_outside (GivesCell n) = refl
+looks_outside (RunsBody parts) = refl
+looks_outside (RunsPart owner d parts) = refl
+
+-- where a word is outside, its entry is
+pub entry_outside : (m l : Meaning) → or_looks m l ≡ Outside → m ≡ Outside
+entry_outside Outside l e = refl
+entry_outside (GivesCell n) l e = cc
+entry_outside (RunsBody parts) l e = cc
+entry_outside (RunsPart owner d parts) l e = cc
 
 -- the services do each word as it is meant
 module _ (n w : ℕ) (a : Around) (c : Core) (x : World) (small : c.steps ≤ n) where
@@ -120,16 +154,23 @@ module _ (n w : ℕ) (a : Around) (c : Core) (x : World) (small : c.steps ≤ n)
   word_meant None e = e
   word_meant (Some word) e = kind_meant word.kind e
 
-  due_meant : (o : Option (Mark × RowMeaning)) → at_token rows w ≡ o → ((row : Mark × RowMeaning) → at_token rows w ≡ Some row → meanings (language_of x) w ≡ Outside)
+  looks_meant : (b d : Bool) → (w == here_token) ≡ b → (w == pad_token) ≡ d → all a (Word w) c x ≡ by_meaning (suc n) all (seen (language_of x) w b d) w a c x
+  looks_meant true d e f = ap (λ v. all a (Word v) c x) (eqb-true w here_token e)
+  looks_meant false true e f = ap (λ v. all a (Word v) c x) (eqb-true w pad_token f)
+  looks_meant false false e f = refl
+
+  due_meant : (o : Option (Mark × RowMeaning)) → at_token rows w ≡ o → ((row : Mark × RowMeaning) → at_token rows w ≡ Some row → meanings (language_of x) w ≡ looks (language_of x) w)
       → all a (Word w) c x ≡ by_meaning (suc n) all (meanings (language_of x) w) w a c x
-  due_meant (Some row) is system = ap (λ m. by_meaning (suc n) all m w a c x) (sym (system row is))
+  due_meant (Some row) is system =
+      looks_meant (w == here_token) (w == pad_token) refl refl ∙ ap (λ m. by_meaning (suc n) all m w a c x) (sym (system row is))
   due_meant None is system =
       let no_service : service_of (meaning_at w) ≡ None = ap (λ o. service_of (option_map (λ row. row.1) o)) is in
       let user : all a (Word w) c x ≡ user_word (suc n) inner w (entry x.words w) a c x = ap (λ s. due_word (suc n) inner w s a c x) no_service in
-      user ∙ word_meant (entry x.words w) (sym user)
+      let entered : or_looks (word_meaning (entry x.words w)) (looks (language_of x) w) ≡ word_meaning (entry x.words w) = ap (λ l. or_looks (word_meaning (entry x.words w)) l) (no_look (language_of x) w is) ∙ looks_outside (word_meaning (entry x.words w)) in
+      user ∙ word_meant (entry x.words w) (sym user) ∙ ap (λ m. by_meaning (suc n) all m w a c x) (sym entered)
 
 -- and EXECUTE does the word on the data stack as that is meant
-module _ (n : ℕ) (a : Around) (x : World) (system : (w : ℕ) (row : Mark × RowMeaning) → at_token rows w ≡ Some row → meanings (language_of x) w ≡ Outside) where
+module _ (n : ℕ) (a : Around) (x : World) (system : (w : ℕ) (row : Mark × RowMeaning) → at_token rows w ≡ Some row → meanings (language_of x) w ≡ looks (language_of x) w) where
   abbrev below : Serve World
   below a due c x = serve n a due c x
 
@@ -139,7 +180,7 @@ module _ (n : ℕ) (a : Around) (x : World) (system : (w : ℕ) (row : Mark × R
   meant : (w : ℕ) (c : Core) → c.steps ≤ n → every a (Word w) c x ≡ by_meaning (suc n) every (meanings (language_of x) w) w a c x
   meant w c h = due_meant n w a c x h (at_token rows w) refl (system w)
 
-  -- a word that can be called is there, and has no row
+  -- a word that has a body is there, and has no row
   is_there : (w : ℕ) (words : List ForthWord) → (word_meaning (entry words w) ≡ Outside → ⊥) → (0 < w) × (w ≤ length words)
   is_there zero words inside = absurd (inside refl)
   is_there (suc k) words inside = (omega arith, there k words inside)
@@ -149,9 +190,12 @@ module _ (n : ℕ) (a : Around) (x : World) (system : (w : ℕ) (row : Mark × R
       there zero (v ∷ words) inside = omega arith
       there (suc k) (v ∷ words) inside = let b = there k words inside in omega (arith, b)
 
-  no_row : (w : ℕ) (o : Option (Mark × RowMeaning)) → at_token rows w ≡ o → (meanings (language_of x) w ≡ Outside → ⊥) → at_token rows w ≡ None
-  no_row w (Some row) is inside = absurd (inside (system w row is))
-  no_row w None is inside = is
+  no_row : (w : ℕ) (o : Option (Mark × RowMeaning)) → at_token rows w ≡ o → (parts : List Trees) → meanings (language_of x) w ≡ RunsBody parts → at_token rows w ≡ None
+  no_row w (Some row) is parts body = absurd (looks_no_body (language_of x) w parts (sym (system w row is) ∙ body))
+  no_row w None is parts body = is
+
+  has_entry : (w : ℕ) (parts : List Trees) → meanings (language_of x) w ≡ RunsBody parts → word_meaning (entry x.words w) ≡ Outside → ⊥
+  has_entry w parts body none = looks_no_body (language_of x) w parts (sym (ap (λ m. or_looks m (looks (language_of x) w)) none) ∙ body)
 
   may : (w : ℕ) → at_token rows w ≡ None → (0 < w) × (w ≤ length x.words) → true ≡ may_execute w x
   may w none there = ap (λ o. not (is_marked_only (option_map (λ row. row.0) o))) (sym none) ∙ may_word w x there.0 there.1
@@ -165,18 +209,18 @@ module _ (n : ℕ) (a : Around) (x : World) (system : (w : ℕ) (row : Mark × R
       ap (λ o. own_or (machine_word (option_map (λ row. row.1) o)) a.units [] d (λ e c. Ends e c x) (λ own c. Did c x) (λ c. below a (Word w) c x)) none
       ∙ (serve_agrees n).below a (Word w) d x (omega (arith, h, hd)) ∙ meant w d (omega (arith, h, hd)))
 
-  callable : (w : ℕ) (c : Core) → c.steps < n → (meanings (language_of x) w ≡ Outside → ⊥)
+  callable : (w : ℕ) (c : Core) → c.steps < n → (parts : List Trees) → meanings (language_of x) w ≡ RunsBody parts
       → needing (may_execute w x) Token c x (λ c. word_value (suc n) below a w c x) ≡ charge 1 c (λ e c. Ends e c x) (λ c. by_meaning (suc n) every (meanings (language_of x) w) w a c x)
-  callable w c h inside =
-      let none = no_row w (at_token rows w) refl inside in
-      ap (λ b. needing b Token c x (λ c. word_value (suc n) below a w c x)) (sym (may w none (is_there w x.words inside))) ∙ by_itself w c h none
+  callable w c h parts body =
+      let none = no_row w (at_token rows w) refl parts body in
+      ap (λ b. needing b Token c x (λ c. word_value (suc n) below a w c x)) (sym (may w none (is_there w x.words (has_entry w parts body)))) ∙ by_itself w c h none
 
   executed_meant : (w : ℕ) (c untokened : Core) → untokened.steps < n → every a (Word execute_token) c x ≡ needing (may_execute w x) Token untokened x (λ c. word_value (suc n) below a w c x)
       → (m : Meaning) → meanings (language_of x) w ≡ m → every a (Word execute_token) c x ≡ executed_as (suc n) every m w a c untokened x
   executed_meant w c untokened h is Outside e = refl
   executed_meant w c untokened h is (GivesCell v) e = refl
   executed_meant w c untokened h is (RunsBody parts) e =
-      is ∙ callable w untokened h (λ z. let k = sym e ∙ z in cc) ∙ ap (λ m. charge 1 untokened (λ e c. Ends e c x) (λ c. by_meaning (suc n) every m w a c x)) e
+      is ∙ callable w untokened h parts e ∙ ap (λ m. charge 1 untokened (λ e c. Ends e c x) (λ c. by_meaning (suc n) every m w a c x)) e
   executed_meant w c untokened h is (RunsPart owner d parts) e = refl
 
   execute_meant : (stack space : List ℕ) (steps : ℕ) → steps < n → every a (Word execute_token) (core_of stack space steps) x ≡ executed (suc n) every (meanings (language_of x)) stack a (core_of stack space steps) x
@@ -188,17 +232,17 @@ module _ (n : ℕ) (a : Around) (x : World) (system : (w : ℕ) (row : Mark × R
   word_or_execute true w c e h = ap (λ v. every a (Word v) c x) (eqb-true w execute_token e) ∙ execute_meant c.stack c.space c.steps h
   word_or_execute false w c e h = meant w c (omega (arith, h))
 
-pub serves_as_meant : (n : ℕ) (x : World) → ((w : ℕ) (row : Mark × RowMeaning) → at_token rows w ≡ Some row → meanings (language_of x) w ≡ Outside)
+pub serves_as_meant : (n : ℕ) (x : World) → ((w : ℕ) (row : Mark × RowMeaning) → at_token rows w ≡ Some row → meanings (language_of x) w ≡ looks (language_of x) w)
     → ServesAsMeant n (λ a due c x. serve n a due c x) (meanings (language_of x)) x
 serves_as_meant zero x system = λ a w c h. absurd (omega (arith, h))
 serves_as_meant (suc n) x system = λ a w c h. word_or_execute n a x system (w == execute_token) w c refl (omega (arith, h))
 
 -- frame steps that call too keep the value of what is left
-pub left_calls : SystemWordsAreOutside → (n : ℕ) (l : Lexicon) (x : World) (k : ℕ) (levels : List Level) (c : Core) → Means l (language_of x) → c.steps < n → left n levels c x ≡ next n (calling_steps (meanings (language_of x)) k levels c) x
-left_calls outside n l x k levels c means h =
+pub left_calls : SystemWordsLook → (n : ℕ) (l : Lexicon) (x : World) (k : ℕ) (levels : List Level) (c : Core) → Means l (language_of x) → c.steps < n → left n levels c x ≡ next n (calling_steps (meanings (language_of x)) k levels c) x
+left_calls looking n l x k levels c means h =
     calling_keeps n (λ a due c x. serve n a due c x) (λ a c x. text n (λ a due c x. serve n a due c x) n a c x) back (meanings (language_of x)) x
     (step_keeps n (λ a due c x. serve n a due c x) (λ a due c x. serve-frugal n a due c x) (λ a c x. text n (λ a due c x. serve n a due c x) n a c x) back)
-    (serves_as_meant n x (λ w row is. outside l (language_of x) means w row is)) k levels c h
+    (serves_as_meant n x (λ w row is. looking l (language_of x) means w row is)) k levels c h
 
 -- ---- where nothing is left to do above the text
 

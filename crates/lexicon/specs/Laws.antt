@@ -6,13 +6,12 @@ use Rattle.cell_machine.specs.declared.event.Work.TheVariants as work
 use Rattle.system_words.specs.declared.words.Mark.{Mark}
 use Rattle.system_words.specs.declared.words.Meaning.{Meaning}
 use Rattle.system_words.specs.Rows.{rows, at_token}
-use Rattle.cell_machine.specs.Calling.{Outside}
 use Rattle.cell_machine.specs.Frames.{Level, Once, Load}
 use Rattle.cell_machine.specs.Events.{Doing, Entered}
 use Rattle.lexicon.specs.declared.language.Lexicon.{Lexicon}
 use Rattle.lexicon.specs.Language.{Language}
 use Rattle.lexicon.specs.Stands.{Stands, IsLeft}
-use Rattle.lexicon.specs.Running.{meanings}
+use Rattle.lexicon.specs.Running.{meanings, looks}
 
 -- where no entry stands and no word waits, nothing is left
 abbrev pub NothingIsLeft : Type 0
@@ -35,7 +34,7 @@ LoadsLeave =
     (l : Lexicon) (x : Language) (doing : Doing) (entries : List Entry) (levels : List Level) (blk to_in : ℕ) → doing.pending ≡ None →
     IsLeft l x doing entries (Load blk to_in ∷ levels) → (below : List Entry) × ((entries ≡ LoadOf blk to_in ∷ below) × IsLeft l x doing below levels)
 
--- a system word, which has a row, is none that the machine can call
-abbrev pub SystemWordsAreOutside : Type 0
-SystemWordsAreOutside =
-    (l : Lexicon) (x : Language) → Stands l x → (w : ℕ) (row : Mark × Meaning) → at_token rows w ≡ Some row → meanings x w ≡ Outside
+-- a system word, which has a row, is none that the machine can call, but for those that only look
+abbrev pub SystemWordsLook : Type 0
+SystemWordsLook =
+    (l : Lexicon) (x : Language) → Stands l x → (w : ℕ) (row : Mark × Meaning) → at_token rows w ≡ Some row → meanings x w ≡ looks x w

@@ -1,7 +1,7 @@
 //! Laws over the definitions alone. The functions do nothing; a caller's proof cites their clauses.
 //! Rule: SEMANTICS, Laws.
 
-ghost use Rattle.lexicon.specs.Laws.{NothingIsLeft, WordsEnter, LoadsEnter, LoadsLeave, SystemWordsAreOutside};
+ghost use Rattle.lexicon.specs.Laws.{NothingIsLeft, WordsEnter, LoadsEnter, LoadsLeave, SystemWordsLook};
 
 /// What is left to do, as words are entered by themselves and loads come and go.
 pub fn levels()
@@ -11,7 +11,7 @@ pub fn levels()
     ensures left { LoadsLeave }
 {}
 
-/// The machine calls no system word.
+/// The machine calls no system word, and leaves the cell of one that only looks.
 pub fn system_words()
-    ensures { SystemWordsAreOutside }
+    ensures { SystemWordsLook }
 {}

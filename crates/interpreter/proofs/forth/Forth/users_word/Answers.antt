@@ -6,13 +6,14 @@ use Rattle.interpreter.specs.State.{with_run}
 use Rattle.interpreter.specs.Lexicon.{language_of, with_language}
 use Rattle.interpreter.specs.Representation.{core}
 use Rattle.interpreter.proofs.Altering.{refused, went, becoming}
+use Rattle.interpreter.proofs.Events.{entry_outside}
 use Rattle.interpreter.proofs.Wiring.{no_word, to_vocabulary, vocabulary_is_word}
 use Rattle.interpreter.proofs.forth.Forth.users_word.Goals as goal
 
 pub returns-then-not-is_vocabulary-clause-alters : goal.returns-then-not-is_vocabulary-clause-alters
 returns-then-not-is_vocabulary-clause-alters g c = λ f inner levels x stands outside.
     let is : is_vocabulary (entry x.words c.args.token) ≡ false = sym (c.is_vocabulary.ensures (language_of x) stands.rests.meant) ∙ c.if-not-is_vocabulary.true in
-    refused _ stands (core c.args.self.now) refl (λ r. no_word f inner c.args.token (around_of levels) (core c.args.self.now) (with_run r x) (entry x.words c.args.token) is outside) (omega arith)
+    refused _ stands (core c.args.self.now) refl (λ r. no_word f inner c.args.token (around_of levels) (core c.args.self.now) (with_run r x) (entry x.words c.args.token) is (entry_outside _ _ outside)) (omega arith)
 
 pub set_first-requires : goal.set_first-requires
 set_first-requires g c =
