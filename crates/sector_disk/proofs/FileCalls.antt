@@ -1,6 +1,6 @@
 -- Calls of a file, one after another, and what they do to its sectors.
-use Rattle.std.proofs.Common.{◌≡◌, ◌≢◌, ℕ, ◌+◌, ◌*◌, ◌-◌, ◌<◌, ◌≤◌, true, false, List, length, slice_index, take, replicate, refl, sym, ◌∙◌, ap, subst, inl, inr, ⊎_elim, arith}
-use Rattle.std.specs.Prelude.{Result, Ok, Err, OnOk, OnErr}
+use Rattle.std.proofs.Common.{◌≡◌, ◌≢◌, ℕ, ◌+◌, ◌*◌, ◌-◌, ◌<◌, ◌≤◌, Bool, true, false, cond, List, length, slice_index, take, replicate, refl, sym, ◌∙◌, ap, subst, inl, inr, ⊎_elim, arith}
+use Rattle.std.specs.Prelude.{◌==◌, Result, Ok, Err, OnOk, OnErr}
 use Rattle.std.proofs.Math.Path.{fun_ext}
 use Rattle.std.proofs.lemmas.List.{get_or-replicate, get_or-take}
 use Rattle.std.proofs.lemmas.Bool.{cases_eq, cases_lt}
@@ -12,8 +12,13 @@ use Rattle.sector_disk.specs.Spans.{sector_is, same_sector}
 use Rattle.sector_disk.specs.Whole.{Goes}
 use Rattle.sector_disk.specs.Moments.{Elapses}
 use Rattle.sector_disk.proofs.Moments.{elapses_then, leaves_then}
-use Rattle.sector_disk.proofs.Units.{unless, when}
 use Rattle.sector_disk.specs.declared.host_file.HostFile.{Ghosts}
+
+pub when : (a b : ℕ) (x : Bool) → a ≡ b → cond (a == b) true x ≡ true
+when a b x same = grind (arith, nat_tests)
+
+pub unless : (a b : ℕ) (x : Bool) → a ≢ b → cond (a == b) true x ≡ x
+unless a b x other = grind (arith, nat_tests)
 
 same_refl : (k : ℕ) (f : FileBytes) → SameSector k f f
 same_refl k f = record { bytes = λ i below. refl; unsynced = refl }

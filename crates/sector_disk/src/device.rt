@@ -11,6 +11,7 @@ ghost use Rattle.sector_disk.specs.Counting.{CountsFailure, with_read, with_writ
 pub struct DeviceFault;
 
 /// How many calls were begun, those that failed included. Each count has 64 bits and stays at its last value.
+/// Rule: IMAGE, The device.
 #[derive(Clone, Copy, Debug, Default, PartialEq, Eq)]
 pub struct Counts {
     pub reads: u64,
@@ -19,33 +20,35 @@ pub struct Counts {
 }
 
 impl Counts {
+    /// One read more was begun.
     #[inline]
-    pub(crate) fn count_read(&mut self)
+    pub fn count_read(&mut self)
         ensures { self.new ≡ with_read self.old }
     {
         self.reads = self.reads.saturating_add(1);
     }
 
+    /// One write more was begun.
     #[inline]
-    pub(crate) fn count_write(&mut self)
+    pub fn count_write(&mut self)
         ensures { self.new ≡ with_write self.old }
     {
         self.writes = self.writes.saturating_add(1);
     }
 
+    /// One sync more was begun.
     #[inline]
-    pub(crate) fn count_sync(&mut self)
+    pub fn count_sync(&mut self)
         ensures { self.new ≡ with_sync self.old }
     {
         self.syncs = self.syncs.saturating_add(1);
     }
 }
 
-// Counts a failure where the outcome is one.
-pub(crate) fn count_failure<E: Drop>(
-    failures: &mut u64,
-    outcome: Result<(), E>,
-) -> Result<(), DeviceFault>
+/// Counts a failure of a device where the outcome of its call is one, and tells it as `DeviceFault`. The count has 64
+/// bits and stays at its last value.
+/// Rule: IMAGE, The device.
+pub fn count_failure<E: Drop>(failures: &mut u64, outcome: Result<(), E>) -> Result<(), DeviceFault>
     ensures failures { CountsFailure failures.old failures.new result }
     ensures variant { IsErr result ↔ IsErr outcome }
 {
@@ -65,8 +68,8 @@ pub(crate) fn count_failure<E: Drop>(
 /// disk model. All others bind every device: sectors, model and units never change, time goes on, a stop within a call
 /// leaves what one before it or after it may leave, each call is counted, and each that fails is counted as a failure.
 ///
-/// A device may know its whole history, as `Recorded` does, or the present alone, as `MemoryDisk` does: both meet
-/// all clauses, so what is proved over any device speaks of each moment within a call.
+/// A device may know its whole history, as `Recorded` of `test_devices` does, or the present alone, as `MemoryDisk`
+/// does: both meet all clauses, so what is proved over any device speaks of each moment within a call.
 /// Rule: IMAGE, The device.
 pub trait SectorDevice {
     /// How many sectors it has.

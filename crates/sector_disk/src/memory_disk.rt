@@ -99,8 +99,10 @@ impl MemoryDisk {
         self
     }
 
-    // Makes the sectors from `first` to `end` unsynced, with the bytes that they hold.
-    pub(crate) fn touch(&mut self, first: u32, end: u32)
+    /// Makes the sectors from `first` on, up to and without `end`, unsynced, with the bytes that they hold, as a write
+    /// does to the others of its unit where that is larger. `first` is at most `end`, and `end` at most `sectors()`. No
+    /// call is counted.
+    pub fn touch(&mut self, first: u32, end: u32)
         requires order { first ≤ end }
         requires within { end ≤ size self.old }
         ensures sectors { size self.new ≡ size self.old }
@@ -203,7 +205,7 @@ impl SectorDevice for MemoryDisk {
 
     ghost counts = { λ d. begun d };
 
-    ghost present = { λ d _. present_of d.sectors.items };
+    ghost present = { λ d _. present_of d };
 
     ghost keeps_both = { λ d keeps. keeps };
 

@@ -7,17 +7,11 @@ ghost use Rattle.journal.specs.Store.{device_of, StandsFor};
 ghost use Rattle.journal.specs.Suits.{suits};
 
 use journal::Store;
-use sector_disk::{Coarse, SectorDevice};
+use sector_disk::SectorDevice;
 
 /// Does nothing. Its contract is a law: over each device that suits it a store stands for some maps.
 pub fn stands<D: SectorDevice>(store: &Store<D>)
     ensures { IsTrue (suits D.SectorDevice (device_of store.now)) → (m : Maps) × StandsFor store.now m }
-{}
-
-/// Does nothing. Its contract is a law: a disk whose sectors lie in units of eight suits a store of layout 3.
-pub fn eights(device: &Coarse)
-    ensures { is_size (⟦<Coarse as SectorDevice>⟧.sector_count device.now) ≡ false
-        → IsTrue (suits ⟦<Coarse as SectorDevice>⟧ device.now) }
 {}
 
 /// Does nothing. Its contract is a law: a device that keeps the disk model by sectors suits a store of either layout.

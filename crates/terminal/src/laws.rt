@@ -1,15 +1,12 @@
 //! Laws of the definitions.
 //! Rule: SEMANTICS, Laws.
-ghost use Rattle.std.specs.Prelude.{◌≡◌, ℕ, List};
-ghost use Rattle.sector_disk.specs.MemoryFiles.{IsReopened, file_in};
-ghost use Rattle.sector_disk.specs.Opening.{sectors_in};
-ghost use Rattle.sector_disk.specs.SectorFile.{file_of, sectors_of};
-ghost use Rattle.terminal.specs.Again.{AnyMomentImportThenRun, AnyMomentPutThenRun, AnyMomentThenRun, BrokenRunThenRun, Chain, EndedIsFound, FaultThenRun, GivesAgain, ImportThenRun, NewThenImport, PutThenRun, PutThenRunOn, RunThenExport, RunThenRun, RunThenRunOn, StoppedImportThenRun, StoppedIsFound, StoppedPutThenRun, StoppedRecovery, StoppedRunThenRun};
+ghost use Rattle.std.specs.Prelude.{ℕ, List};
+ghost use Rattle.terminal.specs.Again.{AnyMomentImportThenRun, AnyMomentPutThenRun, AnyMomentThenRun, BrokenRunThenRun, Chain, EndedIsFound, FaultThenRun, ImportThenRun, NewThenImport, PutThenRun, PutThenRunOn, RunThenExport, RunThenRun, RunThenRunOn, StoppedImportThenRun, StoppedIsFound, StoppedPutThenRun, StoppedRecovery, StoppedRunThenRun};
 ghost use Rattle.terminal.specs.Files.{IsOpened};
 ghost use Rattle.terminal.specs.Texts.{IsTextOf};
 
 use super::texts::TextFiles;
-use sector_disk::{HostFile, HostFiles, MemoryFile, MemoryFiles, SectorDevice, SectorFile};
+use sector_disk::{HostFile, HostFiles, SectorDevice, SectorFile};
 use std::io::Read;
 
 /// Does nothing. Its contract is a law: what one command has left of an image is what the next one opens, whether it
@@ -48,12 +45,3 @@ pub fn over_files<H: HostFile, O: HostFiles<H>, B: Read, Q: TextFiles<B>>()
 {
     again::<SectorFile<H>, B, Q>();
 }
-
-/// Does nothing. Its contract is a law: there is a system that gives files again. One in memory, made of the file that
-/// was left, gives it as a device of as many sectors as it had, where those are all of the file's.
-pub fn files_in_memory(files: &MemoryFiles, left: &SectorFile<MemoryFile>)
-    ensures { file_in files.now ≡ file_of left.now
-        → sectors_of left.now ≡ sectors_in (⟦<MemoryFile as HostFile>⟧.extent (file_of left.now))
-        → (since : ℕ) → GivesAgain ⟦<SectorFile<MemoryFile> as SectorDevice>⟧
-        (IsOpened ⟦<MemoryFile as HostFile>⟧ (IsReopened ⟦<MemoryFile as HostFile>⟧ (file_in files.now))) since left.now }
-{}

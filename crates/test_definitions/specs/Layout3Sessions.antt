@@ -2,7 +2,7 @@
 -- which calls of the disk are begun for it at most.
 use Rattle.std.specs.Prelude.{◌≡◌, ◌==◌, ◌-◌, ◌*◌, ◌/◌, ◌%◌, ℕ, Bool, true, false, nat_lt, if◌then◌else◌, List, [], ◌∷◌, codes, take, drop, replicate, slice_get, Option, Some, None, refl}
 use Rattle.number_io.specs.Writing.{divided, digits_of}
-use Rattle.sector_disk.specs.Coarse.{in_eights}
+use Rattle.test_devices.specs.Coarse.{in_eights}
 use Rattle.sector_disk.specs.Disk.{Image, Disk}
 use Rattle.recovery.specs.Label.{is_size}
 use Rattle.shadow.specs.Label.{refusal}

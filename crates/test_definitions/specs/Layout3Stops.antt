@@ -3,7 +3,7 @@
 use Rattle.std.specs.Prelude.{◌≡◌, ◌==◌, ◌||◌, ◌+◌, ◌-◌, ◌*◌, ◌%◌, ℕ, zero, suc, Bool, true, false, nat_eq, nat_lt, if◌then◌else◌, List, [], ◌∷◌, ◌++◌, map, replicate, codes, refl}
 use Rattle.std.specs.List.{flat_map}
 use lib.Pointwise.{pointwise}
-use Rattle.sector_disk.specs.Coarse.{in_eights}
+use Rattle.test_devices.specs.Coarse.{in_eights}
 use Rattle.sector_disk.specs.Disk.{Image, Disk}
 use Rattle.sector_disk.specs.declared.memory_disk.Fate.{Fate}
 use Rattle.sector_disk.specs.declared.memory_disk.Fate.TheVariants.{Lost, Kept, Torn}

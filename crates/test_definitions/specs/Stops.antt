@@ -3,7 +3,7 @@
 use Rattle.std.specs.Prelude.{◌≡◌, ◌==◌, ◌&&◌, ◌||◌, not, ℕ, zero, suc, Bool, true, false, nat_eq, nat_lt, if◌then◌else◌, List, [], ◌∷◌, ◌++◌, codes, map, replicate, refl}
 use Rattle.std.specs.List.{flat_map, list_all}
 use lib.Pointwise.{pointwise}
-use Rattle.sector_disk.specs.Coarse.{in_eights}
+use Rattle.test_devices.specs.Coarse.{in_eights}
 use Rattle.sector_disk.specs.Disk.{Image, Disk, written, settled}
 use Rattle.sector_disk.specs.Stop.{stopped}
 use Rattle.sector_disk.specs.declared.memory_disk.Fate.{Fate}

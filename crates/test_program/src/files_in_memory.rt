@@ -3,11 +3,12 @@
 use super::support::{Left, call_over, call_over_texts};
 use crate::assertions::{Assert, assert_same};
 use recovery::format;
-use sector_disk::{HostFile, MemoryDisk, MemoryFile, MemoryFiles, Script, SectorDevice};
+use sector_disk::{HostFile, MemoryDisk, SectorDevice};
 use std::process::Abort;
 use std::rt::Files;
 use std::test::Fail;
 use terminal::MemoryTexts;
+use test_devices::{MemoryFile, MemoryFiles, Script};
 
 /// How many sectors an image of 32 blocks has.
 const SECTORS: u32 = 131;

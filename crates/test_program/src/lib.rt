@@ -13,6 +13,7 @@ mod layout_3_images;
 mod layout_3_images_in_memory;
 #[cfg(test)]
 mod lines;
+pub mod premises;
 #[cfg(test)]
 mod scripts;
 #[cfg(test)]

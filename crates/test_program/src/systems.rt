@@ -4,13 +4,14 @@ use super::support::{
     transcript,
 };
 use crate::assertions::{Assert, assert_same};
-use sector_disk::{FileFault, HostFault, HostFile, HostFiles, MemoryFile, Script};
+use sector_disk::{FileFault, HostFault, HostFile, HostFiles};
 use std::cell::{Cell, RefCell};
 use std::fs;
 use std::fs::File;
 use std::process::Abort;
 use std::rt::Files;
 use std::test::Fail;
+use test_devices::{MemoryFile, Script};
 
 /// How many sectors an image of 32 blocks has.
 const SECTORS: u32 = 131;

@@ -4,8 +4,9 @@ use crate::fillings::Fillings;
 use crate::medium::{Layout, Medium, Unit};
 use crate::player::Player;
 use crate::store_calls::StoreCalls;
-use sector_disk::{Coarse, MemoryDisk};
+use sector_disk::MemoryDisk;
 use std::test::Fail;
+use test_devices::Coarse;
 
 /// A part of a text.
 #[derive(Clone, Copy)]

@@ -11,9 +11,10 @@ use crate::report::Report;
 use crate::scenario::{Scenario, Trial};
 use crate::told::Told;
 use journal::layout;
-use sector_disk::{Coarse, Counts, Fused, MemoryDisk, SectorDevice, Tearing};
+use sector_disk::{Counts, Fused, MemoryDisk, SectorDevice};
 use std::alloc::{AllocError, Global};
 use std::test::Fail;
+use test_devices::{Coarse, Tearing};
 
 /// Calls, and the image before them.
 #[derive(Drop)]

@@ -3,7 +3,8 @@ ghost use Rattle.std.specs.Prelude.{◌≡◌, false, IsTrue};
 ghost use Rattle.recovery.specs.Label.{is_size};
 ghost use Rattle.journal.specs.Suits.{suits};
 
-use sector_disk::{MemoryDisk, MemoryFile, PagedFile, Recorded, SectorDevice, SectorFile};
+use sector_disk::{MemoryDisk, SectorDevice, SectorFile};
+use test_devices::{Coarse, MemoryFile, PagedFile, Recorded};
 
 /// Does nothing. Its contract is a law: a disk in memory suits a store of either layout.
 pub fn disks_in_memory(device: &MemoryDisk)
@@ -15,7 +16,13 @@ pub fn recorded_disks(device: &Recorded)
     ensures { IsTrue (suits ⟦<Recorded as SectorDevice>⟧ device.now) }
 {}
 
-/// Does nothing. Its contract is a law: so does a file in memory, as a device.
+/// Does nothing. Its contract is a law: a disk whose sectors lie in units of eight suits a store of layout 3.
+pub fn disks_in_eights(device: &Coarse)
+    ensures { is_size (⟦<Coarse as SectorDevice>⟧.sector_count device.now) ≡ false
+        → IsTrue (suits ⟦<Coarse as SectorDevice>⟧ device.now) }
+{}
+
+/// Does nothing. Its contract is a law: a file in memory, as a device, suits a store of either layout.
 pub fn files_in_memory(device: &SectorFile<MemoryFile>)
     ensures { IsTrue (suits ⟦<SectorFile<MemoryFile> as SectorDevice>⟧ device.now) }
 {}

@@ -1,9 +1,10 @@
 //! A disk whose sectors lie in larger units: what a write touches, and what a stop leaves of a save there.
 use crate::assertions::{Assert, assert_same};
 use crate::contents::holds;
-use sector_disk::{Coarse, Fate, Fused, MemoryDisk, SectorDevice};
+use sector_disk::{Fate, Fused, MemoryDisk, SectorDevice};
 use std::alloc::{AllocError, Global};
 use std::test::Fail;
+use test_devices::Coarse;
 use test_stops::disks::{formatted, opened, put, spill};
 use test_stops::fates::unsynced_sectors;
 use test_stops::fillings::{left_in, shown};

@@ -1,7 +1,8 @@
 use crate::assertions::{Assert, assert_same};
 use crate::contents::are_full;
-use sector_disk::{Fate, MemoryDisk, Recorded, SectorDevice};
+use sector_disk::{Fate, MemoryDisk, SectorDevice};
 use std::test::Fail;
+use test_devices::Recorded;
 use test_stops::disks::{put, sector};
 
 #[test]

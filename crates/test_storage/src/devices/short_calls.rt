@@ -1,7 +1,8 @@
 //! A file whose calls move few bytes, are interrupted and fail, as a device.
 use crate::devices::sectors::{put, sector};
-use sector_disk::{MemoryFile, Script, SectorDevice, SectorFile};
+use sector_disk::{SectorDevice, SectorFile};
 use std::test::Fail;
+use test_devices::{MemoryFile, Script};
 
 const NEVER: u64 = u64::MAX;
 

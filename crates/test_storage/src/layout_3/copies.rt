@@ -4,10 +4,11 @@ use crate::layout_3::saved_images::{are_same, change, saved, sector, since, stop
 use image_care::{copy, examine};
 use journal::pages::layout::label;
 use recovery::{OpenFault, UpgradeFault};
-use sector_disk::{Coarse, Counts, Fate, Fused, MemoryDisk, SectorDevice};
+use sector_disk::{Counts, Fate, Fused, MemoryDisk, SectorDevice};
 use shadow::open;
 use std::alloc::Global;
 use std::test::Fail;
+use test_devices::Coarse;
 
 const SAVES: [(u16, u8); 3] = [(5, b'A'), (5, b'B'), (31, b'C')];
 

@@ -2,10 +2,11 @@
 use crate::assertions::{Assert, assert_same};
 use crate::layout_3::images::{blank, opened, sector, spill, told};
 use crate::layout_3::openings::refusal;
-use sector_disk::{Coarse, Fate, Fused, MemoryDisk};
+use sector_disk::{Fate, Fused, MemoryDisk};
 use shadow::format;
 use std::alloc::Global;
 use std::test::Fail;
+use test_devices::Coarse;
 
 #[test]
 fn a_format_makes_the_blank_image(rt: HostRuntime) -> Result<(), Fail> {

@@ -5,10 +5,11 @@ ghost use Rattle.journal.specs.Layout.{most_blocks};
 use journal::Store;
 use journal::pages::layout::{current_sector, sum, tag, tag_sector, with_sum};
 use journal::pages::tags::{add, tag_of};
-use sector_disk::{Coarse, Fused, MemoryDisk, SectorDevice};
+use sector_disk::{Fused, MemoryDisk, SectorDevice};
 use shadow::open;
 use std::alloc::{AllocError, Global};
 use std::test::Fail;
+use test_devices::Coarse;
 
 pub(crate) const BLOCKS: u16 = 32;
 

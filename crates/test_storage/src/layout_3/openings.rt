@@ -2,10 +2,11 @@
 use crate::assertions::{Assert, assert_same};
 use crate::layout_3::images::{blank, opened, put, sector, spill, told};
 use recovery::OpenFault;
-use sector_disk::{Coarse, Fate, MemoryDisk};
+use sector_disk::{Fate, MemoryDisk};
 use shadow::open;
 use std::alloc::Global;
 use std::test::Fail;
+use test_devices::Coarse;
 
 /// Why an image isn't opened, or `opened`.
 pub(crate) fn refusal(disk: MemoryDisk) -> &'static str {

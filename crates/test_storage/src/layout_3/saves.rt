@@ -2,10 +2,11 @@
 use crate::assertions::{Assert, assert_same};
 use crate::layout_3::images::{blank, hex, opened, sector, spill, told};
 use journal::Store;
-use sector_disk::{Coarse, Fate, Fused, MemoryDisk, SectorDevice};
+use sector_disk::{Fate, Fused, MemoryDisk, SectorDevice};
 use std::alloc::Global;
 use std::process::Abort;
 use std::test::Fail;
+use test_devices::Coarse;
 
 // The sums of the tags, all blank, with block 5 of A, and then with block 5 of B and block 31 of C.
 const BLANK: &str = "b0ca587f36db23d7f163c27ba2fcf5c2fb4c453a57baae81777a9b27a1016e78";

@@ -3,10 +3,11 @@ use crate::assertions::{Assert, assert_same};
 use crate::layout_3::images::{blank, opened, put, sector, spill, told};
 use crate::layout_3::openings::refusal;
 use recovery::{OpenFault, UpgradeFault};
-use sector_disk::{Coarse, Fate, Fused, MemoryDisk, SectorDevice};
+use sector_disk::{Fate, Fused, MemoryDisk, SectorDevice};
 use shadow::upgrade;
 use std::alloc::Global;
 use std::test::Fail;
+use test_devices::Coarse;
 
 // SHA-256 of a byte 6, 479 zeros, 1,024 bytes of A and 1,024 of B.
 const DIGEST: [u8; 32] = [

@@ -1,5 +1,5 @@
 use Rattle.std.proofs.Common.{refl}
-use Rattle.sector_disk.specs.contracts.recorded.RecordedSectorDevice.TheImpl.{ghosts}
+use Rattle.test_devices.specs.contracts.recorded.RecordedSectorDevice.TheImpl.{ghosts}
 use Rattle.test_storage.proofs.Suited.{both}
 use Rattle.test_storage.proofs.premises.recorded_disks.Goals as goal
 

@@ -1,0 +1,9 @@
+pub mod Coarse
+pub mod FileLaws
+pub mod Laws
+pub mod MemoryFile
+pub mod MemoryFiles
+pub mod PagedFile
+pub mod Recorded
+pub mod RecordedDisk
+pub mod Tearing
