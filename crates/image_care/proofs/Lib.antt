@@ -5,5 +5,6 @@ pub mod Looks
 pub mod Makings
 pub mod Retries
 pub mod Salvages
+pub mod Stills
 pub mod Takings
 pub mod Through

@@ -6,6 +6,7 @@ pub mod Overtaken
 pub mod Salvaged
 pub mod Seen
 pub mod Standing
+pub mod StillDisk
 pub mod Taken
 pub mod Through
 pub mod View

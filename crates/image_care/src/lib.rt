@@ -16,6 +16,7 @@ mod reading_files;
 mod reading_through;
 mod salvage_source;
 mod salvaging;
+mod still_disk;
 mod view;
 mod whole_copies;
 
@@ -28,5 +29,6 @@ pub use reading_files::{ReadOnlyFile, ReadingFiles};
 pub use reading_through::read_through;
 pub use salvage_source::Taken;
 pub use salvaging::salvage;
+pub use still_disk::StillDisk;
 pub use view::{Listing, View};
 pub use whole_copies::{Readings, StillReadings, read_whole, read_whole_file};

@@ -1,7 +1,8 @@
 // The files of this system, opened for reading alone.
 ghost use Rattle.std.specs.Prelude.{◌≡◌, ◌≢◌, false, IsTrue, IfErr};
 
-use crate::whole_copies::{FileReadings, copied, read_whole_file};
+use crate::still_disk::copied;
+use crate::whole_copies::{FileReadings, read_whole_file};
 use sector_disk::{FileFault, HostFault, HostFile, HostFiles};
 use std::fs::{File, Files, Metadata, OpenOptions, TryLockError};
 use std::io::ErrorKind;

@@ -1,14 +1,14 @@
 // Images of layout 3 that are read whole while another program writes them.
-ghost use Rattle.std.specs.Prelude.{◌≡◌, ◌≢◌, ◌≤◌, ◌<◌, ◌+◌, ◌*◌, ◌^◌, ℕ, suc, List, Option, Some, None, true, IsTrue, IfErr, IfOk, OnOk, OnErr, length};
-ghost use Rattle.sector_disk.specs.FileBytes.{Gives, disk_of_file};
+ghost use Rattle.std.specs.Prelude.{◌≡◌, ◌≢◌, ◌*◌, ℕ, suc, List, Option, Some, None, Err, true, false, IfErr, IfOk, OnOk, OnErr, length};
+ghost use Rattle.sector_disk.specs.FileBytes.{disk_of_file};
 ghost use Rattle.sector_disk.specs.Opening.{sectors_in};
 ghost use Rattle.shadow.specs.Label.{is_size};
 ghost use Rattle.stores.specs.Images.{HasMeaning};
 ghost use Rattle.image_care.specs.Seen.{GaveNoImage, IsOneOf, IsWholeImage, NoneIsWhole, still};
 
 use crate::looking::look;
-use recovery::OpenFault;
-use sector_disk::{FileFault, HostFault, HostFile, SectorDevice, SectorFile};
+use crate::still_disk::StillDisk;
+use sector_disk::{FileFault, HostFault};
 use shadow::blocks_of_new;
 use std::alloc::Global;
 use std::fs::File;
@@ -16,88 +16,6 @@ use std::os::unix::fs::FileExt;
 
 /// How often a file is read before it counts as in use.
 const TRIES: u32 = 64;
-
-// Bytes that lie in memory, as a file.
-#[derive(Drop)]
-struct Glance<'a> {
-    bytes: &'a [u8],
-}
-
-impl HostFile for Glance<'_> {
-    ghost use Rattle.std.specs.Prelude.{refl};
-    ghost use Rattle.sector_disk.specs.Disk.{MayLeave};
-    ghost use Rattle.sector_disk.specs.FileBytes.{disk_of_file};
-    ghost use Rattle.sector_disk.specs.Pages.{paged_by_sectors};
-    ghost use Rattle.image_care.specs.Seen.{still};
-
-    ghost keeps_model = { λ f. true };
-
-    ghost keeps_sectors = { λ f. true };
-
-    ghost bytes = { λ f. still f.bytes.now };
-
-    ghost extent = { λ f. length f.bytes.now };
-
-    ghost syncs_settle = { λ f. true };
-
-    ghost time = { λ f. 0 };
-
-    ghost left_since = { λ f t c. MayLeave (disk_of_file (still f.bytes.now)) c };
-
-    ghost present = { λ f keeps k synced. refl };
-
-    ghost keeps_both = { λ f keeps. keeps };
-
-    ghost by_pages = { λ f keeps. paged_by_sectors (disk_of_file (still f.bytes.now)) (λ k. refl) };
-
-    ghost by_sectors = { λ f k keeps. refl };
-
-    ghost counts_now = { λ f t c le now. now };
-
-    ghost only_now = { λ f c now. now };
-
-    ghost widens = { λ f s t c le since. since };
-
-    fn len(&self) -> u64 {
-        self.bytes.len() as u64
-    }
-
-    fn read_at(&mut self, position: u64, buffer: &mut [u8]) -> Result<usize, HostFault> {
-        Ok(copied(self.bytes, position, buffer))
-    }
-
-    fn write_at(&mut self, _position: u64, _buffer: &[u8]) -> Result<usize, HostFault> {
-        Err(HostFault::Failed)
-    }
-
-    fn sync(&mut self) -> Result<(), HostFault> {
-        Err(HostFault::Failed)
-    }
-}
-
-// How many of so many bytes are had from a place on, where there is room for so many.
-fn count(len: usize, position: u64, room: usize) -> usize
-    ensures room { result ≤ room }
-    ensures within { 0 < result → position + result ≤ len }
-{
-    if position >= len as u64 {
-        return 0;
-    }
-    room.min(len - position as usize)
-}
-
-// Copies the bytes from a place on, as many as there is room for, and answers how many.
-pub(crate) fn copied(bytes: &[u8], position: u64, buffer: &mut [u8]) -> usize
-    ensures count { result ≤ length buffer.old }
-    ensures gives { Gives (still bytes.now) position buffer.new result }
-{
-    let n = count(bytes.len(), position, buffer.len());
-    if n > 0 {
-        let at = position as usize;
-        buffer[..n].copy_from_slice(&bytes[at..at + n]);
-    }
-    n
-}
 
 /// A file that is read from its beginning on, again and again, while another program may write it.
 /// Rule: IMAGE, A look while it runs.
@@ -173,42 +91,18 @@ enum Reading {
     Whole,
     // None: the reading failed, or what another program wrote meanwhile lies over the bytes.
     Torn,
-    // A look at the bytes failed to read them.
-    Unread,
 }
 
-// What an image is told as of which a look is refused so.
-fn refused(fault: OpenFault) -> Reading
-    ensures torn { result ≡ Reading.Torn → fault ≢ OpenFault.Device }
-    ensures other { result ≢ Reading.Whole }
-{
-    match fault {
-        OpenFault::Device => Reading::Unread,
-        _ => Reading::Torn,
-    }
-}
-
-// What a device of the size of an image holds.
-fn seen_on<D: SectorDevice>(device: &mut D) -> Reading
-    requires newer { is_size (D.sector_count device.old) ≡ true }
-    ensures whole { IsTrue (D.keeps_model device.old) → result ≡ Reading.Whole
-        → HasMeaning (D.sector_count device.old) (D.disk device.old).content }
-    ensures torn { IsTrue (D.keeps_model device.old) → result ≡ Reading.Torn
-        → HasMeaning (D.sector_count device.old) (D.disk device.old).content → ⊥ }
-{
-    match look(device) {
-        Ok(_) => Reading::Whole,
-        Err(fault) => refused(fault),
-    }
-}
-
-// What these bytes are, as so many sectors.
+// What these bytes are, as so many sectors. No read of them fails, so a look that is refused has found no image.
 fn seen_in(bytes: &[u8], sectors: u32) -> Reading
     requires newer { is_size sectors ≡ true }
     ensures whole { result ≡ Reading.Whole → HasMeaning sectors (disk_of_file (still bytes.now)).content }
     ensures torn { result ≡ Reading.Torn → HasMeaning sectors (disk_of_file (still bytes.now)).content → ⊥ }
 {
-    seen_on(&mut SectorFile::new(Glance { bytes }, sectors))
+    match look(&mut StillDisk::new(bytes, sectors)) {
+        Ok(_) => Reading::Whole,
+        Err(_fault) => Reading::Torn,
+    }
 }
 
 // Reads so many sectors once.
@@ -248,13 +142,12 @@ fn read_until_whole<R: Readings>(
     match read_once(readings, bytes, sectors) {
         Reading::Whole => Reading::Whole,
         Reading::Torn => read_until_whole(readings, bytes, sectors, tries - 1),
-        Reading::Unread => Reading::Unread,
     }
 }
 
 /// Reads an image of layout 3 whole, of so many sectors, while another program may write it. What that one writes
-/// meanwhile may lie over what is read: then it is read again. `InUse` where each of 64 readings gave no image, and
-/// `Cannot` where there is no memory, or a look at the bytes failed to read them.
+/// meanwhile may lie over what is read: then it is read again. `InUse` where each of 64 readings gave no image or
+/// failed, and `Cannot` where there is no memory: then nothing was read.
 /// Rule: IMAGE, A look while it runs.
 pub fn read_whole<R: Readings>(
     alloc: Global,
@@ -266,13 +159,14 @@ pub fn read_whole<R: Readings>(
     ensures given { IfOk result (λ bytes. IsOneOf 64 (R.gives readings.old (512 * sectors)) bytes.items) }
     ensures in_use { IfErr result (λ fault. fault ≡ FileFault.InUse
         → NoneIsWhole sectors 64 (R.gives readings.old (512 * sectors))) }
+    // What was read is never told as a file that can't be opened.
+    ensures cannot { IfErr result (λ fault. fault ≡ FileFault.Cannot → readings.new ≡ readings.old) }
     ensures fault { IfErr result (λ fault. fault ≢ FileFault.Exists) }
 {
     let mut bytes = vec![in alloc; 0; 512 * sectors as usize].map_err(|_| FileFault::Cannot)?;
     match read_until_whole(readings, &mut bytes, sectors, TRIES) {
         Reading::Whole => Ok(bytes),
         Reading::Torn => Err(FileFault::InUse),
-        Reading::Unread => Err(FileFault::Cannot),
     }
 }
 
@@ -298,6 +192,9 @@ pub fn read_whole_file<R: Readings>(
     ensures given { IfOk result (λ bytes. IsOneOf 64 (R.gives readings.old (512 * sectors_in len)) bytes.items) }
     ensures in_use { IfErr result (λ fault. fault ≡ FileFault.InUse → is_size (sectors_in len) ≡ true
         → NoneIsWhole (sectors_in len) 64 (R.gives readings.old (512 * sectors_in len))) }
+    ensures no_image { is_size (sectors_in len) ≡ false → result ≡ Err FileFault.InUse }
+    // What was read is never told as a file that can't be opened.
+    ensures cannot { IfErr result (λ fault. fault ≡ FileFault.Cannot → readings.new ≡ readings.old) }
     ensures fault { IfErr result (λ fault. fault ≢ FileFault.Exists) }
 {
     let sectors = sectors_in(len);

@@ -40,10 +40,6 @@ never_ok P (Err e) is = tt
 pub said_of_two : {X Y : Type 0} (P : X → Y → Type 0) (x x' : X) (y y' : Y) → x ≡ x' → y ≡ y' → P x y → P x' y'
 said_of_two {X} {Y} P x x' y y' one two given = subst (λ (k : Y). P x' k) two (subst (λ (k : X). P k y) one given)
 
-pub said_of_three : {X Y Z : Type 0} (P : X → Y → Z → Type 0) (x x' : X) (y y' : Y) (z z' : Z) → x ≡ x' → y ≡ y' → z ≡ z' → P x y z → P x' y' z'
-said_of_three {X} {Y} {Z} P x x' y y' z z' one two three given =
-    subst (λ (k : Z). P x' y' k) three (said_of_two (λ (i : X) (j : Y). P i j z) x x' y y' one two given)
-
 module _ {D : Type 0} (G : Ghosts D) where
   -- A look failed, and what is told more of it is told.
   pub check_fails : (written between written' : Option (List ℕ)) (first failure : Failure) (device looked after : D)

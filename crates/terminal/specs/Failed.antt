@@ -384,6 +384,7 @@ module _ {B : Type 0} (H : Ghosts B) where
         → LeavesBlocks H after (salvaged_blocks (H.sector_count device) seen)
     pub begins : BeginsAtMost H device after (writes_to_make (H.sector_count device)) 4
     pub looks : ReadsAtMost H device after 1
+    pub failed : failure ≡ Device → CallFailed H device after
     pub well : failure ≢ Device → H.failures after ≡ H.failures device
     pub told : (failure ≡ Device) ⊎ IsUntold failure ⊎ (Some failure ≡ option_map of_upgrade (salvage_refusal sectors (H.sector_count device)))
 

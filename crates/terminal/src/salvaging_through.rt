@@ -1,6 +1,6 @@
 //! An image is read through before it is salvaged, and the sectors that can't be read are passed over.
 //! Rule: MANUAL, forth83 salvage OLD NEW [--blocks N]; IMAGE, A sector that can't be read.
-ghost use Rattle.std.specs.Prelude.{◌≡◌, ◌≢◌, [], true, false, IsTrue, IfErr, OnOk};
+ghost use Rattle.std.specs.Prelude.{◌≡◌, ◌≢◌, [], true, false, IfErr, OnOk};
 ghost use Rattle.recovery.specs.Steps.{OnlyRead, WentWell};
 ghost use Rattle.image_care.specs.Through.{image_of};
 ghost use Rattle.terminal.specs.Failed.{HadFails, HadInPart, ReadFails, SalvageThroughFails};
@@ -10,8 +10,8 @@ use super::checking::print;
 use super::failure::Failure;
 use super::salvaging::salvage_over;
 use super::unread_sectors::unread_text;
-use image_care::{ReadOnlyFile, read_through};
-use sector_disk::{SectorDevice, SectorFile};
+use image_care::{StillDisk, read_through};
+use sector_disk::SectorDevice;
 use std::alloc::Global;
 use std::io::Write;
 
@@ -102,31 +102,38 @@ fn salvage_had<B: SectorDevice, W: Write>(
 {
     match unread_text(alloc, sectors, unread) {
         Ok(text) => {
-            let mut seen = SectorFile::new(ReadOnlyFile::Still(bytes), sectors);
-            salvage_seen(alloc, &mut seen, text.as_bytes(), new, output)
+            salvage_seen(
+                alloc,
+                sectors,
+                bytes.as_slice(),
+                text.as_bytes(),
+                new,
+                output,
+            )
         }
         Err(_) => Err(Failure::NoMemory),
     }
 }
 
-/// Salvages an image whose device keeps the model, and tells more after that.
-fn salvage_seen<A: SectorDevice, B: SectorDevice, W: Write>(
+/// Salvages an image on so many sectors from these bytes, of which no read fails, and tells more after that.
+fn salvage_seen<B: SectorDevice, W: Write>(
     alloc: Global,
-    seen: &mut A,
+    sectors: u32,
+    bytes: &[u8],
     more: &[u8],
     new: &mut B,
     output: &mut W,
 ) -> Result<(), Failure>
-    requires { IsTrue (A.keeps_model seen.old) }
-    ensures had { OnOk result (SalvagesHad B.SectorDevice (A.sector_count seen.old) (A.disk seen.old).content more.now
+    ensures had { OnOk result (SalvagesHad B.SectorDevice sectors (image_of bytes.now) more.now
         (W.contents output.old) (W.contents output.new) new.old new.new) }
     ensures well { OnOk result (B.failures new.new ≡ B.failures new.old) }
-    ensures failed { IfErr result (λ failure. HadInPart B.SectorDevice (A.sector_count seen.old) (A.disk seen.old).content failure
-        new.old new.new) }
+    // Where it failed for the device, that is the new one.
+    ensures failed { IfErr result (λ failure. HadInPart B.SectorDevice sectors (image_of bytes.now) failure new.old new.new) }
     ensures untold { IfErr result (λ e. e ≢ Failure.CannotWrite → output.new ≡ output.old) }
     ensures unstopped { IfErr result (λ e. e ≢ Failure.Stopped) }
 {
-    match salvage_over(alloc, seen, new, output) {
+    let mut seen = StillDisk::new(bytes, sectors);
+    match salvage_over(alloc, &mut seen, new, output) {
         Ok(()) => print(more, output),
         Err(failure) => Err(failure),
     }

@@ -8,3 +8,4 @@ mod recorded;
 pub(crate) mod scarred;
 mod sectors;
 mod short_calls;
+mod still_disk;

@@ -1,5 +1,5 @@
 //! Words that run further words.
-ghost use Rattle.std.specs.Prelude.{◌≡◌, ◌≤◌, ◌<◌, ℕ, suc, List, None};
+ghost use Rattle.std.specs.Prelude.{◌≡◌, ◌≤◌, ◌<◌, ◌∷◌, ℕ, suc, List, None, OnOk};
 ghost use Rattle.data_space.specs.Space.{cell_at};
 
 use crate::fault::Fault;
@@ -16,7 +16,8 @@ impl<D: SectorDevice> Forth<D> {
     ghost use Rattle.cell_machine.specs.Frames.{Level, around_of};
     ghost use Rattle.cell_machine.specs.Value.{and_then};
     ghost use Rattle.system_words.specs.declared.words.Service.TheVariants.{Execute, Load};
-    ghost use Rattle.interpreter.specs.State.{World, with_run};
+    ghost use Rattle.interpreter.specs.Begun.{start_now};
+    ghost use Rattle.interpreter.specs.State.{World, place_in, with_run};
     ghost use Rattle.interpreter.specs.Law.{left};
     ghost use Rattle.interpreter.specs.Text.{serve, on_service, may_execute};
     ghost use Rattle.interpreter.specs.Representation.{core, RepresentsWorld, Represents};
@@ -62,6 +63,9 @@ impl<D: SectorDevice> Forth<D> {
             → Entered (suc m) (λ r. and_then
             (on_service (suc m) (λ a due c x. serve m a due c x) Load (around_of levels) (core self.old) (with_run r x))
             (λ c x. left (suc m) levels c x)) result self.old self.new x }
+        // Its start is where its word begins in the text in which that stands now.
+        ensures begun { OnOk result (self.new.loads
+            ≡ start_now (place_in self.old.space) self.old.blocks self.old.space ∷ self.old.loads) }
         ensures spares { Spares result self.old self.new }
     {
         let Ok(block) = self.stack.pop() else {

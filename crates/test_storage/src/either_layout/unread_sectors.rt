@@ -5,7 +5,7 @@ use crate::devices::scarred::{NONE, Scarred};
 use crate::either_layout::saves::made;
 use crate::layout_3::salvages::{SAVES, told};
 use crate::layout_3::saved_images::sector;
-use image_care::{ReadOnlyFile, Taken, examine, read_block, read_through, salvage};
+use image_care::{StillDisk, Taken, examine, read_block, read_through, salvage};
 use journal::Store;
 use recovery::OpenFault;
 use sector_disk::{MemoryDisk, SectorDevice, SectorFile};
@@ -40,7 +40,7 @@ fn salvaged(
     let sectors = disk.sectors();
     let mut old = SectorFile::new(Scarred::new(disk, scars), sectors);
     let (bytes, unread) = read_through(alloc, &mut old)?;
-    let mut seen = SectorFile::new(ReadOnlyFile::Still(bytes), sectors);
+    let mut seen = StillDisk::new(&bytes, sectors);
     let mut new = MemoryDisk::new(alloc, sectors)?;
     let taken = salvage(&mut seen, &mut new).map_err(|_| "not salvaged")?;
     Ok((new, taken, unread))

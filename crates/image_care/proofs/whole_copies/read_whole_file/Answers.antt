@@ -20,3 +20,7 @@ returns-in-Some-clause-in_use g c =
 pub returns-in-None-clause-in_use : goal.returns-in-None-clause-in_use
 returns-in-None-clause-in_use g c = λ is sized.
     absurd (let no : false ≡ true = sym c.in-None.ensures.none ∙ ap is_size c.sectors_in-sectors.ensures ∙ sized in cc)
+
+pub returns-in-Some-clause-no_image : goal.returns-in-Some-clause-no_image
+returns-in-Some-clause-no_image g c = λ other.
+    absurd (let no : true ≡ false = sym c.in-Some.ensures.size ∙ ap is_size c.sectors_in-sectors.ensures ∙ other in cc)

@@ -6,11 +6,12 @@ use Rattle.data_space.specs.Space.{cell_at, with_cell}
 use Rattle.cell_machine.specs.Frames.{Load, around_of}
 use Rattle.cell_machine.specs.Value.{and_then}
 use Rattle.lexicon.specs.Stands.{IsLeft}
+use Rattle.interpreter.specs.Begun.{start_now}
 use Rattle.interpreter.specs.State.{with_load, with_run, place_in}
 use Rattle.interpreter.specs.Law.{left}
 use Rattle.interpreter.specs.Lexicon.{language_of}
 use Rattle.interpreter.specs.Representation.{core}
-use Rattle.interpreter.specs.Told.{AreStarts, IsStart, text_around}
+use Rattle.interpreter.specs.Told.{AreStarts, IsStart, first_byte, text_around}
 use Rattle.interpreter.proofs.Altering.{refused}
 use Rattle.interpreter.proofs.Entering.{not_entered}
 use Rattle.interpreter.proofs.Short.{popping-none}
@@ -103,3 +104,13 @@ returns-clause-entered g c = λ m levels x less stands.
       maps = refl;
       steps = omega arith;
     }
+
+pub returns-clause-begun : goal.returns-clause-begun
+returns-clause-begun g c =
+    let here = c.args.self.now in
+    let start = c.start_before-start in
+    let block : start.result.block ≡ (place_in here.space).block = start.ensures.block ∙ ap (λ p. p.block) c.here_in_stream.ensures in
+    let byte : start.result.to_in ≡ first_byte (place_in here.space).to_in (text_around (place_in here.space) here.blocks here.space) =
+    start.ensures.byte ∙ ap (λ p. first_byte p.to_in (text_around p here.blocks here.space)) c.here_in_stream.ensures in
+    let is : start.result ≡ start_now (place_in here.space) here.blocks here.space = λ i. record { block = block i; to_in = byte i } in
+    c.begin.ensures ∙ ap (λ p. p ∷ here.loads) is
