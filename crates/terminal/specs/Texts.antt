@@ -8,7 +8,7 @@ pub record IsTextOf {R : Type 0} (remaining : R → Option (List ℕ)) (opens : 
   pub opened : opens reader
   pub known : IfSome (remaining reader) (λ left. text ≡ left)
 
--- A text wasn't had: the system refused to open it, or it opened a reader, and that one wasn't read to its end.
+-- A text wasn't had: the system refused to open it, or it opened a reader, of which no more is said.
 abbrev pub IsUnread : {R : Type 0} (opens : R → Type 0) (refuses : Type 0) → Type 0
 IsUnread {R} opens refuses = refuses ⊎ ((reader : R) × opens reader)
 
