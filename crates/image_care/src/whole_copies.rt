@@ -7,9 +7,9 @@ ghost use Rattle.stores.specs.Images.{HasMeaning};
 ghost use Rattle.image_care.specs.Seen.{GaveNoImage, IsOneOf, IsWholeImage, NoneIsWhole, still};
 
 use crate::looking::look;
+use journal::pages::layout::blocks_of_size;
 use recovery::OpenFault;
 use sector_disk::{FileFault, HostFault, HostFile, SectorDevice, SectorFile};
-use shadow::blocks_of_new;
 use std::alloc::Global;
 use std::fs::File;
 use std::os::unix::fs::FileExt;
@@ -301,7 +301,7 @@ pub fn read_whole_file<R: Readings>(
     ensures fault { IfErr result (λ fault. fault ≢ FileFault.Exists) }
 {
     let sectors = sectors_in(len);
-    match blocks_of_new(sectors) {
+    match blocks_of_size(sectors) {
         Some(_) => read_whole(alloc, readings, sectors),
         None => Err(FileFault::InUse),
     }

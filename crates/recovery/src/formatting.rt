@@ -18,12 +18,11 @@ ghost use Rattle.recovery.specs.declared.fault.OpenFault.TheVariants.{BadSize, D
 
 use crate::OpenFault;
 use crate::homes::Homes;
-use crate::label::fits;
 use crate::making::make;
 use crate::null_device::NullDevice;
 use crate::sources::Blanks;
 use journal::Store;
-use journal::layout::{BlockCount, MOST_BLOCKS};
+use journal::layout::{BlockCount, MOST_BLOCKS, fits};
 use sector_disk::{DeviceFault, SectorDevice};
 
 // Makes the blank image. A stop before the end leaves no good label, or what was there.

@@ -18,11 +18,10 @@ ghost use Rattle.journal.specs.Store.{device_of, disk_of, blocks_of, closed_of, 
 ghost use Rattle.journal.specs.Technique.{is_journal};
 ghost use Rattle.journal.specs.Tags.{tag_of, xor_bytes};
 
-use crate::label::fits;
 use crate::places::Places;
 use journal::Store;
 use journal::layout::BlockCount;
-use journal::pages::layout::{GATE, place_sector, record_sector, tag_sector};
+use journal::pages::layout::{GATE, fits, place_sector, record_sector, tag_sector};
 use journal::pages::tags::{add, tag_of};
 use journal::pages::{write_pair, write_sector};
 use recovery::{Blanks, NullDevice, OpenFault, make};

@@ -18,9 +18,10 @@ ghost use Rattle.journal.specs.Store.{device_of, disk_of, blocks_of, closed_of, 
 ghost use Rattle.journal.specs.Technique.{is_journal};
 
 use crate::checking::{is_whole, read_record};
-use crate::label::{is_known_size, read_count};
+use crate::label::read_count;
 use crate::settling::settle;
 use journal::Store;
+use journal::sizes::is_known_size;
 use recovery::OpenFault;
 use sector_disk::SectorDevice;
 

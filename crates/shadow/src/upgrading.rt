@@ -21,13 +21,14 @@ ghost use Rattle.journal.specs.PageLayout.{sectors_for, label_of};
 ghost use Rattle.shadow.specs.Upgraded.{known_blocks, older_version, most_by, older_label_refusal, older_refusal, upgrade_size_refusal, upgrade_refusal, listing_of, reads_to_list};
 
 use crate::carrying::carry;
-use crate::label::{fits, known_blocks};
 use crate::settling::settle;
 use byteorder::{ByteOrder, LittleEndian};
 use journal::layout::{
-    BlockCount, GATE, MOST_BLOCKS, MOST_BLOCKS_1, VERSION, VERSION_1, gate_is_open,
+    BlockCount, GATE, MOST_BLOCKS, MOST_BLOCKS_1, VERSION, VERSION_1, blocks_of_size, gate_is_open,
 };
-use recovery::{OpenFault, UpgradeFault, blocks_of_size, check_label, read_record};
+use journal::pages::layout::fits;
+use journal::sizes::known_blocks;
+use recovery::{OpenFault, UpgradeFault, check_label, read_record};
 use sector_disk::SectorDevice;
 
 // How many blocks both images have.

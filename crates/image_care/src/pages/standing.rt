@@ -10,13 +10,13 @@ ghost use Rattle.shadow.specs.Label.{is_size, blocks_in};
 ghost use Rattle.journal.specs.PageLayout.{current_at};
 ghost use Rattle.image_care.specs.Standing.{holds_whole, is_damaged_under, standing_under, standing_of, salvaged_under};
 
-use journal::pages::layout::{current_sector, free_sector};
+use journal::pages::layout::{blocks_of_size, current_sector, free_sector};
 use journal::pages::read_tag;
 use journal::pages::tags::tag_of;
 use journal::read_pair;
 use recovery::OpenFault;
 use sector_disk::{DeviceFault, SectorDevice};
-use shadow::{blocks_of_new, read_record};
+use shadow::read_record;
 
 /// Where a whole save of a block stands, which is one whose bytes fit the tag beside them.
 #[derive(Clone, Copy, Debug, PartialEq, Eq)]
@@ -146,7 +146,7 @@ pub fn find_standing<D: SectorDevice>(
     // Gate and record are read, and at most both places of the block.
     ensures reads { ReadsAtMost D.SectorDevice device.old device.new 8 }
 {
-    let Some(blocks) = blocks_of_new(device.sectors()) else {
+    let Some(blocks) = blocks_of_size(device.sectors()) else {
         return Err(OpenFault::BadSize);
     };
     if block >= blocks {

@@ -1,4 +1,4 @@
-use Rattle.stores.proofs.KnownSizes.{newer_known}
+use Rattle.journal.proofs.KnownSizes.{newer_known}
 use Rattle.image_care.proofs.whole_copies.seen_on.Goals as goal
 
 pub returns-in-Ok-clause-whole : goal.returns-in-Ok-clause-whole
