@@ -11,7 +11,7 @@ use Rattle.recovery.specs.Label as older
 use Rattle.journal.specs.PageImages as newer_images
 use Rattle.shadow.specs.Label as newer
 use Rattle.journal.specs.PageLayout as newer_layout
-use Rattle.journal.proofs.Sizes.{size_newer, size_older}
+use Rattle.journal.proofs.KnownSizes.{size_newer, size_older}
 use Rattle.embed.specs.Calls.{LeavesBlocks, LeavesNewer, LeavesOlder, device_after}
 use Rattle.embed.specs.Making.{fits_image}
 use Rattle.embed.specs.declared.refusal.Refusal.{Refusal}

@@ -7,7 +7,7 @@ ghost use Rattle.shadow.specs.Upgraded.{known_blocks};
 ghost use Rattle.embed.specs.Refusals.{read_refusal, save_refusal};
 
 use crate::refusal::Refusal;
-use stores::blocks_of_size;
+use journal::sizes::known_blocks;
 
 /// The bytes of a block.
 pub const BLOCK: usize = 1024;
@@ -21,7 +21,7 @@ pub fn check_read(sectors: u32, block: u16, room: usize) -> Result<(), Refusal>
     ensures there { OnOk result (block < known_blocks sectors) }
     ensures whole { OnOk result (room ≡ 1024) }
 {
-    let Some(count) = blocks_of_size(sectors) else {
+    let Some(count) = known_blocks(sectors) else {
         return Err(Refusal::BadSize);
     };
     if block >= count {
@@ -42,7 +42,7 @@ pub fn check_save(sectors: u32, blocks: &[u16], room: usize) -> Result<(), Refus
     ensures there { OnOk result (list_all (λ b. nat_lt b (known_blocks sectors)) blocks.now ≡ true) }
     ensures whole { OnOk result (room ≡ 1024 * length blocks.now) }
 {
-    let Some(count) = blocks_of_size(sectors) else {
+    let Some(count) = known_blocks(sectors) else {
         return Err(Refusal::BadSize);
     };
     if !are_below(blocks, count) {

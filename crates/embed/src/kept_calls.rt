@@ -22,8 +22,9 @@ ghost use Rattle.embed.specs.Saving.{with_blocks};
 use crate::arguments::{check_read, check_save};
 use crate::block_calls::save_all;
 use crate::refusal::Refusal;
+use journal::sizes::known_blocks;
 use sector_disk::SectorDevice;
-use stores::{Store, adopt, blocks_of_size, named, ready, resume};
+use stores::{Store, adopt, named, ready, resume};
 
 /// Opens the image: what a stop has left half done is finished first. It answers the device and whether the gate is
 /// open, and puts the record that the gate names into `listing`. A refusal hands the device back, and leaves `listing`:
@@ -243,7 +244,7 @@ pub fn block_count<D: SectorDevice>(device: &D) -> u16
     requires { is_known_size (D.sector_count device.now) ≡ true }
     ensures { result ≡ known_blocks (D.sector_count device.now) }
 {
-    blocks_of_size(device.sectors()).unwrap()
+    known_blocks(device.sectors()).unwrap()
 }
 
 /// Lets an open store rest of which nothing is pending: its device, and whether the gate is open; the record goes into

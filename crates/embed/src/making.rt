@@ -14,8 +14,8 @@ ghost use Rattle.embed.specs.Costs.{Begins};
 ghost use Rattle.embed.specs.Making.{FormattingLeaves, fits_image, writes_to_format};
 
 use crate::refusal::Refusal;
+use journal::sizes::is_older;
 use sector_disk::SectorDevice;
-use stores::is_older;
 
 /// Makes an image of `blocks` blank blocks, 32 to 3,840: of layout 2 on `3 + 4 * blocks` sectors, of layout 3 on
 /// `32 + 16 * blocks`. A refusal hands the device back: `BadSize` where it has neither, with no call of it, and

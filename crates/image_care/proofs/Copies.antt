@@ -11,7 +11,7 @@ use Rattle.journal.specs.Layout.{fewest_blocks, most_blocks}
 use Rattle.journal.specs.Maps.{block_in}
 use Rattle.journal.specs.PageImages as pages_images
 use Rattle.journal.proofs.Blocks.{at_below, length-below, same_list}
-use Rattle.journal.proofs.Sizes.{size_newer, size_older}
+use Rattle.journal.proofs.KnownSizes.{newer_blocks, older_blocks, size_newer, size_older}
 use Rattle.recovery.specs.Formatted.{blank_blocks}
 use Rattle.recovery.specs.Label as journal
 use Rattle.recovery.specs.Opened.{first_of}
@@ -22,11 +22,10 @@ use Rattle.shadow.specs.Label as pages
 use Rattle.shadow.specs.Label.{is_known_size}
 use Rattle.shadow.specs.Upgraded.{known_blocks}
 use Rattle.stores.specs.Images.{meaning}
-use Rattle.stores.specs.Layouts.{has_size, is_journal, sectors_for}
+use Rattle.journal.specs.Layouts.{has_size, is_journal, sectors_for}
 use Rattle.stores.specs.Opened.{image_refusal}
-use Rattle.stores.specs.declared.sizes.Layout.{Layout}
-use Rattle.stores.specs.declared.sizes.Layout.TheVariants.{Journal, Pages}
-use Rattle.stores.proofs.KnownSizes.{newer_blocks, older_blocks}
+use Rattle.journal.specs.declared.sizes.Layout.{Layout}
+use Rattle.journal.specs.declared.sizes.Layout.TheVariants.{Journal, Pages}
 use Rattle.image_care.specs.Copied.{copied_blocks, copy_refusal, copy_size_refusal, grown, is_size_like}
 use Rattle.image_care.specs.Taken.{given_by}
 use Rattle.image_care.specs.View.{found_by}

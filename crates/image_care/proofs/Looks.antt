@@ -14,7 +14,7 @@ use Rattle.journal.specs.PageLayout as newer_layout
 use Rattle.journal.specs.PageLayout.{current_at}
 use Rattle.journal.specs.Maps.{block_in}
 use Rattle.journal.proofs.Blocks.{all_below, at_below, length-below, same_below}
-use Rattle.journal.proofs.Sizes.{older_count, size_older}
+use Rattle.journal.proofs.KnownSizes.{older_count, size_older}
 use Rattle.recovery.specs.Found.{place_in}
 use Rattle.recovery.specs.Label as older_label
 use Rattle.recovery.specs.Opened as older

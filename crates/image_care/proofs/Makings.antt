@@ -17,7 +17,7 @@ use Rattle.journal.specs.Steps.{InSlots}
 use Rattle.journal.specs.Suits.{suits}
 use Rattle.journal.proofs.Blocks.{at_below, length-below}
 use Rattle.journal.proofs.Choices.{at_false, at_true}
-use Rattle.journal.proofs.Sizes.{older_count, size_newer, size_older}
+use Rattle.journal.proofs.KnownSizes.{newer_count, older_count, size_newer, size_older}
 use Rattle.journal.proofs.Suited.{suits_newer, suits_older}
 use Rattle.recovery.specs.Formatted as journal_made
 use Rattle.recovery.specs.Homes.{HasHomesOf}
@@ -34,11 +34,10 @@ use Rattle.shadow.proofs.Formats as pages_formats
 use Rattle.shadow.proofs.Formats.{AreBlocks}
 use Rattle.shadow.proofs.Makings.{filled_as, making_places, places_made}
 use Rattle.shadow.proofs.Upgrades.{made_stays}
-use Rattle.stores.specs.Layouts.{sectors_for}
-use Rattle.stores.proofs.KnownSizes.{newer_count}
-use Rattle.stores.specs.declared.sizes.Layout.{Layout}
-use Rattle.stores.specs.declared.sizes.Layout.TheVariants.{Journal, Pages}
-use Rattle.stores.specs.declared.sizes.Size.{Size}
+use Rattle.journal.specs.Layouts.{sectors_for}
+use Rattle.journal.specs.declared.sizes.Layout.{Layout}
+use Rattle.journal.specs.declared.sizes.Layout.TheVariants.{Journal, Pages}
+use Rattle.journal.specs.declared.sizes.Size.{Size}
 use Rattle.image_care.specs.Made.{HoldsBlocks, IsMade, IsWhole, KeepsRest, MakingLeaves, writes_to_make}
 
 -- The first blocks that are given.

@@ -3,7 +3,7 @@ ghost use Rattle.std.specs.Prelude.{◌≡◌, ◌<◌, ◌+◌, ◌*◌, ◌++�
 ghost use Rattle.sha2.specs.Hashers.{Holds256};
 ghost use Rattle.sha2.specs.Sha256.{sha256};
 ghost use Rattle.sector_disk.specs.Disk.{MayLeave};
-ghost use Rattle.journal.specs.Calls.{StopsLeave, BeginsAtMost, ReadsAtMost, Passes};
+ghost use Rattle.journal.specs.Calls.{StopsLeave, CostsAtMost, Passes};
 ghost use Rattle.image_care.specs.Examined.{joined_below};
 ghost use Rattle.image_care.specs.View.{found_by, sectors_of};
 
@@ -27,8 +27,7 @@ fn add_block<D: SectorDevice>(
     ensures stops { IsTrue (D.keeps_model device.old)
         → StopsLeave D.SectorDevice device.old device.new (MayLeave (D.disk device.old)) }
     ensures passes { Passes D.SectorDevice device.old device.new result }
-    ensures begins { BeginsAtMost D.SectorDevice device.old device.new 0 0 }
-    ensures reads { ReadsAtMost D.SectorDevice device.old device.new 2 }
+    ensures costs { CostsAtMost D.SectorDevice device.old device.new 0 0 2 }
 {
     let mut bytes = [0; 1024];
     read_pair(device, view.place_of(b), &mut bytes)?;
@@ -50,8 +49,7 @@ fn add_blocks<D: SectorDevice>(
     ensures stops { IsTrue (D.keeps_model device.old)
         → StopsLeave D.SectorDevice device.old device.new (MayLeave (D.disk device.old)) }
     ensures passes { Passes D.SectorDevice device.old device.new result }
-    ensures begins { BeginsAtMost D.SectorDevice device.old device.new 0 0 }
-    ensures reads { ReadsAtMost D.SectorDevice device.old device.new (2 * view.now.blocks.number) }
+    ensures costs { CostsAtMost D.SectorDevice device.old device.new 0 0 (2 * view.now.blocks.number) }
 {
     for b in 0..view.blocks.number {
         add_block(device, view, b, hasher)?;
@@ -71,8 +69,7 @@ pub(crate) fn digest_of_blocks<D: SectorDevice>(
     ensures stops { IsTrue (D.keeps_model device.old)
         → StopsLeave D.SectorDevice device.old device.new (MayLeave (D.disk device.old)) }
     ensures passes { Passes D.SectorDevice device.old device.new result }
-    ensures begins { BeginsAtMost D.SectorDevice device.old device.new 0 0 }
-    ensures reads { ReadsAtMost D.SectorDevice device.old device.new (2 * view.now.blocks.number) }
+    ensures costs { CostsAtMost D.SectorDevice device.old device.new 0 0 (2 * view.now.blocks.number) }
 {
     let mut hasher = Sha256::new();
     add_blocks(device, view, &mut hasher)?;

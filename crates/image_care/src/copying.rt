@@ -11,16 +11,16 @@ ghost use Rattle.recovery.specs.declared.fault.OpenFault.TheVariants.{BadSize, D
 ghost use Rattle.recovery.specs.declared.fault.UpgradeFault.TheVariants.{Old, New};
 ghost use Rattle.shadow.specs.Label.{is_known_size};
 ghost use Rattle.shadow.specs.Upgraded.{known_blocks};
-ghost use Rattle.stores.specs.Layouts.{is_journal, sectors_for};
+ghost use Rattle.journal.specs.Layouts.{is_journal, sectors_for};
 ghost use Rattle.image_care.specs.Copied.{copied_blocks, copy_size_refusal, copy_refusal};
 ghost use Rattle.image_care.specs.Looked.{reads_to_look};
 ghost use Rattle.image_care.specs.Made.{IsMade, KeepsRest, MakingLeaves, writes_to_make};
 
 use crate::laying::lay;
 use crate::looking::look;
+use journal::sizes::{Size, size_by, size_of};
 use recovery::{OpenFault, UpgradeFault};
 use sector_disk::SectorDevice;
-use stores::{Size, size_by, size_of};
 
 // The size of the new image of a copy between devices of so many sectors.
 fn size_of_copy(old: u32, new: u32) -> Result<Size, UpgradeFault>

@@ -7,13 +7,13 @@ ghost use Rattle.journal.specs.Images.{blocks_below};
 ghost use Rattle.journal.specs.Suits.{suits};
 ghost use Rattle.recovery.specs.Label.{is_size};
 ghost use Rattle.recovery.specs.Making.{Carries, reads_below};
-ghost use Rattle.stores.specs.Layouts.{sectors_for};
+ghost use Rattle.journal.specs.Layouts.{sectors_for};
 ghost use Rattle.image_care.specs.Made.{IsMade, KeepsRest, MakingLeaves, writes_to_make};
 
+use journal::sizes::{Layout, Size};
 use recovery::{Homes, Source, UpgradeFault, make};
 use sector_disk::SectorDevice;
 use shadow::Places;
-use stores::{Layout, Size};
 
 // Makes an image of this size. A stop before the end leaves no good label, or what was there.
 pub(crate) fn lay<S: Source, A: SectorDevice, B: SectorDevice>(

@@ -3,7 +3,7 @@ ghost use Rattle.std.specs.Prelude.{◌≡◌, ◌≢◌, ◌⊎◌, ◌≤◌, 
 ghost use Rattle.sector_disk.specs.Counting.{count_up};
 ghost use Rattle.sector_disk.specs.Disk.{MayLeave};
 ghost use Rattle.journal.specs.Chain.{HasMeaning};
-ghost use Rattle.journal.specs.Calls.{StopsLeave, BeginsAtMost, ReadsAtMost, Proceeds};
+ghost use Rattle.journal.specs.Calls.{StopsLeave, BeginsAtMost, ReadsAtMost, CostsAtMost, Proceeds};
 ghost use Rattle.journal.specs.Layout.{sectors_for, label_by, gate_open, count_listed};
 ghost use Rattle.recovery.specs.Label.{label_refusal, label_refusal_by};
 ghost use Rattle.recovery.specs.Opened.{damage_refusal, first_of};
@@ -32,8 +32,7 @@ fn read_label<D: SectorDevice>(device: &mut D, version: u16, blocks: u16) -> Res
     ensures stops { IsTrue (D.keeps_model device.old)
         → StopsLeave D.SectorDevice device.old device.new (MayLeave (D.disk device.old)) }
     ensures passes { Proceeds D.SectorDevice device.old device.new }
-    ensures begins { BeginsAtMost D.SectorDevice device.old device.new 0 0 }
-    ensures reads { ReadsAtMost D.SectorDevice device.old device.new 1 }
+    ensures costs { CostsAtMost D.SectorDevice device.old device.new 0 0 1 }
 {
     let mut label = [0; 512];
     device.read(LABEL, &mut label)?;

@@ -24,10 +24,10 @@ use crate::listing::find;
 use crate::pages::find as find_by_pages;
 use crate::view::{Listing, View};
 use journal::NamedRecord;
-use journal::layout::{BlockCount, MOST_BLOCKS};
-use recovery::{OpenFault, blocks_of_size};
+use journal::layout::{BlockCount, MOST_BLOCKS, blocks_of_size};
+use journal::sizes::is_known_size;
+use recovery::OpenFault;
 use sector_disk::SectorDevice;
-use shadow::is_known_size;
 
 /// Finds where the blocks of an image stand, by reads alone: nothing is written, and nothing synced. How many sectors
 /// the device has tells the layout. The blocks are those that an opening would recover. Takes no memory.

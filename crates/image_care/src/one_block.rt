@@ -2,7 +2,7 @@
 ghost use Rattle.std.specs.Prelude.{◌≡◌, ◌≢◌, ◌⊎◌, ◌<◌, ◌≤◌, ◌+◌, ◌*◌, true, false, None, Some, IsTrue, OnOk, IfOk, IfErr, IfSome, MatchBool, MatchOption, MatchResult};
 ghost use Rattle.sector_disk.specs.Counting.{count_up};
 ghost use Rattle.sector_disk.specs.Disk.{MayLeave};
-ghost use Rattle.journal.specs.Calls.{StopsLeave, BeginsAtMost, ReadsAtMost, Passes, Proceeds};
+ghost use Rattle.journal.specs.Calls.{StopsLeave, BeginsAtMost, ReadsAtMost, CostsAtMost, Passes, Proceeds};
 ghost use Rattle.journal.specs.Maps.{block_in};
 ghost use Rattle.recovery.specs.Label.{is_size};
 ghost use Rattle.recovery.specs.declared.fault.OpenFault.TheVariants.{BadSize, Device};
@@ -86,8 +86,7 @@ fn take_block<D: SectorDevice>(
     ensures stops { IsTrue (D.keeps_model device.old)
         → StopsLeave D.SectorDevice device.old device.new (MayLeave (D.disk device.old)) }
     ensures passes { Proceeds D.SectorDevice device.old device.new }
-    ensures begins { BeginsAtMost D.SectorDevice device.old device.new 0 0 }
-    ensures reads { ReadsAtMost D.SectorDevice device.old device.new 2 }
+    ensures costs { CostsAtMost D.SectorDevice device.old device.new 0 0 2 }
 {
     if b >= view.blocks.number {
         return Ok(None);

@@ -2,7 +2,7 @@
 ghost use Rattle.std.specs.Prelude.{◌≡◌, ◌<◌, ◌∷◌, ◌++◌, [], ℕ, IsTrue, OnOk, IfOk, IfErr, length};
 ghost use Rattle.sector_disk.specs.Counting.{count_up, count_up_by};
 ghost use Rattle.sector_disk.specs.Disk.{MayLeave};
-ghost use Rattle.journal.specs.Calls.{StopsLeave, BeginsAtMost, ReadsAtMost, Proceeds};
+ghost use Rattle.journal.specs.Calls.{StopsLeave, ReadsAtMost, CostsAtMost, Proceeds};
 ghost use Rattle.recovery.specs.Steps.{OnlyRead};
 ghost use Rattle.image_care.specs.Through.{IsNext, WereHad, blank_sector};
 
@@ -51,8 +51,7 @@ fn add_next<D: SectorDevice>(
     ensures stops { IsTrue (D.keeps_model device.old)
         → StopsLeave D.SectorDevice device.old device.new (MayLeave (D.disk device.old)) }
     ensures passes { Proceeds D.SectorDevice device.old device.new }
-    ensures begins { BeginsAtMost D.SectorDevice device.old device.new 0 0 }
-    ensures reads { ReadsAtMost D.SectorDevice device.old device.new 1 }
+    ensures costs { CostsAtMost D.SectorDevice device.old device.new 0 0 1 }
 {
     let mut sector = [0; 512];
     match read_sector(device, k, &mut sector) {
@@ -75,8 +74,7 @@ fn read_sector<D: SectorDevice>(
     ensures stops { IsTrue (D.keeps_model device.old)
         → StopsLeave D.SectorDevice device.old device.new (MayLeave (D.disk device.old)) }
     ensures passes { Proceeds D.SectorDevice device.old device.new }
-    ensures begins { BeginsAtMost D.SectorDevice device.old device.new 0 0 }
-    ensures reads { ReadsAtMost D.SectorDevice device.old device.new 1 }
+    ensures costs { CostsAtMost D.SectorDevice device.old device.new 0 0 1 }
 {
     device.read(k, out)
 }

@@ -14,7 +14,7 @@ ghost use Rattle.recovery.specs.declared.fault.OpenFault.TheVariants.{BadSize, D
 ghost use Rattle.recovery.specs.declared.fault.UpgradeFault.TheVariants.{Old, New};
 ghost use Rattle.shadow.specs.Upgraded.{known_blocks};
 ghost use Rattle.stores.specs.Images.{meaning};
-ghost use Rattle.stores.specs.Layouts as layouts;
+ghost use Rattle.journal.specs.Layouts as layouts;
 ghost use Rattle.image_care.specs.Examined.{reads_to_list};
 ghost use Rattle.image_care.specs.Made.{IsMade, KeepsRest, MakingLeaves, writes_to_make};
 ghost use Rattle.image_care.specs.Salvaged.{IsUndamaged, reads_to_salvage, salvage_refusal, salvaged_blocks, standing_in};
@@ -28,10 +28,10 @@ use crate::salvage_source::{Taken, TakenBlocks, nothing_noted};
 use crate::view::{Listing, View};
 use journal::NamedRecord;
 use journal::layout::BlockCount;
+use journal::sizes::{Layout, Size, size_of};
 use recovery::{OpenFault, UpgradeFault};
 use sector_disk::SectorDevice;
 use shadow::read_record;
-use stores::{Layout, Size, size_of};
 
 // The size of both images of a salvage between devices of so many sectors.
 fn size_of_both(old: u32, new: u32) -> Result<Size, UpgradeFault>

@@ -8,8 +8,8 @@ ghost use Rattle.image_care.specs.Seen.{GaveNoImage, IsOneOf, IsWholeImage, None
 
 use crate::looking::look;
 use crate::still_disk::StillDisk;
+use journal::pages::layout::blocks_of_size;
 use sector_disk::{FileFault, HostFault};
-use shadow::blocks_of_new;
 use std::alloc::Global;
 use std::fs::File;
 use std::os::unix::fs::FileExt;
@@ -198,7 +198,7 @@ pub fn read_whole_file<R: Readings>(
     ensures fault { IfErr result (λ fault. fault ≢ FileFault.Exists) }
 {
     let sectors = sectors_in(len);
-    match blocks_of_new(sectors) {
+    match blocks_of_size(sectors) {
         Some(_) => read_whole(alloc, readings, sectors),
         None => Err(FileFault::InUse),
     }

@@ -6,7 +6,7 @@ use Rattle.sector_disk.specs.Disk.{Image}
 use Rattle.sector_disk.specs.Moments.{Elapses}
 use Rattle.sector_disk.proofs.Moments.{elapses_then}
 use Rattle.sector_disk.specs.declared.device.SectorDevice.{Ghosts}
-use Rattle.journal.specs.Calls.{Passes, Proceeds}
+use Rattle.journal.specs.Calls.{BeginsAtMost, CostsAtMost, Passes, Proceeds}
 
 pub not_both : {T E : Type 0} (result : Result T E) → IsOk result → IsErr result → ⊥
 not_both (Ok x) ok err = cc
@@ -15,6 +15,10 @@ not_both (Err e) ok err = cc
 module _ {D : Type 0} (device : Ghosts D) where
   abbrev pub Widens : Type 0
   Widens = (d : D) (s t : ℕ) (c : Image) → s ≤ t → device.left_since d t c → device.left_since d s c
+
+  -- the writes and syncs of what a run costs
+  pub begins_of : {a b : D} {writes syncs reads : ℕ} → CostsAtMost device a b writes syncs reads → BeginsAtMost device a b writes syncs
+  begins_of costs = record { few_writes = costs.few_writes; few_syncs = costs.few_syncs }
 
   -- the first went well
   failures_then : {T U E F : Type 0} {first : Result T E} {second : Result U F} (a b d : D) → IsOk first

@@ -35,7 +35,7 @@ use Rattle.journal.proofs.Meaning.{pair_same, pick_shut, sound_means}
 use Rattle.journal.proofs.PageMeaning as pages_meaning
 use Rattle.journal.proofs.PageMeaning.{clean_sound, record_named}
 use Rattle.journal.proofs.Paging.{wider}
-use Rattle.journal.proofs.Sizes.{size_older, size_newer}
+use Rattle.journal.proofs.KnownSizes.{size_older, size_newer}
 use Rattle.journal.proofs.Spilled.{nothing_spilled}
 use Rattle.journal.proofs.Suited.{newer_suits, suits_newer, suits_older}
 use Rattle.journal.proofs.Stops.{places_apart, current_apart, before_gate, sound_kept}

@@ -6,6 +6,7 @@ pub mod Costs
 pub mod Images
 pub mod Layout
 pub mod Layout1
+pub mod Layouts
 pub mod Maps
 pub mod PageCalls
 pub mod PageClean

@@ -2,7 +2,7 @@
 ghost use Rattle.std.specs.Prelude.{◌≡◌, ◌<◌, ◌+◌, ◌^◌, ◌++◌, ℕ, List, IsTrue, OnOk};
 ghost use Rattle.sha2.specs.Hashers.{Holds256};
 ghost use Rattle.sector_disk.specs.Disk.{MayLeave};
-ghost use Rattle.journal.specs.Calls.{StopsLeave, BeginsAtMost, ReadsAtMost, Passes};
+ghost use Rattle.journal.specs.Calls.{StopsLeave, CostsAtMost, Passes};
 ghost use Rattle.journal.specs.Images.{pair_at};
 
 use sector_disk::{DeviceFault, SectorDevice};
@@ -21,8 +21,7 @@ fn add_sector<D: SectorDevice>(
     ensures stops { IsTrue (D.keeps_model device.old)
         → StopsLeave D.SectorDevice device.old device.new (MayLeave (D.disk device.old)) }
     ensures passes { Passes D.SectorDevice device.old device.new result }
-    ensures begins { BeginsAtMost D.SectorDevice device.old device.new 0 0 }
-    ensures reads { ReadsAtMost D.SectorDevice device.old device.new 1 }
+    ensures costs { CostsAtMost D.SectorDevice device.old device.new 0 0 1 }
 {
     let mut bytes = [0; 512];
     device.read(k, &mut bytes)?;
@@ -44,8 +43,7 @@ pub(crate) fn add_pair<D: SectorDevice>(
     ensures stops { IsTrue (D.keeps_model device.old)
         → StopsLeave D.SectorDevice device.old device.new (MayLeave (D.disk device.old)) }
     ensures passes { Passes D.SectorDevice device.old device.new result }
-    ensures begins { BeginsAtMost D.SectorDevice device.old device.new 0 0 }
-    ensures reads { ReadsAtMost D.SectorDevice device.old device.new 2 }
+    ensures costs { CostsAtMost D.SectorDevice device.old device.new 0 0 2 }
 {
     add_sector(device, k, hasher)?;
     add_sector(device, k + 1, hasher)

@@ -1,7 +1,7 @@
 // By which technique blocks are saved, and where it has them.
 ghost use Rattle.std.specs.Prelude.{◌≡◌, ◌⊎◌, ◌<◌, ◌≤◌, ◌+◌, ◌*◌, ◌^◌, ℕ, List, not, length, IsTrue, OnOk, OnErr};
 ghost use Rattle.sector_disk.specs.Disk.{MayLeave};
-ghost use Rattle.journal.specs.Calls.{StopsLeave, BeginsAtMost, ReadsAtMost, Passes};
+ghost use Rattle.journal.specs.Calls.{StopsLeave, CostsAtMost, Passes};
 ghost use Rattle.journal.specs.Costs.{each_reads, each_writes, more_writes, save_syncs, spill_reads, spill_writes};
 ghost use Rattle.journal.specs.Images.{home_of, HasHomes};
 ghost use Rattle.journal.specs.Layout.{most_blocks, count_listed, open_gate_bytes};
@@ -102,8 +102,7 @@ impl Technique {
             → StopsLeave D.SectorDevice device.old device.new (MayLeave (D.disk device.old)) }
         ensures suits { suits D.SectorDevice device.new ≡ suits D.SectorDevice device.old }
         ensures passes { Passes D.SectorDevice device.old device.new result }
-        ensures begins { BeginsAtMost D.SectorDevice device.old device.new 0 0 }
-        ensures reads { ReadsAtMost D.SectorDevice device.old device.new 2 }
+        ensures costs { CostsAtMost D.SectorDevice device.old device.new 0 0 2 }
     {
         let k = self.latest_sector(blocks, pending, b);
         read_pair(device, k, out)
@@ -146,8 +145,8 @@ impl Technique {
             → StopsLeave D.SectorDevice device.old device.new (IsAsSynced (InSpill self.now b) (D.disk device.old)) }
         ensures suits { suits D.SectorDevice device.new ≡ suits D.SectorDevice device.old }
         ensures passes { Passes D.SectorDevice device.old device.new result }
-        ensures begins { BeginsAtMost D.SectorDevice device.old device.new (spill_writes (is_journal self.now)) 0 }
-        ensures reads { ReadsAtMost D.SectorDevice device.old device.new (spill_reads (is_journal self.now)) }
+        ensures costs { CostsAtMost D.SectorDevice device.old device.new
+            (spill_writes (is_journal self.now)) 0 (spill_reads (is_journal self.now)) }
     {
         match self {
             Technique::Journal => write_pair(device, slot_sector(b), bytes),
@@ -188,11 +187,9 @@ impl Technique {
             → OnOk result (NamesLatest blocks.number named.is_open named.listing pending.now (D.disk device.new).content) }
         ensures suits { suits D.SectorDevice device.new ≡ suits D.SectorDevice device.old }
         ensures passes { Passes D.SectorDevice device.old device.new result }
-        ensures begins { BeginsAtMost D.SectorDevice device.old device.new
+        ensures costs { CostsAtMost D.SectorDevice device.old device.new
             (each_writes (is_journal self.old) * count_listed pending.now blocks.number + more_writes (is_journal self.old))
-            (save_syncs (is_journal self.old)) }
-        ensures reads { ReadsAtMost D.SectorDevice device.old device.new
-            (each_reads (is_journal self.old) * count_listed pending.now blocks.number) }
+            (save_syncs (is_journal self.old)) (each_reads (is_journal self.old) * count_listed pending.now blocks.number) }
     {
         match self {
             Technique::Journal => commit::save(device, blocks, pending),
@@ -222,8 +219,7 @@ impl NamedRecord {
             (λ c. pages_steps.HasBlocks blocks.number (current_of self.old.listing (D.disk device.old).content) c
             ⊎ pages_steps.HasBlocks blocks.number (pages_steps.merged self.old.listing pending.now (D.disk device.old).content) c) }
         ensures passes { Passes D.SectorDevice device.old device.new result }
-        ensures begins { BeginsAtMost D.SectorDevice device.old device.new 2 2 }
-        ensures reads { ReadsAtMost D.SectorDevice device.old device.new 0 }
+        ensures costs { CostsAtMost D.SectorDevice device.old device.new 2 2 0 }
     {
         let was_open = self.is_open;
         match pages::save(

@@ -3,7 +3,7 @@ ghost use Rattle.std.specs.Prelude.{◌≡◌, ◌≢◌, ◌⊎◌, ◌<◌, �
 ghost use Rattle.sector_disk.specs.Counting.{count_up};
 ghost use Rattle.sector_disk.specs.Disk.{Image, MayLeave};
 ghost use Rattle.sector_disk.specs.Moments.{Elapses};
-ghost use Rattle.journal.specs.Calls.{StopsLeave, BeginsAtMost, ReadsAtMost, Passes};
+ghost use Rattle.journal.specs.Calls.{StopsLeave, BeginsAtMost, ReadsAtMost, CostsAtMost, Passes};
 ghost use Rattle.journal.specs.Clean.{IsClean};
 ghost use Rattle.journal.specs.Images.{Means};
 ghost use Rattle.journal.specs.Layout.{sectors_for};
@@ -18,12 +18,11 @@ ghost use Rattle.recovery.specs.declared.fault.OpenFault.TheVariants.{BadSize, D
 
 use crate::OpenFault;
 use crate::homes::Homes;
-use crate::label::fits;
 use crate::making::make;
 use crate::null_device::NullDevice;
 use crate::sources::Blanks;
 use journal::Store;
-use journal::layout::{BlockCount, MOST_BLOCKS};
+use journal::layout::{BlockCount, MOST_BLOCKS, fits};
 use sector_disk::{DeviceFault, SectorDevice};
 
 // Makes the blank image. A stop before the end leaves no good label, or what was there.
@@ -36,8 +35,7 @@ fn make_blank<D: SectorDevice>(device: &mut D, blocks: BlockCount) -> Result<(),
     ensures stops { IsTrue (D.keeps_sectors device.old)
         → StopsLeave D.SectorDevice device.old device.new (FormatLeaves blocks.number (D.disk device.old)) }
     ensures passes { Passes D.SectorDevice device.old device.new result }
-    ensures begins { BeginsAtMost D.SectorDevice device.old device.new (2 * blocks.number + 4) 4 }
-    ensures reads { ReadsAtMost D.SectorDevice device.old device.new 1 }
+    ensures costs { CostsAtMost D.SectorDevice device.old device.new (2 * blocks.number + 4) 4 1 }
 {
     match make(
         &mut Blanks,

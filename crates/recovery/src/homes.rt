@@ -2,7 +2,7 @@
 ghost use Rattle.std.specs.Prelude.{◌≡◌, ◌≢◌, ◌<◌, ◌≤◌, ◌+◌, ℕ, true, List, IsTrue, OnOk, replicate};
 ghost use Rattle.std.proofs.Common.{rules};
 ghost use Rattle.sector_disk.specs.Disk.{Image, written};
-ghost use Rattle.journal.specs.Calls.{StopsLeave, BeginsAtMost, ReadsAtMost, Passes};
+ghost use Rattle.journal.specs.Calls.{StopsLeave, CostsAtMost, Passes};
 ghost use Rattle.journal.specs.Layout.{sectors_for, label_of};
 ghost use Rattle.journal.specs.Steps.{InSlots, WritesOnly, IsAsSynced};
 ghost use Rattle.recovery.specs.Homes.{HasHomesBelow, HasHomesOf, homes_apart, slots_apart};
@@ -85,8 +85,7 @@ fn fill_head<D: SectorDevice>(device: &mut D) -> Result<(), DeviceFault>
     ensures stops { IsTrue (D.keeps_sectors device.old)
         → StopsLeave D.SectorDevice device.old device.new (IsAsSynced (λ k. k ≢ 0) (D.disk device.old)) }
     ensures passes { Passes D.SectorDevice device.old device.new result }
-    ensures begins { BeginsAtMost D.SectorDevice device.old device.new 2 0 }
-    ensures reads { ReadsAtMost D.SectorDevice device.old device.new 0 }
+    ensures costs { CostsAtMost D.SectorDevice device.old device.new 2 0 0 }
 {
     device.write(GATE, &[0; 512])?;
     device.write(RECORD, &[0; 512])

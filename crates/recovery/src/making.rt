@@ -1,7 +1,7 @@
 //! An image is made: its blocks come from a source and are laid by a layout, and its label is written last.
 ghost use Rattle.std.specs.Prelude.{◌≡◌, ◌≢◌, ◌<◌, ◌+◌, ◌*◌, ℕ, List, false, IsTrue, OnOk, replicate};
 ghost use Rattle.sector_disk.specs.Disk.{written, settled};
-ghost use Rattle.journal.specs.Calls.{StopsLeave, BeginsAtMost, ReadsAtMost, Passes};
+ghost use Rattle.journal.specs.Calls.{StopsLeave, ReadsAtMost, CostsAtMost, Passes};
 ghost use Rattle.journal.specs.Layout.{most_blocks};
 ghost use Rattle.journal.specs.Steps.{WritesOnly, IsAsSynced};
 ghost use Rattle.recovery.specs.Making.{InUnit, IsApart, IsUnlabelled, IsReady, IsMade, TakenAway, Sealed, WrittenLeaves, MakingLeaves, KeepsUnits, Carries, suits, reads_below};
@@ -22,8 +22,7 @@ fn write_label<D: SectorDevice>(device: &mut D, bytes: &[u8; 512]) -> Result<(),
         → StopsLeave D.SectorDevice device.old device.new (IsAsSynced (InUnit (D.disk device.old) 0) (D.disk device.old)) }
     ensures passes { Passes D.SectorDevice device.old device.new result }
     ensures units { KeepsUnits D.SectorDevice false device.old device.new }
-    ensures begins { BeginsAtMost D.SectorDevice device.old device.new 1 1 }
-    ensures reads { ReadsAtMost D.SectorDevice device.old device.new 0 }
+    ensures costs { CostsAtMost D.SectorDevice device.old device.new 1 1 0 }
 {
     device.write(LABEL, bytes)?;
     device.sync()
@@ -40,8 +39,7 @@ fn unlabel<D: SectorDevice>(device: &mut D, label: &[u8; 512]) -> Result<(), Dev
         → StopsLeave D.SectorDevice device.old device.new (TakenAway label.now (D.disk device.old)) }
     ensures passes { Passes D.SectorDevice device.old device.new result }
     ensures units { KeepsUnits D.SectorDevice false device.old device.new }
-    ensures begins { BeginsAtMost D.SectorDevice device.old device.new 1 2 }
-    ensures reads { ReadsAtMost D.SectorDevice device.old device.new 1 }
+    ensures costs { CostsAtMost D.SectorDevice device.old device.new 1 2 1 }
 {
     let mut found = [0; 512];
     settle(device, &mut found)?;
@@ -62,8 +60,7 @@ fn seal<D: SectorDevice>(device: &mut D, label: &[u8; 512]) -> Result<(), Device
         → StopsLeave D.SectorDevice device.old device.new (Sealed label.now (D.disk device.old)) }
     ensures passes { Passes D.SectorDevice device.old device.new result }
     ensures units { KeepsUnits D.SectorDevice false device.old device.new }
-    ensures begins { BeginsAtMost D.SectorDevice device.old device.new 1 1 }
-    ensures reads { ReadsAtMost D.SectorDevice device.old device.new 0 }
+    ensures costs { CostsAtMost D.SectorDevice device.old device.new 1 1 0 }
 {
     write_label(device, label)
 }

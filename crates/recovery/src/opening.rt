@@ -17,10 +17,9 @@ ghost use Rattle.recovery.specs.declared.fault.OpenFault.{OpenFault};
 ghost use Rattle.recovery.specs.declared.fault.OpenFault.TheVariants.{BadSize, Device, Damaged};
 
 use crate::OpenFault;
-use crate::label::blocks_of_size;
 use crate::recovering::recover;
 use journal::Store;
-use journal::layout::{BlockCount, MOST_BLOCKS, VERSION};
+use journal::layout::{BlockCount, MOST_BLOCKS, VERSION, blocks_of_size};
 use sector_disk::SectorDevice;
 
 /// Makes an image of layout 2 ready for a store after a stop, and answers how many blocks it has. What an open gate

@@ -1,7 +1,7 @@
 // The first steps on an image, whatever a stop left unsynced.
 ghost use Rattle.std.specs.Prelude.{◌≡◌, ◌≢◌, ◌⊎◌, ◌<◌, ◌≤◌, ◌+◌, false, None, Some, IsTrue, OnOk, MatchResult};
 ghost use Rattle.sector_disk.specs.Disk.{MayLeave, settled};
-ghost use Rattle.journal.specs.Calls.{StopsLeave, BeginsAtMost, ReadsAtMost, Passes, Proceeds};
+ghost use Rattle.journal.specs.Calls.{StopsLeave, CostsAtMost, Passes, Proceeds};
 ghost use Rattle.journal.specs.Layout.{label_by};
 ghost use Rattle.recovery.specs.Label.{label_refusal_by};
 ghost use Rattle.recovery.specs.Making.{KeepsUnits};
@@ -28,8 +28,7 @@ pub(crate) fn settle<D: SectorDevice>(
         → StopsLeave D.SectorDevice device.old device.new (MayLeave (D.disk device.old)) }
     ensures units { KeepsUnits D.SectorDevice false device.old device.new }
     ensures passes { Passes D.SectorDevice device.old device.new result }
-    ensures begins { BeginsAtMost D.SectorDevice device.old device.new 0 1 }
-    ensures reads { ReadsAtMost D.SectorDevice device.old device.new 1 }
+    ensures costs { CostsAtMost D.SectorDevice device.old device.new 0 1 1 }
 {
     device.sync()?;
     device.read(LABEL, found)
@@ -53,8 +52,7 @@ pub(crate) fn start<D: SectorDevice>(
     ensures stops { IsTrue (D.keeps_model device.old)
         → StopsLeave D.SectorDevice device.old device.new (MayLeave (D.disk device.old)) }
     ensures passes { Proceeds D.SectorDevice device.old device.new }
-    ensures begins { BeginsAtMost D.SectorDevice device.old device.new 0 1 }
-    ensures reads { ReadsAtMost D.SectorDevice device.old device.new 1 }
+    ensures costs { CostsAtMost D.SectorDevice device.old device.new 0 1 1 }
 {
     let mut label = [0; 512];
     settle(device, &mut label)?;

@@ -17,11 +17,10 @@ ghost use Rattle.recovery.specs.declared.fault.UpgradeFault.TheVariants.{Old, Ne
 
 use crate::homes::Homes;
 use crate::journal_blocks::JournalBlocks;
-use crate::label::blocks_of_size;
 use crate::making::make;
 use crate::recovering::recover;
 use crate::{OpenFault, UpgradeFault};
-use journal::layout::{BlockCount, MOST_BLOCKS_1, VERSION_1};
+use journal::layout::{BlockCount, MOST_BLOCKS_1, VERSION_1, blocks_of_size};
 use sector_disk::SectorDevice;
 
 // How many blocks both images have.

@@ -3,7 +3,7 @@ ghost use Rattle.std.specs.Prelude.{◌≡◌, ◌≢◌, ◌<◌, ◌≤◌, �
 ghost use Rattle.sector_disk.specs.Counting.{count_up};
 ghost use Rattle.sector_disk.specs.Disk.{Image, MayLeave, written};
 ghost use Rattle.sector_disk.specs.Moments.{Elapses};
-ghost use Rattle.journal.specs.Calls.{StopsLeave, BeginsAtMost, ReadsAtMost};
+ghost use Rattle.journal.specs.Calls.{StopsLeave, BeginsAtMost, ReadsAtMost, CostsAtMost};
 ghost use Rattle.journal.specs.Layout.{most_blocks};
 ghost use Rattle.journal.specs.Maps.{fresh};
 ghost use Rattle.recovery.specs.Formatted.{blank_blocks};
@@ -18,11 +18,10 @@ ghost use Rattle.journal.specs.Store.{device_of, disk_of, blocks_of, closed_of, 
 ghost use Rattle.journal.specs.Technique.{is_journal};
 ghost use Rattle.journal.specs.Tags.{tag_of, xor_bytes};
 
-use crate::label::fits;
 use crate::places::Places;
 use journal::Store;
 use journal::layout::BlockCount;
-use journal::pages::layout::{GATE, place_sector, record_sector, tag_sector};
+use journal::pages::layout::{GATE, fits, place_sector, record_sector, tag_sector};
 use journal::pages::tags::{add, tag_of};
 use journal::pages::{write_pair, write_sector};
 use recovery::{Blanks, NullDevice, OpenFault, make};
@@ -43,8 +42,7 @@ fn write_place<D: SectorDevice>(
         ≡ written (written (written (D.disk device.old) k (take 512 bytes.now)) (k + 1) (drop 512 bytes.now)) (k + 2) (tag.now ++ replicate 480 0)) }
     ensures spoils { Spoils D.SectorDevice PastLabel device.old device.new }
     ensures passes { Passes D.SectorDevice device.old device.new result }
-    ensures begins { BeginsAtMost D.SectorDevice device.old device.new 3 0 }
-    ensures reads { ReadsAtMost D.SectorDevice device.old device.new 0 }
+    ensures costs { CostsAtMost D.SectorDevice device.old device.new 3 0 0 }
 {
     write_pair(device, k, bytes)?;
     write_sector(device, k + 2, &tag_sector(tag))
@@ -63,8 +61,7 @@ fn write_places<D: SectorDevice>(
         → OnOk result (D.disk device.new ≡ placed b bytes.now (tag.now ++ replicate 480 0) (D.disk device.old)) }
     ensures spoils { Spoils D.SectorDevice PastLabel device.old device.new }
     ensures passes { Passes D.SectorDevice device.old device.new result }
-    ensures begins { BeginsAtMost D.SectorDevice device.old device.new 4 0 }
-    ensures reads { ReadsAtMost D.SectorDevice device.old device.new 0 }
+    ensures costs { CostsAtMost D.SectorDevice device.old device.new 4 0 0 }
 {
     write_place(device, place_sector(b, false), bytes, tag)?;
     write_sector(device, place_sector(b, true) + 2, &[0; 512])
@@ -88,8 +85,7 @@ pub(crate) fn write_block<D: SectorDevice>(
     ensures sum { OnOk result (sum.new ≡ xor_bytes sum.old (tag_of b bytes.now)) }
     ensures spoils { Spoils D.SectorDevice PastLabel device.old device.new }
     ensures passes { Passes D.SectorDevice device.old device.new result }
-    ensures begins { BeginsAtMost D.SectorDevice device.old device.new 4 0 }
-    ensures reads { ReadsAtMost D.SectorDevice device.old device.new 0 }
+    ensures costs { CostsAtMost D.SectorDevice device.old device.new 4 0 0 }
 {
     let tag = tag_of(b, bytes);
     write_places(device, b, bytes, &tag)?;
@@ -107,8 +103,7 @@ pub(crate) fn fill_head<D: SectorDevice>(
         ≡ written (written (written (D.disk device.old) gate_at (replicate 512 0)) (record_at true) (replicate 512 0)) (record_at false) listing.now) }
     ensures spoils { Spoils D.SectorDevice PastLabel device.old device.new }
     ensures passes { Passes D.SectorDevice device.old device.new result }
-    ensures begins { BeginsAtMost D.SectorDevice device.old device.new 3 0 }
-    ensures reads { ReadsAtMost D.SectorDevice device.old device.new 0 }
+    ensures costs { CostsAtMost D.SectorDevice device.old device.new 3 0 0 }
 {
     write_sector(device, GATE, &[0; 512])?;
     fill_records(device, listing)
@@ -120,8 +115,7 @@ fn fill_records<D: SectorDevice>(device: &mut D, listing: &[u8; 512]) -> Result<
         ≡ written (written (D.disk device.old) (record_at true) (replicate 512 0)) (record_at false) listing.now) }
     ensures spoils { Spoils D.SectorDevice PastLabel device.old device.new }
     ensures passes { Passes D.SectorDevice device.old device.new result }
-    ensures begins { BeginsAtMost D.SectorDevice device.old device.new 2 0 }
-    ensures reads { ReadsAtMost D.SectorDevice device.old device.new 0 }
+    ensures costs { CostsAtMost D.SectorDevice device.old device.new 2 0 0 }
 {
     write_sector(device, record_sector(true), &[0; 512])?;
     write_sector(device, record_sector(false), listing)
@@ -142,8 +136,7 @@ fn make_blank<D: SectorDevice>(
     ensures stops { IsTrue (D.keeps_model device.old)
         → StopsLeave D.SectorDevice device.old device.new (FormatLeaves blocks.number (D.disk device.old)) }
     ensures passes { Passes D.SectorDevice device.old device.new result }
-    ensures begins { BeginsAtMost D.SectorDevice device.old device.new (4 * blocks.number + 5) 4 }
-    ensures reads { ReadsAtMost D.SectorDevice device.old device.new 1 }
+    ensures costs { CostsAtMost D.SectorDevice device.old device.new (4 * blocks.number + 5) 4 1 }
 {
     let mut places = Places::new();
     match make(

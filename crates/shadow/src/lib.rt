@@ -13,7 +13,7 @@ mod upgrading;
 
 pub use checking::read_record;
 pub use formatting::format;
-pub use label::{blocks_of_new, is_known_size, read_count};
+pub use label::read_count;
 pub use opening::{Found, look, open, ready};
 pub use places::Places;
 pub use upgrading::upgrade;

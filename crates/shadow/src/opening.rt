@@ -3,7 +3,7 @@ ghost use Rattle.std.specs.Prelude.{◌≡◌, ◌≢◌, ◌⊎◌, ◌<◌, �
 ghost use Rattle.sector_disk.specs.Counting.{count_up};
 ghost use Rattle.sector_disk.specs.Disk.{Image, MayLeave, settled};
 ghost use Rattle.sector_disk.specs.Moments.{Elapses};
-ghost use Rattle.journal.specs.Calls.{StopsLeave, BeginsAtMost, ReadsAtMost, Proceeds};
+ghost use Rattle.journal.specs.Calls.{StopsLeave, BeginsAtMost, ReadsAtMost, CostsAtMost, Proceeds};
 ghost use Rattle.journal.specs.Layout.{fewest_blocks, most_blocks};
 ghost use Rattle.journal.specs.Maps.{fresh};
 ghost use Rattle.recovery.specs.Recovered.{Tells};
@@ -18,9 +18,10 @@ ghost use Rattle.journal.specs.Store.{device_of, disk_of, blocks_of, closed_of, 
 ghost use Rattle.journal.specs.Technique.{is_journal};
 
 use crate::checking::{is_whole, read_record};
-use crate::label::{is_known_size, read_count};
+use crate::label::read_count;
 use crate::settling::settle;
 use journal::Store;
+use journal::sizes::is_known_size;
 use recovery::OpenFault;
 use sector_disk::SectorDevice;
 
@@ -52,8 +53,7 @@ fn start<D: SectorDevice>(device: &mut D) -> Result<u16, OpenFault>
     ensures stops { IsTrue (D.keeps_model device.old)
         → StopsLeave D.SectorDevice device.old device.new (MayLeave (D.disk device.old)) }
     ensures passes { Proceeds D.SectorDevice device.old device.new }
-    ensures begins { BeginsAtMost D.SectorDevice device.old device.new 0 1 }
-    ensures reads { ReadsAtMost D.SectorDevice device.old device.new 1 }
+    ensures costs { CostsAtMost D.SectorDevice device.old device.new 0 1 1 }
 {
     let mut label = [0; 512];
     settle(device, &mut label)?;
@@ -81,8 +81,7 @@ fn look_into<D: SectorDevice>(
     ensures stops { IsTrue (D.keeps_model device.old)
         → StopsLeave D.SectorDevice device.old device.new (MayLeave (D.disk device.old)) }
     ensures passes { Proceeds D.SectorDevice device.old device.new }
-    ensures begins { BeginsAtMost D.SectorDevice device.old device.new 0 0 }
-    ensures reads { ReadsAtMost D.SectorDevice device.old device.new (3 * blocks + 2) }
+    ensures costs { CostsAtMost D.SectorDevice device.old device.new 0 0 (3 * blocks + 2) }
 {
     let is_open = read_record(device, listing)?;
     if is_whole(device, blocks, listing)? {
@@ -149,8 +148,7 @@ fn survey<D: SectorDevice>(
     ensures stops { IsTrue (D.keeps_model device.old)
         → StopsLeave D.SectorDevice device.old device.new (MayLeave (D.disk device.old)) }
     ensures passes { Proceeds D.SectorDevice device.old device.new }
-    ensures begins { BeginsAtMost D.SectorDevice device.old device.new 0 1 }
-    ensures reads { ReadsAtMost D.SectorDevice device.old device.new (3 * blocks_in (D.sector_count device.old) + 3) }
+    ensures costs { CostsAtMost D.SectorDevice device.old device.new 0 1 (3 * blocks_in (D.sector_count device.old) + 3) }
 {
     let blocks = start(device)?;
     match look_into(device, blocks, listing) {

@@ -3,7 +3,7 @@ ghost use Rattle.std.specs.Prelude.{◌≡◌, ◌≢◌, ◌⊎◌, ◌<◌, �
 ghost use Rattle.sector_disk.specs.Counting.{count_up};
 ghost use Rattle.sector_disk.specs.Disk.{Image, MayLeave, settled};
 ghost use Rattle.journal.specs.Calls as journal;
-ghost use Rattle.journal.specs.Calls.{StopsLeave, BeginsAtMost, ReadsAtMost};
+ghost use Rattle.journal.specs.Calls.{StopsLeave, BeginsAtMost, ReadsAtMost, CostsAtMost};
 ghost use Rattle.journal.specs.Images as older;
 ghost use Rattle.journal.specs.Layout as older_layout;
 ghost use Rattle.journal.specs.Layout.{most_blocks};
@@ -21,13 +21,14 @@ ghost use Rattle.journal.specs.PageLayout.{sectors_for, label_of};
 ghost use Rattle.shadow.specs.Upgraded.{known_blocks, older_version, most_by, older_label_refusal, older_refusal, upgrade_size_refusal, upgrade_refusal, listing_of, reads_to_list};
 
 use crate::carrying::carry;
-use crate::label::{fits, known_blocks};
 use crate::settling::settle;
 use byteorder::{ByteOrder, LittleEndian};
 use journal::layout::{
-    BlockCount, GATE, MOST_BLOCKS, MOST_BLOCKS_1, VERSION, VERSION_1, gate_is_open,
+    BlockCount, GATE, MOST_BLOCKS, MOST_BLOCKS_1, VERSION, VERSION_1, blocks_of_size, gate_is_open,
 };
-use recovery::{OpenFault, UpgradeFault, blocks_of_size, check_label, read_record};
+use journal::pages::layout::fits;
+use journal::sizes::known_blocks;
+use recovery::{OpenFault, UpgradeFault, check_label, read_record};
 use sector_disk::SectorDevice;
 
 // How many blocks both images have.
@@ -103,8 +104,7 @@ fn start<D: SectorDevice>(device: &mut D, blocks: u16) -> Result<u16, OpenFault>
     ensures stops { IsTrue (D.keeps_model device.old)
         → StopsLeave D.SectorDevice device.old device.new (MayLeave (D.disk device.old)) }
     ensures passes { journal.Proceeds D.SectorDevice device.old device.new }
-    ensures begins { BeginsAtMost D.SectorDevice device.old device.new 0 1 }
-    ensures reads { ReadsAtMost D.SectorDevice device.old device.new 1 }
+    ensures costs { CostsAtMost D.SectorDevice device.old device.new 0 1 1 }
 {
     let mut label = [0; 512];
     settle(device, &mut label)?;

@@ -3,4 +3,3 @@ pub mod Opened
 pub mod OwnMaps
 pub mod Resting
 pub mod Results
-pub mod KnownSizes

@@ -21,8 +21,7 @@ use Rattle.stores.specs.Images.{HasMeaning, meaning}
 use Rattle.stores.specs.Opened.{OpeningLeaves, image_refusal, newer_refusal, reads_for, syncs_for, writes_for}
 use Rattle.journal.proofs.Choices.{at_true, at_false, from_true, from_false}
 use Rattle.stores.proofs.Damage.{none_told, refusal_told}
-use Rattle.journal.proofs.Sizes.{older_count}
-use Rattle.stores.proofs.KnownSizes.{newer_count, older_known}
+use Rattle.journal.proofs.KnownSizes.{newer_count, older_count, older_known}
 
 module _ (sectors : ℕ) (image : Image) where
   abbrev OlderMeaning : Type 0

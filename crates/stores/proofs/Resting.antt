@@ -12,7 +12,7 @@ use Rattle.journal.proofs.Stores.{told_by}
 use Rattle.recovery.specs.Label.{is_size}
 use Rattle.shadow.specs.Upgraded.{known_blocks}
 use Rattle.stores.specs.Resting.{HasRested, Names, Rests, StandsAsRested}
-use Rattle.stores.proofs.KnownSizes.{newer_blocks, older_blocks}
+use Rattle.journal.proofs.KnownSizes.{newer_blocks, older_blocks}
 
 by_journal : (t : Technique) → is_journal t ≡ true → t ≡ Journal
 by_journal Journal is = refl

@@ -1,5 +1,4 @@
 pub mod Damage
 pub mod Images
-pub mod Layouts
 pub mod Opened
 pub mod Resting

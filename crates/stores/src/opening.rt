@@ -15,8 +15,8 @@ ghost use Rattle.stores.specs.Opened.{image_refusal, IsReady, OpeningLeaves, end
 ghost use Rattle.journal.specs.Suits.{suits};
 ghost use Rattle.journal.specs.Store.{device_of, disk_of, blocks_of, sectors_of, closed_of, is_pending, StandsFor};
 
-use crate::sizes::is_older;
 use journal::Store;
+use journal::sizes::is_older;
 use recovery::OpenFault;
 use sector_disk::SectorDevice;
 

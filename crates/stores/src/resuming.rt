@@ -6,7 +6,7 @@ ghost use Rattle.shadow.specs.Label.{is_known_size};
 ghost use Rattle.shadow.specs.Upgraded.{known_blocks};
 ghost use Rattle.stores.specs.Resting.{HasRested, Names, StandsAsRested};
 
-use crate::sizes::is_older;
+use journal::sizes::is_older;
 use journal::{NamedRecord, Store, Technique};
 use sector_disk::SectorDevice;
 

@@ -17,10 +17,10 @@ use Rattle.recovery.specs.declared.fault.UpgradeFault.{UpgradeFault}
 use Rattle.recovery.specs.declared.fault.UpgradeFault.TheVariants.{Old, New}
 use Rattle.shadow.specs.Label.{blocks_in, is_known_size, is_size as is_pages_size}
 use Rattle.shadow.specs.Upgraded.{known_blocks}
-use Rattle.stores.specs.Layouts.{is_journal, sectors_for}
+use Rattle.journal.specs.Layouts.{is_journal, sectors_for}
 use Rattle.stores.specs.Opened.{image_refusal}
-use Rattle.stores.specs.declared.sizes.Layout.{Layout}
-use Rattle.stores.specs.declared.sizes.Layout.TheVariants.{Journal, Pages}
+use Rattle.journal.specs.declared.sizes.Layout.{Layout}
+use Rattle.journal.specs.declared.sizes.Layout.TheVariants.{Journal, Pages}
 use Rattle.image_care.specs.Copied.{copy_refusal, copy_size_refusal}
 use Rattle.image_care.specs.Salvaged.{standing_in}
 use Rattle.image_care.specs.Standing.{is_nowhere, is_other, standing_of}

@@ -15,7 +15,7 @@ use Rattle.journal.specs.Sizes.{is_size}
 use Rattle.journal.specs.Suits.{suits}
 use Rattle.journal.proofs.Choices.{at_false, at_true}
 use Rattle.journal.proofs.Meaning.{chain_means}
-use Rattle.journal.proofs.Sizes.{size_newer, size_older}
+use Rattle.journal.proofs.KnownSizes.{size_newer, size_older}
 use Rattle.journal.proofs.Suited.{stays, suits_keeps, suits_newer, suits_older}
 use Rattle.block_words.specs.Kept.{KeptFrom, MeansOneOf}
 use Rattle.block_words.specs.Words.{Save}

@@ -5,10 +5,10 @@ ghost use Rattle.std.specs.Prelude.{◌<◌, IfSome};
 use super::importing::MOST_BYTES;
 use command_line::order;
 use command_line::orders::{Order, Script};
+use journal::sizes::known_blocks;
 use std::convert::AsStr;
 use std::fs::{self, File, Files, OpenOptions};
 use std::io::{ErrorKind, Read, Write};
-use stores::blocks_of_size;
 
 /// How many bytes of a file are looked at to tell whether it is a text.
 const BEGINNING: usize = 512;
@@ -221,7 +221,7 @@ fn blocks_of_file(rt: &impl Files<File = File>, path: &str) -> Option<u16>
 {
     let of = fs::metadata(rt, path).ok()?;
     let sectors = u32::try_from(of.len() / 512).ok()?;
-    blocks_of_size(sectors)
+    known_blocks(sectors)
 }
 
 /// Tells of the file of an image that was to be opened, for writing too or for reading alone.

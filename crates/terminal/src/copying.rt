@@ -5,7 +5,7 @@ ghost use Rattle.sector_disk.specs.Counting.{count_up};
 ghost use Rattle.journal.specs.Calls.{StopsLeave};
 ghost use Rattle.journal.specs.Suits.{suits};
 ghost use Rattle.recovery.specs.Steps.{OnlyRead, WentWell};
-ghost use Rattle.stores.specs.Layouts.{sectors_for};
+ghost use Rattle.journal.specs.Layouts.{sectors_for};
 ghost use Rattle.image_care.specs.Copied.{copied_blocks, copy_refusal};
 ghost use Rattle.image_care.specs.Made.{MakingLeaves};
 ghost use Rattle.terminal.specs.Care.{CopyDone};
@@ -19,8 +19,8 @@ use super::failure::Failure;
 use super::left::Left;
 use image_care::copy;
 use journal::layout::MOST_BLOCKS;
+use journal::sizes::{Layout, sectors_of, size_of};
 use sector_disk::{HostFile, HostFiles, SectorDevice, SectorFile, create_disk, open_disk};
-use stores::{Layout, sectors_of, size_of};
 
 /// Makes an image of the blocks of one, by the same layout, in a new file, and gives both files: of `asked` blocks, or
 /// of as many as the old one has. Nothing is made where the old one has the size of no image, or where it has more

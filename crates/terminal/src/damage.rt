@@ -14,8 +14,8 @@ use super::checking::print;
 use super::failure::Failure;
 use command_line::orders::Layout;
 use image_care::pages::{Standing, find_standing};
+use journal::pages::layout::blocks_of_size;
 use sector_disk::SectorDevice;
-use shadow::blocks_of_new;
 use std::alloc::{AllocError, Global};
 use std::io::Write;
 
@@ -87,7 +87,7 @@ fn damage_of<D: SectorDevice>(alloc: Global, device: &mut D) -> Result<String, F
     ensures begins { BeginsAtMost D.SectorDevice device.old device.new 0 0 }
 {
     let mut text = String::new(alloc);
-    let Some(blocks) = blocks_of_new(device.sectors()) else {
+    let Some(blocks) = blocks_of_size(device.sectors()) else {
         return Ok(text);
     };
     for b in 0..blocks {

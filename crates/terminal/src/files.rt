@@ -19,12 +19,13 @@ use super::left::Left;
 use super::over_devices::{import_over, put_over};
 use super::texts::{TextFiles, open_text};
 use command_line::orders::{Form, Layout};
-use journal::layout::MOST_BLOCKS_1;
+use journal::layout::{MOST_BLOCKS_1, blocks_of_size};
+use journal::sizes::known_blocks;
 use recovery::upgrade;
 use sector_disk::{HostFile, HostFiles, SectorDevice, SectorFile, create_disk, open_disk};
 use std::alloc::Global;
 use std::io::{Read, Write};
-use stores::{Store, blocks_of_size};
+use stores::Store;
 
 /// Makes a file that is an image of blank blocks, 32 to 3,840, of layout 2. Its failures: `Exists` where something has
 /// that name already, which stays as it is, `CannotOpen` or `InUse` where the file can't be made, then those of
@@ -251,7 +252,7 @@ fn check_files<D: SectorDevice, B: Read + Drop, Q: TextFiles<B>, W: Write>(
         → OneIsUnread (λ path. IsUnread (Q.opens texts.now path) (Q.refuses texts.now path)) sources.now) }
     ensures unstopped { IfErr result (λ e. e ≢ Failure.Stopped) }
 {
-    let Some(blocks) = blocks_of_size(device.sectors()) else {
+    let Some(blocks) = known_blocks(device.sectors()) else {
         return Err(Failure::BadSize);
     };
     let _bytes = match read_blocks(alloc, texts, blocks, first, sources, form, true, errors) {
@@ -302,7 +303,7 @@ fn upgrade_into<H: HostFile, O: HostFiles<H>, E>(
     ensures unstopped { IfErr result.1 (λ e. e ≢ Failure.Stopped) }
 {
     let sectors = source.sectors();
-    let Some(_) = recovery::blocks_of_size(sectors, MOST_BLOCKS_1) else {
+    let Some(_) = blocks_of_size(sectors, MOST_BLOCKS_1) else {
         return (Left::Opened(source), Err(Failure::BadSize));
     };
     match create_disk(files, new, sectors) {

@@ -19,9 +19,9 @@ use super::failure::Failure;
 use super::files::{begun_beside, make_newer_file};
 use super::left::Left;
 use command_line::orders::Layout;
+use journal::sizes::known_blocks;
 use sector_disk::{HostFile, HostFiles, SectorDevice, SectorFile, open_disk};
 use shadow::upgrade;
-use stores::blocks_of_size;
 
 /// Makes an image of layout 3, in a new file, of the blocks of one of layout 1 or 2, and gives both files. Nothing is
 /// made where the old one has the size of no image (`BadSize`) or can't be opened (`CannotOpen`, `InUse`), and whatever
@@ -63,7 +63,7 @@ fn upgrade_newer_into<H: HostFile, O: HostFiles<H>, E>(
         (IsUnfinished H.HostFile (O.makes files.now new.now)) Layout.Three failure result.0) }
     ensures unstopped { IfErr result.1 (λ e. e ≢ Failure.Stopped) }
 {
-    let Some(blocks) = blocks_of_size(source.sectors()) else {
+    let Some(blocks) = known_blocks(source.sectors()) else {
         return (Left::Opened(source), Err(Failure::BadSize));
     };
     match make_newer_file(files, new, blocks) {

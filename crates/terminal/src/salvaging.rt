@@ -28,11 +28,11 @@ use super::salvaging_through::salvage_through;
 use image_care::pages::Standing;
 use image_care::{Taken, salvage};
 use journal::layout::is_listed;
+use journal::pages::layout::blocks_of_size;
+use journal::sizes::{Layout, size_by, size_of};
 use sector_disk::{HostFile, HostFiles, SectorDevice, SectorFile, open_disk};
-use shadow::blocks_of_new;
 use std::alloc::{AllocError, Global};
 use std::io::Write;
-use stores::{Layout, size_by, size_of};
 
 /// What is told of each salvage by layout 2.
 const NO_RECOVERY: &str =
@@ -239,7 +239,7 @@ fn damage_text(alloc: Global, sectors: u32, taken: &Taken) -> Result<String, All
     ensures { IfOk result (λ text. string_bytes text ≡ damage_told sectors (standing_by taken.now)) }
 {
     let mut text = String::new(alloc);
-    let Some(blocks) = blocks_of_new(sectors) else {
+    let Some(blocks) = blocks_of_size(sectors) else {
         return Ok(text);
     };
     for b in 0..blocks {

@@ -10,8 +10,7 @@ ghost use Rattle.terminal.specs.Through.{TellsUnread, newer_owner, older_owner, 
 use super::checking::print;
 use super::failure::Failure;
 use image_care::read_through;
-use journal::layout::MOST_BLOCKS;
-use recovery::blocks_of_size;
+use journal::layout::{MOST_BLOCKS, blocks_of_size};
 use sector_disk::SectorDevice;
 use std::alloc::{AllocError, Global};
 use std::io::Write;

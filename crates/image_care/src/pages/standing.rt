@@ -2,7 +2,7 @@
 ghost use Rattle.std.specs.Prelude.{◌≡◌, ◌≢◌, ◌<◌, ◌≤◌, ◌+◌, ◌*◌, ◌^◌, true, false, if◌then◌else◌, IsTrue, OnOk, IfOk, IfErr, IfSome, MatchBool, MatchOption};
 ghost use Rattle.sector_disk.specs.Counting.{count_up};
 ghost use Rattle.sector_disk.specs.Disk.{MayLeave};
-ghost use Rattle.journal.specs.Calls.{StopsLeave, BeginsAtMost, ReadsAtMost, Passes, Proceeds};
+ghost use Rattle.journal.specs.Calls.{StopsLeave, BeginsAtMost, ReadsAtMost, CostsAtMost, Passes, Proceeds};
 ghost use Rattle.journal.specs.Images.{pair_at};
 ghost use Rattle.journal.specs.Layout.{most_blocks};
 ghost use Rattle.recovery.specs.declared.fault.OpenFault.TheVariants.{BadSize, Device};
@@ -10,13 +10,13 @@ ghost use Rattle.shadow.specs.Label.{is_size, blocks_in};
 ghost use Rattle.journal.specs.PageLayout.{current_at};
 ghost use Rattle.image_care.specs.Standing.{holds_whole, is_damaged_under, standing_under, standing_of, salvaged_under};
 
-use journal::pages::layout::{current_sector, free_sector};
+use journal::pages::layout::{blocks_of_size, current_sector, free_sector};
 use journal::pages::read_tag;
 use journal::pages::tags::tag_of;
 use journal::read_pair;
 use recovery::OpenFault;
 use sector_disk::{DeviceFault, SectorDevice};
-use shadow::{blocks_of_new, read_record};
+use shadow::read_record;
 
 /// Where a whole save of a block stands, which is one whose bytes fit the tag beside them.
 #[derive(Clone, Copy, Debug, PartialEq, Eq)]
@@ -46,8 +46,7 @@ fn read_place<D: SectorDevice>(
     ensures stops { IsTrue (D.keeps_model device.old)
         → StopsLeave D.SectorDevice device.old device.new (MayLeave (D.disk device.old)) }
     ensures passes { Passes D.SectorDevice device.old device.new result }
-    ensures begins { BeginsAtMost D.SectorDevice device.old device.new 0 0 }
-    ensures reads { ReadsAtMost D.SectorDevice device.old device.new 3 }
+    ensures costs { CostsAtMost D.SectorDevice device.old device.new 0 0 3 }
 {
     read_pair(device, k, bytes)?;
     let found = read_tag(device, k + 2)?;
@@ -73,8 +72,7 @@ fn take_other<D: SectorDevice>(
     ensures stops { IsTrue (D.keeps_model device.old)
         → StopsLeave D.SectorDevice device.old device.new (MayLeave (D.disk device.old)) }
     ensures passes { Passes D.SectorDevice device.old device.new result }
-    ensures begins { BeginsAtMost D.SectorDevice device.old device.new 0 0 }
-    ensures reads { ReadsAtMost D.SectorDevice device.old device.new 3 }
+    ensures costs { CostsAtMost D.SectorDevice device.old device.new 0 0 3 }
 {
     if read_place(device, b, free_sector(listing, b), bytes)? {
         return Ok(Standing::Other);
@@ -101,8 +99,7 @@ pub(crate) fn take_block<D: SectorDevice>(
     ensures stops { IsTrue (D.keeps_model device.old)
         → StopsLeave D.SectorDevice device.old device.new (MayLeave (D.disk device.old)) }
     ensures passes { Passes D.SectorDevice device.old device.new result }
-    ensures begins { BeginsAtMost D.SectorDevice device.old device.new 0 0 }
-    ensures reads { ReadsAtMost D.SectorDevice device.old device.new 6 }
+    ensures costs { CostsAtMost D.SectorDevice device.old device.new 0 0 6 }
     ensures few { IsTrue (D.keeps_model device.old) → ReadsAtMost D.SectorDevice device.old device.new
         (if is_damaged_under listing.now (D.disk device.old).content b then 6 else 3) }
 {
@@ -146,7 +143,7 @@ pub fn find_standing<D: SectorDevice>(
     // Gate and record are read, and at most both places of the block.
     ensures reads { ReadsAtMost D.SectorDevice device.old device.new 8 }
 {
-    let Some(blocks) = blocks_of_new(device.sectors()) else {
+    let Some(blocks) = blocks_of_size(device.sectors()) else {
         return Err(OpenFault::BadSize);
     };
     if block >= blocks {
@@ -168,8 +165,7 @@ fn look_up<D: SectorDevice>(device: &mut D, b: u16) -> Result<Standing, DeviceFa
     ensures stops { IsTrue (D.keeps_model device.old)
         → StopsLeave D.SectorDevice device.old device.new (MayLeave (D.disk device.old)) }
     ensures passes { Passes D.SectorDevice device.old device.new result }
-    ensures begins { BeginsAtMost D.SectorDevice device.old device.new 0 0 }
-    ensures reads { ReadsAtMost D.SectorDevice device.old device.new 8 }
+    ensures costs { CostsAtMost D.SectorDevice device.old device.new 0 0 8 }
 {
     let mut listing = [0; 512];
     read_record(device, &mut listing)?;

@@ -1,11 +1,13 @@
 //! Where the parts of an image of layout 3 stand, and how they are spelled. Sectors have 512 bytes and are numbered
 //! from 0.
 //! Rule: IMAGE, Layout 3.
-ghost use Rattle.std.specs.Prelude.{◌≡◌, ◌≢◌, ◌<◌, ◌≤◌, ◌+◌, ◌*◌, ◌%◌, ◌++◌, ℕ, not, true, false, take, replicate};
-ghost use Rattle.journal.specs.Layout.{most_blocks, listed, bits_of};
+ghost use Rattle.std.specs.Prelude.{◌≡◌, ◌≢◌, ◌<◌, ◌≤◌, ◌+◌, ◌*◌, ◌%◌, ◌++◌, ℕ, not, true, false, IfSome, IfNone, take, replicate};
+ghost use Rattle.std.specs.Bool.{OnTrue};
+ghost use Rattle.journal.specs.Layout.{fewest_blocks, most_blocks, listed, bits_of};
+ghost use Rattle.journal.specs.Sizes.{is_pages_size, is_pages_size_for, pages_blocks_in};
 ghost use Rattle.journal.specs.PageLayout.{sectors_for, label_of, bit_differs, bits_apart, gate_bytes, gate_open, gate_at, record_at, place_at, current_at, free_at, sum_in, tag_in};
 
-use crate::layout::{is_listed, label as older_label};
+use crate::layout::{FEWEST_BLOCKS, MOST_BLOCKS, is_listed, label as older_label};
 
 /// The version of the layout, as a label tells it.
 pub const VERSION: u16 = 3;
@@ -28,6 +30,34 @@ pub fn sectors_for(blocks: u16) -> u32
     ensures { result ≡ sectors_for blocks }
 {
     HEAD + 2 * UNIT * blocks as u32
+}
+
+/// Whether an image of layout 3 of so many blocks has so many sectors. It has 32 to 3,840 of them.
+pub fn fits(blocks: u32, sectors: u32) -> bool
+    ensures value { result ≡ is_pages_size_for blocks sectors }
+    ensures many { OnTrue result (fewest_blocks ≤ blocks) }
+    ensures few { OnTrue result (blocks ≤ most_blocks) }
+    ensures size { OnTrue result (sectors ≡ sectors_for blocks) }
+{
+    FEWEST_BLOCKS as u32 <= blocks && blocks <= MOST_BLOCKS as u32 && sectors == 32 + 16 * blocks
+}
+
+/// How many blocks an image of layout 3 with so many sectors has, from 32 to 3,840. None where no such image has so
+/// many sectors.
+pub fn blocks_of_size(sectors: u32) -> Option<u16>
+    ensures size { IfSome result (λ n. is_pages_size sectors ≡ true) }
+    ensures some { IfSome result (λ n. 0 < sectors) }
+    ensures number { IfSome result (λ n. pages_blocks_in sectors ≡ n) }
+    ensures many { IfSome result (λ n. fewest_blocks ≤ n) }
+    ensures few { IfSome result (λ n. n ≤ most_blocks) }
+    ensures none { IfNone result (is_pages_size sectors ≡ false) }
+{
+    let blocks = sectors.saturating_sub(32) / 16;
+    if fits(blocks, sectors) {
+        Some(blocks as u16)
+    } else {
+        None
+    }
 }
 
 /// The label of an image of layout 3 with so many blocks, which has 32 to 3,840 of them.

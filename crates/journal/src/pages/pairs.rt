@@ -3,7 +3,7 @@
 ghost use Rattle.std.specs.Prelude.{◌≡◌, ◌≤◌, ◌<◌, ◌+◌, ◌^◌, ◌++◌, ℕ, List, length, take, drop, IsTrue, OnOk};
 ghost use Rattle.sha2.specs.Hashers.{Holds256};
 ghost use Rattle.sector_disk.specs.Disk.{MayLeave, written, settled};
-ghost use Rattle.journal.specs.Calls.{StopsLeave, BeginsAtMost, ReadsAtMost};
+ghost use Rattle.journal.specs.Calls.{StopsLeave, BeginsAtMost, ReadsAtMost, CostsAtMost};
 ghost use Rattle.journal.specs.PageCalls.{Passes};
 ghost use Rattle.journal.specs.Images.{pair_at};
 ghost use Rattle.sector_disk.specs.Pages.{InPage};
@@ -27,8 +27,7 @@ pub(crate) fn add_pair<D: SectorDevice>(
     ensures stops { IsTrue (D.keeps_model device.old)
         → StopsLeave D.SectorDevice device.old device.new (MayLeave (D.disk device.old)) }
     ensures passes { Passes D.SectorDevice device.old device.new result }
-    ensures begins { BeginsAtMost D.SectorDevice device.old device.new 0 0 }
-    ensures reads { ReadsAtMost D.SectorDevice device.old device.new 2 }
+    ensures costs { CostsAtMost D.SectorDevice device.old device.new 0 0 2 }
 {
     hashing::add_pair(device, k, hasher)
 }

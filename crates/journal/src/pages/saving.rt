@@ -1,7 +1,7 @@
 // The steps of a save.
 ghost use Rattle.std.specs.Prelude.{◌≡◌, ◌⊎◌, ◌<◌, ◌≤◌, not, if◌then◌else◌, IsTrue, OnOk};
 ghost use Rattle.sector_disk.specs.Disk.{written, settled};
-ghost use Rattle.journal.specs.Calls.{StopsLeave, BeginsAtMost, ReadsAtMost};
+ghost use Rattle.journal.specs.Calls.{StopsLeave, CostsAtMost};
 ghost use Rattle.journal.specs.PageCalls.{Passes};
 ghost use Rattle.journal.specs.Layout.{most_blocks, listed};
 ghost use Rattle.journal.specs.PageImages.{current_of};
@@ -60,8 +60,7 @@ fn turn<D: SectorDevice>(device: &mut D, is_open: bool, next: &[u8; 512]) -> Res
         (λ c. IsAsSynced (InPage (record_at (not is_open))) (D.disk device.old) c
         ⊎ IsAsSynced (InPage gate_at) (settled (written (D.disk device.old) (record_at (not is_open)) next.now)) c) }
     ensures passes { Passes D.SectorDevice device.old device.new result }
-    ensures begins { BeginsAtMost D.SectorDevice device.old device.new 2 2 }
-    ensures reads { ReadsAtMost D.SectorDevice device.old device.new 0 }
+    ensures costs { CostsAtMost D.SectorDevice device.old device.new 2 2 0 }
 {
     let record = *next;
     write_through(device, record_sector(!is_open), &record)?;
@@ -91,8 +90,7 @@ pub(crate) fn save<D: SectorDevice>(
         (λ c. HasBlocks blocks (current_of listing.old (D.disk device.old).content) c
         ⊎ HasBlocks blocks (merged listing.old pending.now (D.disk device.old).content) c) }
     ensures passes { Passes D.SectorDevice device.old device.new result }
-    ensures begins { BeginsAtMost D.SectorDevice device.old device.new 2 2 }
-    ensures reads { ReadsAtMost D.SectorDevice device.old device.new 0 }
+    ensures costs { CostsAtMost D.SectorDevice device.old device.new 2 2 0 }
 {
     *listing = next_record(blocks, listing, pending, sum);
     turn(device, is_open, listing)

@@ -3,7 +3,7 @@
 ghost use Rattle.std.specs.Prelude.{◌≡◌, ◌<◌, ◌≤◌, ◌+◌, ◌*◌, ◌^◌, ◌++◌, length, replicate, if◌then◌else◌, IsTrue, OnOk, IfOk};
 ghost use Rattle.sector_disk.specs.Disk.{MayLeave};
 ghost use Rattle.sector_disk.specs.Pages.{InPage};
-ghost use Rattle.journal.specs.Calls.{StopsLeave, BeginsAtMost, ReadsAtMost};
+ghost use Rattle.journal.specs.Calls.{StopsLeave, CostsAtMost};
 ghost use Rattle.journal.specs.Images.{pair_at};
 ghost use Rattle.journal.specs.Layout.{most_blocks, listed};
 ghost use Rattle.journal.specs.PageCalls.{Passes};
@@ -48,8 +48,7 @@ fn read_latest_tag<D: SectorDevice>(
     ensures stops { IsTrue (D.keeps_model device.old)
         → StopsLeave D.SectorDevice device.old device.new (MayLeave (D.disk device.old)) }
     ensures passes { Passes D.SectorDevice device.old device.new result }
-    ensures begins { BeginsAtMost D.SectorDevice device.old device.new 0 0 }
-    ensures reads { ReadsAtMost D.SectorDevice device.old device.new 1 }
+    ensures costs { CostsAtMost D.SectorDevice device.old device.new 0 0 1 }
 {
     let k = latest_sector(listing, pending, b);
     read_tag(device, k + 2)
@@ -75,8 +74,7 @@ fn write_place<D: SectorDevice>(
     ensures stops { IsTrue (D.keeps_model device.old)
         → StopsLeave D.SectorDevice device.old device.new (IsAsSynced (InPage k) (D.disk device.old)) }
     ensures passes { Passes D.SectorDevice device.old device.new result }
-    ensures begins { BeginsAtMost D.SectorDevice device.old device.new 3 0 }
-    ensures reads { ReadsAtMost D.SectorDevice device.old device.new 0 }
+    ensures costs { CostsAtMost D.SectorDevice device.old device.new 3 0 0 }
 {
     write_pair(device, k, bytes)?;
     write_sector(device, k + 2, &tag_sector(tag))
@@ -108,8 +106,7 @@ pub(crate) fn spill<D: SectorDevice>(
     ensures stops { IsTrue (D.keeps_model device.old) → StopsLeave D.SectorDevice device.old device.new
         (IsAsSynced (InPage (free_at listing.now b)) (D.disk device.old)) }
     ensures passes { Passes D.SectorDevice device.old device.new result }
-    ensures begins { BeginsAtMost D.SectorDevice device.old device.new 3 0 }
-    ensures reads { ReadsAtMost D.SectorDevice device.old device.new 1 }
+    ensures costs { CostsAtMost D.SectorDevice device.old device.new 3 0 1 }
 {
     let old = read_latest_tag(device, listing, pending, b)?;
     let new = tag_of_bytes(b, bytes);

@@ -1,10 +1,11 @@
 // Which images are opened: of each layout those of its own size.
 use crate::either_layout::saves::made;
+use journal::sizes::known_blocks;
 use recovery::OpenFault;
 use sector_disk::{MemoryDisk, SectorDevice};
 use std::alloc::Global;
 use std::test::Fail;
-use stores::{blocks_of_size, open};
+use stores::open;
 
 fn refusal(disk: MemoryDisk) -> &'static str {
     match open(disk) {
@@ -86,7 +87,7 @@ fn a_size_has_its_blocks(rt: HostRuntime) -> Result<(), Fail> {
         (1048608, None), // as many as 65,536 blocks would have
         (u32::MAX, None),
     ] {
-        assert_eq!(rt; blocks_of_size(sectors), want, "{sectors} sectors");
+        assert_eq!(rt; known_blocks(sectors), want, "{sectors} sectors");
     }
     Ok(())
 }

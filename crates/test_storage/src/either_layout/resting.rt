@@ -3,9 +3,10 @@ ghost use Rattle.std.specs.Prelude.{◌≡◌, ℕ, false};
 ghost use Rattle.journal.specs.Store.{closed_of, is_pending};
 
 use crate::either_layout::saves::{first_byte, made, spill};
+use journal::sizes::known_blocks;
 use sector_disk::{MemoryDisk, SectorDevice};
 use std::test::Fail;
-use stores::{Store, blocks_of_size, named, open, resume};
+use stores::{Store, named, open, resume};
 
 // A store in which nothing is pending rests, and goes on, beside what was kept of it.
 fn rested(store: Store<MemoryDisk>) -> Result<(Store<MemoryDisk>, bool, [u8; 512]), Fail>
@@ -15,7 +16,7 @@ fn rested(store: Store<MemoryDisk>) -> Result<(Store<MemoryDisk>, bool, [u8; 512
     let mut listing = [7; 512];
     let is_open = named(&store, &mut listing);
     let device = store.into_device();
-    let Some(blocks) = blocks_of_size(device.sectors()) else {
+    let Some(blocks) = known_blocks(device.sectors()) else {
         return Err("of no size")?;
     };
     Ok((resume(device, blocks, is_open, &listing), is_open, listing))

@@ -30,10 +30,10 @@ loop-b-preserved g c =
           (MayLeave (D.disk old)) (MayLeave (D.disk c.loop-b.device)) (MayLeave (D.disk old))
           inv.passes.time step.passes.time (inv.stops keeps) (step.stops (honest keeps))
           (λ x may. may) (λ x may. subst (λ (d : Disk). MayLeave d x) (inv.disk keeps) may);
-      begins = record {
-        few_writes = omega (arith, inv.begins.few_writes, step.begins.few_writes);
-        few_syncs = omega (arith, inv.begins.few_syncs, step.begins.few_syncs);
+      costs = record {
+        few_writes = omega (arith, inv.costs.few_writes, step.costs.few_writes);
+        few_syncs = omega (arith, inv.costs.few_syncs, step.costs.few_syncs);
+        few_reads = omega (arith, inv.costs.few_reads, step.costs.few_reads);
       };
-      reads = omega (arith, inv.reads, step.reads);
       passes = passes_then D old c.loop-b.device c.add_block.new.device g.met.D.SectorDevice.widens inv.passes c.in_ok-add_block.ensures.passes refl;
     }

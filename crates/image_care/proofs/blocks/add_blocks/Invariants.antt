@@ -2,7 +2,7 @@ use Rattle.std.proofs.Common.{◌≡◌, ◌++◌, ℕ, ◌*◌, List, IsTrue, O
 use Rattle.sha2.specs.Hashers.{Holds256}
 use Rattle.sector_disk.specs.Disk.{MayLeave}
 use Rattle.sector_disk.specs.declared.device.DeviceFault.{DeviceFault}
-use Rattle.journal.specs.Calls.{StopsLeave, BeginsAtMost, ReadsAtMost, Passes}
+use Rattle.journal.specs.Calls.{StopsLeave, CostsAtMost, Passes}
 use Rattle.image_care.specs.View.{found_by}
 use Rattle.image_care.specs.Examined.{joined_below}
 use Rattle.image_care.proofs.blocks.add_blocks.Given as goal
@@ -17,7 +17,6 @@ invariant-loop-b g l =
           → Holds256 l.hasher (m ++ joined_below (found_by l.view (D.disk old).content) l.b);
       disk : IsTrue (D.keeps_model old) → D.disk now ≡ D.disk old;
       stops : IsTrue (D.keeps_model old) → StopsLeave D old now (MayLeave (D.disk old));
-      begins : BeginsAtMost D old now 0 0;
-      reads : ReadsAtMost D old now (2 * l.b);
+      costs : CostsAtMost D old now 0 0 (2 * l.b);
       passes : Passes D {T = Unit {0}} {E = DeviceFault} old now (Ok tt);
     }

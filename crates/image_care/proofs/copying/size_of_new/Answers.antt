@@ -1,5 +1,5 @@
 use Rattle.std.proofs.Common.{◌≡◌, ◌∙◌, ◌<◌, ◌≤◌, true, sym, ap, arith}
-use Rattle.stores.specs.Layouts.{sectors_for}
+use Rattle.journal.specs.Layouts.{sectors_for}
 use Rattle.image_care.specs.Copied.{is_size_like}
 use Rattle.image_care.proofs.Copies.{grows, like_layout, new_smaller, new_unlike, sizes_good}
 use Rattle.image_care.proofs.copying.size_of_new.Goals as goal

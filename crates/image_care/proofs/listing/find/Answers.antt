@@ -9,6 +9,7 @@ use Rattle.recovery.specs.Label.{label_refusal}
 use Rattle.recovery.proofs.Recoveries.{not_damaged}
 use Rattle.recovery.proofs.Upgrades.{only_read_then}
 use Rattle.image_care.proofs.Findings.{on_none}
+use Rattle.journal.proofs.Calls.{begins_of}
 use Rattle.image_care.proofs.listing.find.Goals as goal
 
 pub returns-clause-only_read : goal.returns-clause-only_read
@@ -16,7 +17,7 @@ returns-clause-only_read g c =
     let one = c.read_label.ensures in
     let two = c.read_listing.ensures in
     only_read_then g.D.SectorDevice c.args.device.now c.read_label.new.device c.read_listing.new.device g.met.D.SectorDevice.widens
-    (record { disk = one.disk; stops = one.stops; passes = one.passes; begins = one.begins })
+    (record { disk = one.disk; stops = one.stops; passes = one.passes; begins = begins_of g.D.SectorDevice one.costs })
     (record { disk = two.disk; stops = two.stops; passes = two.passes; begins = two.begins })
 
 pub returns-clause-exact : goal.returns-clause-exact

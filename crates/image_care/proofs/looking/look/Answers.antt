@@ -5,11 +5,10 @@ use Rattle.recovery.specs.Label.{blocks_in, is_size}
 use Rattle.recovery.specs.Opened.{image_refusal}
 use Rattle.recovery.proofs.Recoveries.{passes_all}
 use Rattle.journal.proofs.Choices.{at_true}
-use Rattle.journal.proofs.Sizes.{older_sectors}
+use Rattle.journal.proofs.KnownSizes.{known_newer, newer_blocks, older_blocks, older_known, older_sectors}
 use Rattle.shadow.specs.Label as newer_label
 use Rattle.shadow.specs.Label.{is_known_size}
 use Rattle.shadow.proofs.Upgrades.{anyway}
-use Rattle.stores.proofs.KnownSizes.{known_newer, newer_blocks, older_blocks, older_known}
 use Rattle.stores.proofs.Opened.{has_newer, has_older, newer_has, older_has, older_refusal}
 use Rattle.stores.proofs.Results.{either, if_err, if_ok, if_ok_both}
 use Rattle.image_care.proofs.Findings.{if_ok_all, on_ok_both, only_devices}

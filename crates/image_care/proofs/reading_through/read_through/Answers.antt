@@ -5,6 +5,7 @@ use Rattle.recovery.proofs.Makings.{only_read_none}
 use Rattle.recovery.proofs.Upgrades.{only_read_then}
 use Rattle.image_care.specs.Through.{WereHad}
 use Rattle.image_care.proofs.Through.{next_of}
+use Rattle.journal.proofs.Calls.{begins_of}
 use Rattle.image_care.proofs.reading_through.read_through.Goals as goal
 
 pub loop-k-init : goal.loop-k-init
@@ -37,8 +38,8 @@ loop-k-preserved g c =
       were_had = subst (λ (n : ℕ). WereHad (D.keeps_model old) (D.disk old).content n had' unread') one_more (had, unread, next, inv.were_had);
       failed = c.in_ok-add_next.ensures.failed (D.failures old) inv.failed;
       only_read = only_read_then D old now c.add_next.new.device g.met.D.SectorDevice.widens inv.only_read
-          (record { disk = step.disk; stops = step.stops; passes = step.passes; begins = step.begins });
-      once = omega (arith, inv.once, step.reads);
+          (record { disk = step.disk; stops = step.stops; passes = step.passes; begins = begins_of D step.costs });
+      once = omega (arith, inv.once, step.costs.few_reads);
     }
 
 pub returns-clause-were_had : goal.returns-clause-were_had
@@ -55,4 +56,4 @@ returns-in_err-add_next-clause-only_read g c =
     let inv = c.loop-k.invariant in
     let step = c.add_next.ensures in
     only_read_then g.D.SectorDevice c.args.device.now c.loop-k.device c.add_next.new.device g.met.D.SectorDevice.widens inv.only_read
-    (record { disk = step.disk; stops = step.stops; passes = step.passes; begins = step.begins })
+    (record { disk = step.disk; stops = step.stops; passes = step.passes; begins = begins_of g.D.SectorDevice step.costs })

@@ -3,7 +3,7 @@ use Rattle.std.specs.Prelude.{if◌then◌else◌}
 use Rattle.journal.specs.Calls.{ReadsAtMost}
 use Rattle.journal.specs.Layout as journal_layout
 use Rattle.journal.specs.PageLayout as pages_layout
-use Rattle.stores.specs.Layouts.{is_journal, sectors_for}
+use Rattle.journal.specs.Layouts.{is_journal, sectors_for}
 use Rattle.stores.proofs.Results.{if_ok, if_ok_both}
 use Rattle.image_care.specs.Examined.{reads_to_list}
 use Rattle.image_care.proofs.Looks.{newer_sectors_of, older_sectors_of}

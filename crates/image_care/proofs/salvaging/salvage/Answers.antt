@@ -7,7 +7,7 @@ use Rattle.recovery.specs.Label.{is_size}
 use Rattle.recovery.specs.Making.{reads_below}
 use Rattle.recovery.proofs.Upgrades.{only_read_then}
 use Rattle.shadow.specs.Upgraded.{known_blocks}
-use Rattle.stores.specs.Layouts as layouts
+use Rattle.journal.specs.Layouts as layouts
 use Rattle.image_care.specs.Examined.{reads_to_list}
 use Rattle.image_care.specs.Made.{IsMade, MakingLeaves}
 use Rattle.image_care.specs.Salvaged.{salvaged_blocks}

@@ -3,7 +3,7 @@ use Rattle.shadow.specs.Label.{is_size}
 use Rattle.sector_disk.specs.Disk.{Disk}
 use Rattle.sector_disk.specs.FileBytes.{disk_of_file}
 use Rattle.stores.specs.Images.{HasMeaning}
-use Rattle.stores.proofs.KnownSizes.{newer_known}
+use Rattle.journal.proofs.KnownSizes.{newer_known}
 use Rattle.image_care.specs.Seen.{still}
 use Rattle.image_care.proofs.Stills.{not_failed}
 use Rattle.image_care.proofs.whole_copies.seen_in.Goals as goal

@@ -6,18 +6,15 @@ use Rattle.journal.proofs.Calls.{passes_then, passes_err}
 use Rattle.journal.proofs.Copies.{step_writes, only_more, copied_more, as_synced_more}
 use Rattle.journal.proofs.homes.copy_homes.Goals as goal
 
-pub returns-in_err-copy_if_listed-clause-begins : goal.returns-in_err-copy_if_listed-clause-begins
-returns-in_err-copy_if_listed-clause-begins g c =
-    let so_far = c.loop-b.invariant.begins in
-    let step = c.copy_if_listed.ensures.begins in
+pub returns-in_err-copy_if_listed-clause-costs : goal.returns-in_err-copy_if_listed-clause-costs
+returns-in_err-copy_if_listed-clause-costs g c =
+    let so_far = c.loop-b.invariant.costs in
+    let step = c.copy_if_listed.ensures.costs in
     record {
       few_writes = (step_writes c.args.bytes.now c.loop-b.b c.args.blocks.number _ _ _ c.loop-b-test.true so_far.few_writes step.few_writes).1;
       few_syncs = omega (arith, so_far.few_syncs, step.few_syncs);
+      few_reads = (step_writes c.args.bytes.now c.loop-b.b c.args.blocks.number _ _ _ c.loop-b-test.true so_far.few_reads step.few_reads).1;
     }
-
-pub returns-in_err-copy_if_listed-clause-reads : goal.returns-in_err-copy_if_listed-clause-reads
-returns-in_err-copy_if_listed-clause-reads g c =
-    (step_writes c.args.bytes.now c.loop-b.b c.args.blocks.number _ _ _ c.loop-b-test.true c.loop-b.invariant.reads c.copy_if_listed.ensures.reads).1
 
 pub loop-b-preserved : goal.loop-b-preserved
 loop-b-preserved g c =
@@ -39,11 +36,11 @@ loop-b-preserved g c =
           inv.passes.time step.passes.time (inv.stops keeps) (step.stops (honest keeps))
           (λ x is. is) (λ x is. as_synced_more n bytes c.loop-b.b d e x below (inv.only keeps) is);
       passes = passes_then D c.args.device.now c.loop-b.device c.copy_if_listed.new.device g.met.D.SectorDevice.widens inv.passes c.in_ok-copy_if_listed.ensures.passes refl;
-      begins = record {
-        few_writes = (step_writes bytes c.loop-b.b n _ _ _ below inv.begins.few_writes step.begins.few_writes).0;
-        few_syncs = omega (arith, inv.begins.few_syncs, step.begins.few_syncs);
+      costs = record {
+        few_writes = (step_writes bytes c.loop-b.b n _ _ _ below inv.costs.few_writes step.costs.few_writes).0;
+        few_syncs = omega (arith, inv.costs.few_syncs, step.costs.few_syncs);
+        few_reads = (step_writes bytes c.loop-b.b n _ _ _ below inv.costs.few_reads step.costs.few_reads).0;
       };
-      reads = (step_writes bytes c.loop-b.b n _ _ _ below inv.reads step.reads).0;
     }
 
 pub returns-in_err-copy_if_listed-clause-passes : goal.returns-in_err-copy_if_listed-clause-passes

@@ -1,7 +1,7 @@
 use Rattle.std.proofs.Common.{◌∙◌, ◌+◌, ◌*◌, inl, inr, arith, refl, sym, subst}
 use Rattle.std.proofs.lemmas.Result.{on_ok_weaker}
 use Rattle.sector_disk.proofs.Moments.{leaves_then}
-use Rattle.journal.proofs.Calls.{proceeds}
+use Rattle.journal.proofs.Calls.{begins_of, proceeds}
 use Rattle.recovery.specs.Making.{IsUnlabelled, TakenAway, WrittenLeaves, MakingLeaves}
 use Rattle.recovery.proofs.Makings.{suits_on, suits_before, suits_model, carries_then, carries_well, carries_failed, only_read_none}
 use Rattle.recovery.proofs.making.make.Goals as goal
@@ -74,7 +74,7 @@ returns-in-Ok-clause-carries g c =
     1 2 1 (w + 1) 2 0 (w + 2) 4 1 (omega arith) (omega arith) (omega arith)
     (refl, u.passes.failures.stays refl)
     (carries_well A B T.by_sectors from c.args.new.now mid (only_read_none A g.met.A.SectorDevice.only_now from) 1 2 1 refl u.passes
-    (λ keeps. u.units (suits_model B g.met.B.SectorDevice.keeps_both T.by_sectors c.args.new.now keeps)) u.begins u.reads (tt {0}))
+    (λ keeps. u.units (suits_model B g.met.B.SectorDevice.keeps_both T.by_sectors c.args.new.now keeps)) (begins_of B u.costs) u.costs.few_reads (tt {0}))
     c.write_image.ensures.carries
 
 pub returns-in-Err-clause-carries : goal.returns-in-Err-clause-carries
@@ -86,4 +86,4 @@ returns-in-Err-clause-carries g c =
     carries_failed A B T.by_sectors c.args.old.now c.args.new.now c.unlabel.new.device (only_read_none A g.met.A.SectorDevice.only_now c.args.old.now)
     (T.block_writes * c.args.blocks.number + T.first_writes + T.last_writes + 2) 4 1 refl u.passes
     (λ keeps. u.units (suits_model B g.met.B.SectorDevice.keeps_both T.by_sectors c.args.new.now keeps))
-    (record { few_writes = omega (arith, u.begins.few_writes); few_syncs = omega (arith, u.begins.few_syncs) }) (omega (arith, u.reads))
+    (record { few_writes = omega (arith, u.costs.few_writes); few_syncs = omega (arith, u.costs.few_syncs) }) (omega (arith, u.costs.few_reads))

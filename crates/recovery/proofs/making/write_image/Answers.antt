@@ -3,6 +3,7 @@ use Rattle.sector_disk.specs.Disk.{Disk, written, settled}
 use Rattle.sector_disk.proofs.Moments.{leaves_then, sector_other}
 use Rattle.recovery.specs.Making.{IsMade, Sealed, WrittenLeaves}
 use Rattle.recovery.proofs.Makings.{suits_on, suits_model, suits_own, made_of, sealed_leaves, carries_then, carries_well, carries_failed, only_read_none}
+use Rattle.journal.proofs.Calls.{begins_of}
 use Rattle.recovery.proofs.making.write_image.Goals as goal
 
 pub seal-requires-clause-some : goal.seal-requires-clause-some
@@ -91,7 +92,7 @@ returns-in-Ok-clause-carries g c =
     w 1 0 1 1 0 (w + 1) 2 0 (omega arith) (omega arith) (omega arith)
     c.in_ok-prepare.ensures.carries.well c.in_ok-prepare.ensures.carries
     (carries_well A B T.by_sectors read mid new (only_read_none A g.met.A.SectorDevice.only_now read) 1 1 0 refl s.passes
-    (λ keeps. s.units (suits_model B g.met.B.SectorDevice.keeps_both T.by_sectors mid keeps)) s.begins s.reads tt)
+    (λ keeps. s.units (suits_model B g.met.B.SectorDevice.keeps_both T.by_sectors mid keeps)) (begins_of B s.costs) s.costs.few_reads tt)
 
 pub returns-in-Err-clause-carries : goal.returns-in-Err-clause-carries
 returns-in-Err-clause-carries g c =
@@ -107,4 +108,4 @@ returns-in-Err-clause-carries g c =
     w 1 0 1 1 0 (w + 1) 2 0 (omega arith) (omega arith) (omega arith)
     c.in_ok-prepare.ensures.carries.well c.in_ok-prepare.ensures.carries
     (carries_failed A B T.by_sectors read mid new (only_read_none A g.met.A.SectorDevice.only_now read) 1 1 0 refl s.passes
-    (λ keeps. s.units (suits_model B g.met.B.SectorDevice.keeps_both T.by_sectors mid keeps)) s.begins s.reads)
+    (λ keeps. s.units (suits_model B g.met.B.SectorDevice.keeps_both T.by_sectors mid keeps)) (begins_of B s.costs) s.costs.few_reads)

@@ -4,7 +4,7 @@ use Rattle.std.proofs.lemmas.Result.{MatchResult-weaker}
 use Rattle.sector_disk.specs.Disk.{Disk, Image, MayLeave}
 use Rattle.sector_disk.proofs.Moments.{leaves_then}
 use Rattle.journal.specs.Calls.{BeginsAtMost, ReadsAtMost}
-use Rattle.journal.proofs.Calls.{proceeds_then}
+use Rattle.journal.proofs.Calls.{begins_of, proceeds_then}
 use Rattle.recovery.specs.Opened.{writes_for, syncs_for}
 use Rattle.recovery.specs.Recovered.{damage_refusal_by, recovery_refusal, FinishLeaves, LeavesBy, reads_by}
 use Rattle.recovery.specs.declared.fault.OpenFault.TheVariants.{Device}
@@ -16,7 +16,7 @@ returns-in_err-start-clause-stops g c = λ keeps x since. inl (c.start.ensures.s
 
 pub returns-in_err-start-clause-reads : goal.returns-in_err-start-clause-reads
 returns-in_err-start-clause-reads g c = λ keeps.
-    reads_first g.D.SectorDevice c.args.version c.args.blocks.number (g.D.SectorDevice.disk c.args.device.now).content c.args.device.now c.start.new.device c.start.ensures.reads
+    reads_first g.D.SectorDevice c.args.version c.args.blocks.number (g.D.SectorDevice.disk c.args.device.now).content c.args.device.now c.start.new.device c.start.ensures.costs.few_reads
 
 pub returns-in_err-start-clause-exact : goal.returns-in_err-start-clause-exact
 returns-in_err-start-clause-exact g c = λ keeps.
@@ -62,7 +62,7 @@ returns-clause-begins g c = λ keeps.
     let n = c.args.blocks.number in
     let honest : IsTrue (D.keeps_sectors c.start.new.device) = subst IsTrue (sym c.start.ensures.passes.units) keeps in
     let within : (image : Image) → Type 0 = λ image. BeginsAtMost D c.start.new.device c.finish.new.device (writes_for n image) (syncs_for image - 1) in
-    begins_then D n (D.disk c.args.device.now).content c.args.device.now c.start.new.device c.finish.new.device c.start.ensures.begins
+    begins_then D n (D.disk c.args.device.now).content c.args.device.now c.start.new.device c.finish.new.device (begins_of D c.start.ensures.costs)
     (subst within (ap (λ (e : Disk). e.content) (c.in_ok-start.ensures.ok (g.met.D.SectorDevice.keeps_both _ keeps))) (c.finish.ensures.begins honest))
 
 pub returns-clause-reads : goal.returns-clause-reads
@@ -71,5 +71,5 @@ returns-clause-reads g c = λ keeps.
     let n = c.args.blocks.number in
     let honest : IsTrue (D.keeps_sectors c.start.new.device) = subst IsTrue (sym c.start.ensures.passes.units) keeps in
     let within : (image : Image) → Type 0 = λ image. ReadsAtMost D c.start.new.device c.finish.new.device (reads_by c.args.version n image - 1) in
-    reads_then D c.args.version n (D.disk c.args.device.now).content c.args.device.now c.start.new.device c.finish.new.device c.start.ensures.reads
+    reads_then D c.args.version n (D.disk c.args.device.now).content c.args.device.now c.start.new.device c.finish.new.device c.start.ensures.costs.few_reads
     (subst within (ap (λ (e : Disk). e.content) (c.in_ok-start.ensures.ok (g.met.D.SectorDevice.keeps_both _ keeps))) (c.finish.ensures.reads honest))

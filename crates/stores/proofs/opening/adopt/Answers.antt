@@ -6,7 +6,7 @@ use Rattle.journal.specs.Store.{StandsFor}
 use Rattle.journal.proofs.Choices.{from_false, from_true}
 use Rattle.journal.proofs.Suited.{newer_suits, older_suits, suits_newer, suits_older}
 use Rattle.recovery.specs.Label.{is_size}
-use Rattle.stores.proofs.KnownSizes.{size_of_newer, size_of_older}
+use Rattle.journal.proofs.KnownSizes.{size_of_newer, size_of_older}
 use Rattle.stores.proofs.Opened.{newer_meaning, older_meaning}
 use Rattle.stores.proofs.opening.adopt.Goals as goal
 

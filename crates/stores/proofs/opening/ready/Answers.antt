@@ -4,11 +4,10 @@ use Rattle.sector_disk.specs.Disk.{Disk}
 use Rattle.journal.specs.Clean as older_clean
 use Rattle.journal.specs.PageClean as newer_clean
 use Rattle.journal.proofs.Choices.{at_false, at_true}
-use Rattle.journal.proofs.Sizes.{older_sectors}
+use Rattle.journal.proofs.KnownSizes.{known_newer, newer_blocks, older_blocks, older_known, older_sectors}
 use Rattle.journal.proofs.Suited.{suits_newer, suits_older}
 use Rattle.recovery.specs.Label.{is_size}
 use Rattle.stores.specs.Images.{meaning}
-use Rattle.stores.proofs.KnownSizes.{older_known, known_newer, older_blocks, newer_blocks}
 use Rattle.stores.proofs.Opened.{older_refusal, older_has, has_older, older_meaning, older_sized, newer_refuses, newer_passes, newer_has, has_newer, older_stops, older_begins, older_reads, newer_stops, newer_begins, newer_reads}
 use Rattle.stores.proofs.Results.{any_err, either, if_ok, if_ok_both}
 use Rattle.stores.proofs.opening.ready.Goals as goal

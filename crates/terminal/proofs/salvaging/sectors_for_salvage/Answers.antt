@@ -1,6 +1,6 @@
 use Rattle.std.proofs.Common.{◌∙◌, ap, sym}
 use Rattle.std.specs.Prelude.{option_and_then, option_map}
-use Rattle.stores.specs.Layouts.{sectors_for}
+use Rattle.journal.specs.Layouts.{sectors_for}
 use Rattle.terminal.specs.Copying.{salvaged_count, sectors_like}
 use Rattle.terminal.proofs.Copies.{asked_sectors, unknown_count}
 use Rattle.terminal.proofs.salvaging.sectors_for_salvage.Goals as goal

@@ -10,6 +10,7 @@ use Rattle.recovery.proofs.Upgrades.{only_read_then}
 use Rattle.stores.specs.Opened.{newer_refusal}
 use Rattle.stores.proofs.Damage.{none_told, refusal_told}
 use Rattle.image_care.proofs.Findings.{not_refused, only_device, only_devices}
+use Rattle.journal.proofs.Calls.{begins_of}
 use Rattle.image_care.proofs.pages.finding.find.Goals as goal
 
 pub returns-clause-exact : goal.returns-clause-exact
@@ -53,5 +54,5 @@ returns-clause-only_read g c =
     let one = c.read_label.ensures in
     let two = c.look.ensures in
     only_read_then g.D.SectorDevice c.args.device.now c.read_label.new.device c.look.new.device g.met.D.SectorDevice.widens
-    (record { disk = one.disk; stops = one.stops; passes = one.passes; begins = one.begins })
+    (record { disk = one.disk; stops = one.stops; passes = one.passes; begins = begins_of g.D.SectorDevice one.costs })
     (record { disk = two.disk; stops = two.stops; passes = two.passes; begins = two.begins })

@@ -4,7 +4,7 @@ use Rattle.journal.specs.declared.technique.NamedRecord.{NamedRecord}
 use Rattle.journal.specs.declared.technique.Technique.TheVariants.{Pages}
 use Rattle.journal.proofs.Blocks.{length-below}
 use Rattle.journal.proofs.Stores.{adopted}
-use Rattle.journal.proofs.Sizes.{size_newer}
+use Rattle.journal.proofs.KnownSizes.{size_newer}
 use Rattle.journal.proofs.Suited.{newer_suits, suits_newer}
 use Rattle.journal.proofs.Techniques.{pages_sound, pages_blocks, rest_tagged}
 use Rattle.journal.proofs.store.Store.adopt_pages.Goals as goal

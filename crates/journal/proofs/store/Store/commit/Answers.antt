@@ -2,6 +2,7 @@ use Rattle.std.proofs.Common.{arith, inl, inr, ◌≡◌, refl, sym, subst, cond
 use Rattle.std.proofs.lemmas.List.{length-map}
 use Rattle.journal.specs.Costs.{each_reads, each_writes, more_writes, save_syncs}
 use Rattle.journal.specs.Calls.{BeginsAtMost, ReadsAtMost}
+use Rattle.journal.proofs.Calls.{begins_of}
 use Rattle.journal.specs.Maps.{block_in, latest}
 use Rattle.journal.specs.Store.{MeansBy, pending_count}
 use Rattle.journal.specs.Technique.{is_journal, spilled_of}
@@ -128,20 +129,20 @@ pub returns-in-Ok-clause-begins : goal.returns-in-Ok-clause-begins
 returns-in-Ok-clause-begins g c =
     let old = c.args.self.now in
     subst (λ t. BeginsAtMost g.D.SectorDevice old.device c.save.new.device (each_writes t * pending_count old + more_writes t) (save_syncs t))
-    (sym (told_by old)) c.save.ensures.begins
+    (sym (told_by old)) (begins_of g.D.SectorDevice c.save.ensures.costs)
 
 pub returns-in-Err-clause-begins : goal.returns-in-Err-clause-begins
 returns-in-Err-clause-begins g c =
     let old = c.args.self.now in
     subst (λ t. BeginsAtMost g.D.SectorDevice old.device c.save.new.device (each_writes t * pending_count old + more_writes t) (save_syncs t))
-    (sym (told_by old)) c.save.ensures.begins
+    (sym (told_by old)) (begins_of g.D.SectorDevice c.save.ensures.costs)
 
 pub returns-in-Ok-clause-reads : goal.returns-in-Ok-clause-reads
 returns-in-Ok-clause-reads g c =
     let old = c.args.self.now in
-    subst (λ t. ReadsAtMost g.D.SectorDevice old.device c.save.new.device (each_reads t * pending_count old)) (sym (told_by old)) c.save.ensures.reads
+    subst (λ t. ReadsAtMost g.D.SectorDevice old.device c.save.new.device (each_reads t * pending_count old)) (sym (told_by old)) c.save.ensures.costs.few_reads
 
 pub returns-in-Err-clause-reads : goal.returns-in-Err-clause-reads
 returns-in-Err-clause-reads g c =
     let old = c.args.self.now in
-    subst (λ t. ReadsAtMost g.D.SectorDevice old.device c.save.new.device (each_reads t * pending_count old)) (sym (told_by old)) c.save.ensures.reads
+    subst (λ t. ReadsAtMost g.D.SectorDevice old.device c.save.new.device (each_reads t * pending_count old)) (sym (told_by old)) c.save.ensures.costs.few_reads

@@ -4,6 +4,7 @@ use Rattle.journal.specs.BySize.{Means}
 use Rattle.journal.specs.Layout.{listed}
 use Rattle.journal.specs.Costs.{spill_reads, spill_writes}
 use Rattle.journal.specs.Calls.{BeginsAtMost, ReadsAtMost}
+use Rattle.journal.proofs.Calls.{begins_of}
 use Rattle.journal.specs.Technique.{spilled_of, InSpill}
 use Rattle.journal.proofs.Stores.{saved_means, pending_more, one_more, told_by}
 use Rattle.journal.proofs.Techniques.{in_spills, saved_kept, sound_spilled, spilled_kept}
@@ -87,19 +88,19 @@ returns-in-Err-clause-fault g c =
 pub returns-in-Ok-clause-begins : goal.returns-in-Ok-clause-begins
 returns-in-Ok-clause-begins g c =
     let old = c.args.self.now in
-    subst (λ t. BeginsAtMost g.D.SectorDevice old.device c.write.new.device (spill_writes t) 0) (sym (told_by old)) c.write.ensures.begins
+    subst (λ t. BeginsAtMost g.D.SectorDevice old.device c.write.new.device (spill_writes t) 0) (sym (told_by old)) (begins_of g.D.SectorDevice c.write.ensures.costs)
 
 pub returns-in-Ok-clause-reads : goal.returns-in-Ok-clause-reads
 returns-in-Ok-clause-reads g c =
     let old = c.args.self.now in
-    subst (λ t. ReadsAtMost g.D.SectorDevice old.device c.write.new.device (spill_reads t)) (sym (told_by old)) c.write.ensures.reads
+    subst (λ t. ReadsAtMost g.D.SectorDevice old.device c.write.new.device (spill_reads t)) (sym (told_by old)) c.write.ensures.costs.few_reads
 
 pub returns-in-Err-clause-begins : goal.returns-in-Err-clause-begins
 returns-in-Err-clause-begins g c =
     let old = c.args.self.now in
-    subst (λ t. BeginsAtMost g.D.SectorDevice old.device c.write.new.device (spill_writes t) 0) (sym (told_by old)) c.write.ensures.begins
+    subst (λ t. BeginsAtMost g.D.SectorDevice old.device c.write.new.device (spill_writes t) 0) (sym (told_by old)) (begins_of g.D.SectorDevice c.write.ensures.costs)
 
 pub returns-in-Err-clause-reads : goal.returns-in-Err-clause-reads
 returns-in-Err-clause-reads g c =
     let old = c.args.self.now in
-    subst (λ t. ReadsAtMost g.D.SectorDevice old.device c.write.new.device (spill_reads t)) (sym (told_by old)) c.write.ensures.reads
+    subst (λ t. ReadsAtMost g.D.SectorDevice old.device c.write.new.device (spill_reads t)) (sym (told_by old)) c.write.ensures.costs.few_reads

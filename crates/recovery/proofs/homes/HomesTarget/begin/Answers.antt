@@ -4,6 +4,7 @@ use Rattle.sector_disk.specs.Disk.{Disk}
 use Rattle.recovery.specs.Homes.{HasHomesBelow}
 use Rattle.recovery.proofs.HomesMade.{none_below}
 use Rattle.recovery.proofs.Makings.{own_units}
+use Rattle.journal.proofs.Calls.{begins_of}
 use Rattle.recovery.proofs.homes.HomesTarget.begin.Goals as goal
 
 pub returns-clause-begun : goal.returns-clause-begun
@@ -26,6 +27,6 @@ returns-clause-lays g c =
       passes = f.passes;
       units = λ keeps. own_units (D.disk old) (D.disk new) (λ j. g.met.D.SectorDevice.by_sectors old j keeps)
           (λ j. g.met.D.SectorDevice.by_sectors new j (subst IsTrue (sym f.passes.units) keeps));
-      begins = f.begins;
-      reads = f.reads;
+      begins = begins_of D f.costs;
+      reads = f.costs.few_reads;
     }

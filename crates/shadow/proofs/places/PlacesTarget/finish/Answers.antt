@@ -4,6 +4,7 @@ use Rattle.sector_disk.specs.Disk.{Disk}
 use Rattle.shadow.specs.Places.{HasNamed}
 use Rattle.shadow.proofs.Formats.{filled_by, record_of_parts, head_rest}
 use Rattle.shadow.proofs.Makings.{lays_of}
+use Rattle.journal.proofs.Calls.{begins_of}
 use Rattle.shadow.proofs.places.PlacesTarget.finish.Goals as goal
 
 pub returns-clause-filled : goal.returns-clause-filled
@@ -30,4 +31,4 @@ returns-clause-left g c = λ keeps.
 pub returns-clause-lays : goal.returns-clause-lays
 returns-clause-lays g c =
     let w = c.fill_head.ensures in
-    lays_of g.D.SectorDevice c.args.device.now c.fill_head.new.device 3 w.spoils w.passes w.begins w.reads
+    lays_of g.D.SectorDevice c.args.device.now c.fill_head.new.device 3 w.spoils w.passes (begins_of g.D.SectorDevice w.costs) w.costs.few_reads

@@ -3,6 +3,7 @@ use Rattle.shadow.specs.Formatted.{HasFirst}
 use Rattle.journal.specs.Tags.{tag_of, xor_bytes, sum_below}
 use Rattle.shadow.proofs.Formats.{firsts_more}
 use Rattle.shadow.proofs.Makings.{all_ok, lays_of}
+use Rattle.journal.proofs.Calls.{begins_of}
 use Rattle.shadow.proofs.places.PlacesTarget.lay_block.Goals as goal
 
 pub returns-clause-laid : goal.returns-clause-laid
@@ -22,4 +23,4 @@ returns-clause-laid g c = λ keeps given is has.
 pub returns-clause-lays : goal.returns-clause-lays
 returns-clause-lays g c =
     let w = c.write_block.ensures in
-    lays_of g.D.SectorDevice c.args.device.now c.write_block.new.device 4 w.spoils w.passes w.begins w.reads
+    lays_of g.D.SectorDevice c.args.device.now c.write_block.new.device 4 w.spoils w.passes (begins_of g.D.SectorDevice w.costs) w.costs.few_reads

@@ -1,7 +1,7 @@
 use Rattle.std.proofs.Common.{◌∙◌, ap, sym}
-use Rattle.stores.specs.Layouts.{is_journal, sectors_for}
-use Rattle.stores.proofs.KnownSizes.{older_known}
-use Rattle.stores.proofs.sizes.size_of.Goals as goal
+use Rattle.journal.specs.Layouts.{is_journal, sectors_for}
+use Rattle.journal.proofs.KnownSizes.{older_known}
+use Rattle.journal.proofs.sizes.size_of.Goals as goal
 
 pub returns-in-Some-clause-some : goal.returns-in-Some-clause-some
 returns-in-Some-clause-some c = older_known c.args.sectors c.in-Some.ensures.some

@@ -1,17 +1,15 @@
-// What the size of an image tells: its layout, and how many blocks it has.
-ghost use Rattle.std.specs.Prelude.{◌≡◌, ◌≤◌, true, false, IfSome, OnSome, IfNone};
+//! What the size of an image tells: its layout, and how many blocks it has.
+//! Rule: IMAGE, The bytes; IMAGE, Layout 3.
+ghost use Rattle.std.specs.Prelude.{◌≡◌, ◌<◌, ◌≤◌, true, false, IfSome, OnSome, IfNone};
 ghost use Rattle.journal.specs.Layout.{fewest_blocks, most_blocks};
-ghost use Rattle.recovery.specs.Label as older_label;
-ghost use Rattle.shadow.specs.Label.{is_size, is_known_size};
-ghost use Rattle.shadow.specs.Upgraded.{known_blocks};
-ghost use Rattle.stores.specs.Layouts.{has_size, is_journal, sectors_for};
+ghost use Rattle.journal.specs.Layouts.{has_size, is_journal, sectors_for};
+ghost use Rattle.journal.specs.Sizes.{is_known_size, is_pages_size, is_size, known_blocks};
 
-use journal::layout::{BlockCount, MOST_BLOCKS};
+use crate::layout::{BlockCount, MOST_BLOCKS, blocks_of_size};
+use crate::pages;
 use sector_disk::SectorDevice;
-use shadow::blocks_of_new;
 
 /// How an image keeps its blocks.
-/// Rule: IMAGE, The bytes; IMAGE, Layout 3.
 #[derive(Clone, Copy, Debug, PartialEq, Eq)]
 pub enum Layout {
     /// Layout 2: each block in its home, and in its slot while a save of it is under way.
@@ -29,11 +27,10 @@ pub struct Size {
 
 /// The layout of images with so many sectors, and how many blocks they have. None where no image of layout 2 or 3 has
 /// so many.
-/// Rule: IMAGE, The bytes; IMAGE, Layout 3.
 pub fn size_of(sectors: u32) -> Option<Size>
     ensures some { OnSome result (is_known_size sectors ≡ true) }
     ensures none { IfNone result (is_known_size sectors ≡ false) }
-    ensures layout { IfSome result (λ size. is_journal size.layout ≡ older_label.is_size sectors) }
+    ensures layout { IfSome result (λ size. is_journal size.layout ≡ is_size sectors) }
     ensures sectors { IfSome result (λ size. sectors ≡ sectors_for size.layout size.blocks.number) }
     ensures count { IfSome result (λ size. size.blocks.number ≡ known_blocks sectors) }
 {
@@ -45,10 +42,10 @@ pub fn size_of(sectors: u32) -> Option<Size>
 
 // The same of a size that no image of layout 2 has.
 fn other_size(sectors: u32) -> Option<Size>
-    requires { older_label.is_size sectors ≡ false }
+    requires { is_size sectors ≡ false }
     ensures some { OnSome result (is_known_size sectors ≡ true) }
     ensures none { IfNone result (is_known_size sectors ≡ false) }
-    ensures layout { IfSome result (λ size. is_journal size.layout ≡ older_label.is_size sectors) }
+    ensures layout { IfSome result (λ size. is_journal size.layout ≡ is_size sectors) }
     ensures sectors { IfSome result (λ size. sectors ≡ sectors_for size.layout size.blocks.number) }
     ensures count { IfSome result (λ size. size.blocks.number ≡ known_blocks sectors) }
 {
@@ -59,7 +56,6 @@ fn other_size(sectors: u32) -> Option<Size>
 }
 
 /// The size of an image of this layout with so many sectors. None where no image of it has so many.
-/// Rule: IMAGE, The bytes; IMAGE, Layout 3.
 pub fn size_by(layout: Layout, sectors: u32) -> Option<Size>
     ensures some { OnSome result (has_size layout sectors ≡ true) }
     ensures none { IfNone result (has_size layout sectors ≡ false) }
@@ -74,13 +70,13 @@ pub fn size_by(layout: Layout, sectors: u32) -> Option<Size>
 }
 
 fn journal_size(sectors: u32) -> Option<Size>
-    ensures some { OnSome result (older_label.is_size sectors ≡ true) }
-    ensures none { IfNone result (older_label.is_size sectors ≡ false) }
+    ensures some { OnSome result (is_size sectors ≡ true) }
+    ensures none { IfNone result (is_size sectors ≡ false) }
     ensures layout { IfSome result (λ size. size.layout ≡ Layout.Journal) }
     ensures sectors { IfSome result (λ size. sectors ≡ sectors_for Layout.Journal size.blocks.number) }
     ensures count { IfSome result (λ size. size.blocks.number ≡ known_blocks sectors) }
 {
-    match recovery::blocks_of_size(sectors, MOST_BLOCKS) {
+    match blocks_of_size(sectors, MOST_BLOCKS) {
         Some(number) => Some(Size {
             layout: Layout::Journal,
             blocks: BlockCount { number },
@@ -90,13 +86,13 @@ fn journal_size(sectors: u32) -> Option<Size>
 }
 
 fn pages_size(sectors: u32) -> Option<Size>
-    ensures some { OnSome result (is_size sectors ≡ true) }
-    ensures none { IfNone result (is_size sectors ≡ false) }
+    ensures some { OnSome result (is_pages_size sectors ≡ true) }
+    ensures none { IfNone result (is_pages_size sectors ≡ false) }
     ensures layout { IfSome result (λ size. size.layout ≡ Layout.Pages) }
     ensures sectors { IfSome result (λ size. sectors ≡ sectors_for Layout.Pages size.blocks.number) }
     ensures count { IfSome result (λ size. size.blocks.number ≡ known_blocks sectors) }
 {
-    match blocks_of_new(sectors) {
+    match pages::layout::blocks_of_size(sectors) {
         Some(number) => Some(Size {
             layout: Layout::Pages,
             blocks: BlockCount { number },
@@ -106,7 +102,6 @@ fn pages_size(sectors: u32) -> Option<Size>
 }
 
 /// How many sectors an image of so many blocks has.
-/// Rule: IMAGE, The bytes; IMAGE, Layout 3.
 pub fn sectors_of(layout: Layout, blocks: u16) -> u32
     ensures { result ≡ sectors_for layout blocks }
 {
@@ -117,11 +112,11 @@ pub fn sectors_of(layout: Layout, blocks: u16) -> u32
 }
 
 /// How many blocks an image of so many sectors has, from 32 to 3,840. None where no image of layout 2 or 3 has so many.
-/// Rule: IMAGE, The bytes; IMAGE, Layout 3.
-pub fn blocks_of_size(sectors: u32) -> Option<u16>
+pub fn known_blocks(sectors: u32) -> Option<u16>
     ensures count { IfSome result (λ n. n ≡ known_blocks sectors) }
     ensures some { OnSome result (is_known_size sectors ≡ true) }
     ensures none { IfNone result (is_known_size sectors ≡ false) }
+    ensures sized { OnSome result (0 < sectors) }
     ensures many { IfSome result (λ n. fewest_blocks ≤ n) }
     ensures few { IfSome result (λ n. n ≤ most_blocks) }
 {
@@ -134,7 +129,14 @@ pub fn blocks_of_size(sectors: u32) -> Option<u16>
 /// Whether the device has as many sectors as some image of layout 2.
 /// Rule: IMAGE, The bytes.
 pub fn is_older<D: SectorDevice>(device: &D) -> bool
-    ensures { result ≡ older_label.is_size (D.sector_count device.now) }
+    ensures { result ≡ is_size (D.sector_count device.now) }
 {
-    recovery::blocks_of_size(device.sectors(), MOST_BLOCKS).is_some()
+    blocks_of_size(device.sectors(), MOST_BLOCKS).is_some()
+}
+
+/// Whether an image of layout 1, 2 or 3 has so many sectors.
+pub fn is_known_size(sectors: u32) -> bool
+    ensures { result ≡ is_known_size sectors }
+{
+    known_blocks(sectors).is_some()
 }

@@ -2,10 +2,9 @@
 use Rattle.std.specs.Prelude.{ℕ, Bool, true, false}
 use Rattle.journal.specs.Layout as journal
 use Rattle.journal.specs.PageLayout as pages
-use Rattle.recovery.specs.Label as older
-use Rattle.shadow.specs.Label as newer
-use Rattle.stores.specs.declared.sizes.Layout.{Layout}
-use Rattle.stores.specs.declared.sizes.Layout.TheVariants.{Journal, Pages}
+use Rattle.journal.specs.Sizes.{is_size, is_pages_size}
+use Rattle.journal.specs.declared.sizes.Layout.{Layout}
+use Rattle.journal.specs.declared.sizes.Layout.TheVariants.{Journal, Pages}
 
 -- whether it is layout 2
 abbrev pub is_journal : Layout → Bool
@@ -19,5 +18,5 @@ sectors_for Pages n = pages.sectors_for n
 
 -- whether some image of this layout has so many sectors
 abbrev pub has_size : Layout → ℕ → Bool
-has_size Journal sectors = older.is_size sectors
-has_size Pages sectors = newer.is_size sectors
+has_size Journal sectors = is_size sectors
+has_size Pages sectors = is_pages_size sectors
