@@ -1,5 +1,5 @@
 pub mod Words
 pub mod Dictionary
 pub mod Chains
-pub mod Briefs
+pub mod Callees
 pub mod System

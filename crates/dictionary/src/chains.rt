@@ -10,11 +10,11 @@ ghost use Rattle.std.specs.Int.{from_le_bytes, Width};
 ghost use Rattle.std.specs.Int.Width.{w32};
 ghost use Rattle.dictionary.specs.Words.{same_text, is_name, find_in, entry, with_immediate, with_part};
 ghost use Rattle.dictionary.specs.Dictionary.{word_of, kind_of, kind_of_word};
-ghost use Rattle.dictionary.specs.Briefs.{brief_of};
+ghost use Rattle.dictionary.specs.Callees.{callee_of};
 ghost use Rattle.dictionary.specs.Chains.{joined, mixed, number_of};
 
-use crate::briefs::{Briefs, brief_in};
-use crate::{Brief, Kind, NAME_LIMIT, NoMemory, Place, Token, WORD_LIMIT, Word};
+use crate::callees::{Callees, callee_in};
+use crate::{Callee, Kind, NAME_LIMIT, NoMemory, Place, Token, WORD_LIMIT, Word};
 use std::alloc::Global;
 use std::marker::Model;
 
@@ -114,21 +114,21 @@ pub(crate) struct Chains {
     last: Vec<Token>,
     // By the strand: its last word, or 0.
     newest: Vec<Token>,
-    // What a call asks of each word first.
-    briefs: Briefs,
+    // What a call of each word comes to.
+    callees: Callees,
 }
 
 impl Model for Chains {
     ghost use Rattle.std.specs.Prelude.{List, map, ◌≤◌, vec_capacity};
     ghost use Rattle.dictionary.specs.Dictionary.{Named};
-    ghost use Rattle.dictionary.specs.Briefs.{IsToldOf};
+    ghost use Rattle.dictionary.specs.Callees.{IsToldOf};
     ghost use Rattle.dictionary.specs.Chains.{header_word, IsChained};
 
     ghost Value = { List Named };
 
     ghost view = { λ c. map header_word c.headers.items };
 
-    ghost invariant = { λ c. IsChained c.headers.items c.last.items c.newest.items × (4096 ≤ vec_capacity c.headers) × IsToldOf c.headers.items c.briefs };
+    ghost invariant = { λ c. IsChained c.headers.items c.last.items c.newest.items × (4096 ≤ vec_capacity c.headers) × IsToldOf c.headers.items c.callees };
 }
 
 impl Chains {
@@ -139,12 +139,12 @@ impl Chains {
         let headers = Vec::with_capacity(alloc, WORD_LIMIT)?;
         let last = vec![in alloc; 0; WORD_LIMIT + 1]?;
         let newest = vec![in alloc; 0; STRANDS]?;
-        let briefs = Briefs::new(alloc)?;
+        let callees = Callees::new(alloc)?;
         Ok(Chains {
             headers,
             last,
             newest,
-            briefs,
+            callees,
         })
     }
 
@@ -183,7 +183,7 @@ impl Chains {
         if self.headers.push(header).is_ok() {
             self.last[word.vocabulary as usize] = token as Token;
             self.newest[strand] = token as Token;
-            self.briefs.set(token as Token, brief_in(word.kind));
+            self.callees.set(token as Token, callee_in(word.kind));
         }
     }
 
@@ -196,7 +196,7 @@ impl Chains {
             self.last[header.vocabulary as usize] = header.previous;
             self.newest[strand(header.number)] = header.older;
             let token = self.headers.len() + 1;
-            self.briefs.set(token as Token, Brief::Other);
+            self.callees.set(token as Token, Callee::Other);
         }
     }
 
@@ -260,21 +260,21 @@ impl Chains {
         }
     }
 
-    /// What a call asks of the word first.
+    /// What a call of the word comes to.
     #[inline(always)]
-    pub(crate) fn brief(&self, token: Token) -> Brief
+    pub(crate) fn callee(&self, token: Token) -> Callee
         requires { token ≤ 4096 }
-        ensures { result ≡ brief_of (entry self.now token) }
+        ensures { result ≡ callee_of (entry self.now token) }
     {
-        self.briefs.says(token)
+        self.callees.says(token)
     }
 
-    /// What a call asks of the word first, for any number.
+    /// What a call of the word comes to, for any number.
     #[inline(always)]
-    pub(crate) fn brief_of_any(&self, token: Token) -> Brief
-        ensures { result ≡ brief_of (entry self.now token) }
+    pub(crate) fn callee_of_any(&self, token: Token) -> Callee
+        ensures { result ≡ callee_of (entry self.now token) }
     {
-        self.briefs.says_of_any(token)
+        self.callees.says_of_any(token)
     }
 
     /// Makes the last word immediate.
@@ -300,7 +300,7 @@ impl Chains {
             Kind::Created(data, _) => {
                 let header = &mut self.headers[last];
                 header.kind = Kind::Created(data, Some(part));
-                self.briefs.set((last + 1) as Token, Brief::Other);
+                self.callees.set((last + 1) as Token, Callee::Other);
                 true
             }
             _ => false,

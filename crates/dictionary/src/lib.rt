@@ -11,11 +11,11 @@
 
 pub use system::is_compile_only;
 pub use words::{
-    Brief, Dictionary, DictionaryFault, FORTH, Kind, NAME_LIMIT, NoMemory, Place,
+    Callee, Dictionary, DictionaryFault, FORTH, Kind, NAME_LIMIT, NoMemory, Place,
     SYSTEM_WORD_COUNT, Token, WORD_LIMIT, Word,
 };
 
-mod briefs;
+mod callees;
 mod chains;
 mod system;
 mod words;

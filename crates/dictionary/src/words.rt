@@ -2,7 +2,7 @@
 ghost use Rattle.std.specs.Prelude.{◌≡◌, ◌≤◌, ◌+◌, Some, length, option_map, IfOk, IfSome, OnOk, OnErr, IsSome, IsTrue};
 ghost use Rattle.std.specs.Result.{result_err};
 ghost use Rattle.dictionary.specs.Words.{find, find_in, entry, with_immediate, with_part};
-ghost use Rattle.dictionary.specs.Briefs.{brief_of};
+ghost use Rattle.dictionary.specs.Callees.{callee_of};
 ghost use Rattle.dictionary.specs.Dictionary.{first_dictionary, word_of, kind_of, kind_of_word, is_token, may_be_vocabulary, add_refusal, with_word, immediate_refusal, does_refusal, forget_refusal, forgotten, IsValid};
 
 use crate::chains::{Chains, mixed};
@@ -46,14 +46,14 @@ pub enum Kind {
     Vocabulary,
 }
 
-/// What a call asks of a word first: whether it has a body, or leaves a cell and does nothing else.
+/// What a call of a word comes to.
 #[derive(Clone, Copy)]
-pub enum Brief {
-    /// Neither, so its kind says what it is; or no word has the token.
+pub enum Callee {
+    /// What its kind says, which is neither of these; or no word has the token.
     Other,
-    /// The place of its body.
+    /// A run of its body, which begins at this place.
     Body(Place),
-    /// The cell that it leaves.
+    /// This cell, which it leaves and does nothing else.
     Cell(u16),
 }
 
@@ -197,23 +197,23 @@ impl Dictionary {
         self.words.get(token)
     }
 
-    /// What a call asks of the word first, where the token is 4,096 at most.
+    /// What a call of the word comes to, where the token is 4,096 at most.
     /// Rule: LANGUAGE, Dictionary.
     #[inline(always)]
-    pub fn brief(&self, token: Token) -> Brief
+    pub fn callee(&self, token: Token) -> Callee
         requires { token ≤ 4096 }
-        ensures { result ≡ brief_of (entry self.now.words token) }
+        ensures { result ≡ callee_of (entry self.now.words token) }
     {
-        self.words.brief(token)
+        self.words.callee(token)
     }
 
-    /// What a call asks of the word first, for any number: `Other` where no word has the token.
+    /// What a call of the word comes to, for any number: `Other` where no word has the token.
     /// Rule: LANGUAGE, Dictionary.
     #[inline(always)]
-    pub fn brief_of_any(&self, token: Token) -> Brief
-        ensures { result ≡ brief_of (entry self.now.words token) }
+    pub fn callee_of_any(&self, token: Token) -> Callee
+        ensures { result ≡ callee_of (entry self.now.words token) }
     {
-        self.words.brief_of_any(token)
+        self.words.callee_of_any(token)
     }
 
     /// What the word with the token is. None where no word has it: at 0, and above `len`.

@@ -7,7 +7,7 @@ ghost use Rattle.image_care.specs.StillDisk.{ReadsWell};
 use sector_disk::{Counts, DeviceFault, SectorDevice};
 
 /// Bytes in memory, as a device of sectors that nobody writes: past their end there are zeros. It keeps the disk model,
-/// by sectors. No read of it fails; each write and each sync does, and changes nothing.
+/// by sectors. No read of it fails; each write and each sync does, and changes no byte.
 /// Rule: IMAGE, A look while it runs; IMAGE, A sector that can't be read.
 #[derive(Drop)]
 pub struct StillDisk<'a> {
@@ -78,18 +78,18 @@ impl SectorDevice for StillDisk<'_> {
     }
 
     fn read(&mut self, k: u32, out: &mut [u8; 512]) -> Result<(), DeviceFault> {
-        self.counts.reads = self.counts.reads.saturating_add(1);
+        self.counts.count_read();
         *out = sector_in(self.bytes, k);
         Ok(())
     }
 
     fn write(&mut self, _k: u32, _bytes: &[u8; 512]) -> Result<(), DeviceFault> {
-        self.counts.writes = self.counts.writes.saturating_add(1);
+        self.counts.count_write();
         Err(DeviceFault)
     }
 
     fn sync(&mut self) -> Result<(), DeviceFault> {
-        self.counts.syncs = self.counts.syncs.saturating_add(1);
+        self.counts.count_sync();
         Err(DeviceFault)
     }
 }

@@ -39,7 +39,7 @@ use Rattle.interpreter.specs.Law.{left, next}
 use Rattle.lexicon.specs.declared.language.Lexicon.{Lexicon}
 use Rattle.lexicon.specs.Language.{Language}
 use Rattle.lexicon.specs.Stands.{Stands as Means}
-use Rattle.lexicon.specs.Laws.{SystemWordsLook}
+use Rattle.lexicon.specs.Laws.{SystemWordsAreOutsideOrLook}
 use Rattle.lexicon.specs.Running.{here_token, pad_token, looks, or_looks, meanings, meaning_of, word_meaning, AsksFor}
 use Rattle.interpreter.specs.Lexicon.{language_of, IsDue}
 use Rattle.interpreter.specs.RoundContract.{IsAtText, Decreases}
@@ -238,7 +238,7 @@ serves_as_meant zero x system = λ a w c h. absurd (omega (arith, h))
 serves_as_meant (suc n) x system = λ a w c h. word_or_execute n a x system (w == execute_token) w c refl (omega (arith, h))
 
 -- frame steps that call too keep the value of what is left
-pub left_calls : SystemWordsLook → (n : ℕ) (l : Lexicon) (x : World) (k : ℕ) (levels : List Level) (c : Core) → Means l (language_of x) → c.steps < n → left n levels c x ≡ next n (calling_steps (meanings (language_of x)) k levels c) x
+pub left_calls : SystemWordsAreOutsideOrLook → (n : ℕ) (l : Lexicon) (x : World) (k : ℕ) (levels : List Level) (c : Core) → Means l (language_of x) → c.steps < n → left n levels c x ≡ next n (calling_steps (meanings (language_of x)) k levels c) x
 left_calls looking n l x k levels c means h =
     calling_keeps n (λ a due c x. serve n a due c x) (λ a c x. text n (λ a due c x. serve n a due c x) n a c x) back (meanings (language_of x)) x
     (step_keeps n (λ a due c x. serve n a due c x) (λ a due c x. serve-frugal n a due c x) (λ a c x. text n (λ a due c x. serve n a due c x) n a c x) back)

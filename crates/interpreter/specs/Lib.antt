@@ -6,7 +6,7 @@ pub mod Streams
 pub mod Naming
 pub mod NameWords
 pub mod Compiling
-pub mod Begun
+pub mod LoadStart
 pub mod Blocking
 pub mod Text
 pub mod FaultNames

@@ -40,6 +40,10 @@ first_here = 1280
 abbrev pub last_here : ℕ
 last_here = 60928
 
+-- where PAD is, and so where a picture ends
+abbrev pub pad_at : ℕ → ℕ
+pad_at here = here + 324
+
 -- the system words alone
 abbrev pub new_language : Language
 new_language =

@@ -35,6 +35,6 @@ LoadsLeave =
     IsLeft l x doing entries (Load blk to_in ∷ levels) → (below : List Entry) × ((entries ≡ LoadOf blk to_in ∷ below) × IsLeft l x doing below levels)
 
 -- a system word, which has a row, is none that the machine can call, but for those that only look
-abbrev pub SystemWordsLook : Type 0
-SystemWordsLook =
+abbrev pub SystemWordsAreOutsideOrLook : Type 0
+SystemWordsAreOutsideOrLook =
     (l : Lexicon) (x : Language) → Stands l x → (w : ℕ) (row : Mark × Meaning) → at_token rows w ≡ Some row → meanings x w ≡ looks x w

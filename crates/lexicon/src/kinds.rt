@@ -4,8 +4,8 @@ ghost use Rattle.dictionary.specs.Words.{Created, Constant, Vocabulary};
 ghost use Rattle.lexicon.specs.Promise.{fault_of};
 ghost use Rattle.lexicon.specs.Running.{called_kind};
 ghost use Rattle.lexicon.specs.Adding.{name_fault};
-ghost use Rattle.dictionary.specs.declared.words.Brief.TheVariants as told;
-ghost use Rattle.dictionary.specs.Briefs.{brief_kind};
+ghost use Rattle.dictionary.specs.declared.words.Callee.TheVariants as told;
+ghost use Rattle.dictionary.specs.Callees.{callee_kind};
 ghost use Rattle.dictionary.specs.Dictionary.{kind_of as place_kind, body_of as place_body};
 ghost use Rattle.lexicon.specs.Kinds.{data_address, makes_vocabulary, data_field};
 
@@ -16,7 +16,7 @@ use dictionary::{DictionaryFault, Kind};
 /// What a word of this kind is to the machine, where it has no body and isn't a mere cell.
 #[inline(always)]
 pub(crate) fn called_rarely(kind: Kind) -> Called
-    requires { brief_kind (place_kind kind) ≡ told.Other }
+    requires { callee_kind (place_kind kind) ≡ told.Other }
     ensures { result ≡ called_kind (place_kind kind) }
 {
     match kind {

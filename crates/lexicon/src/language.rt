@@ -25,6 +25,9 @@ pub type Token = u16;
 /// Where data fields begin.
 pub const FIRST_HERE: u16 = 1280;
 
+/// How far `PAD` is from `HERE`, and so how far behind it a picture ends.
+pub const PAD_OFFSET: u16 = 324;
+
 /// Why a call was refused that is no addition to the open definition. Nothing is changed then.
 #[derive(Clone, Copy, Debug, PartialEq, Eq)]
 pub enum LexiconRefusal {

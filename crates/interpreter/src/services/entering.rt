@@ -16,7 +16,7 @@ impl<D: SectorDevice> Forth<D> {
     ghost use Rattle.cell_machine.specs.Frames.{Level, around_of};
     ghost use Rattle.cell_machine.specs.Value.{and_then};
     ghost use Rattle.system_words.specs.declared.words.Service.TheVariants.{Execute, Load};
-    ghost use Rattle.interpreter.specs.Begun.{start_now};
+    ghost use Rattle.interpreter.specs.LoadStart.{start_now};
     ghost use Rattle.interpreter.specs.State.{World, place_in, with_run};
     ghost use Rattle.interpreter.specs.Law.{left};
     ghost use Rattle.interpreter.specs.Text.{serve, on_service, may_execute};

@@ -6,15 +6,12 @@ ghost use Rattle.interpreter.specs.Naming.{here_moved};
 use crate::fault::Fault;
 use crate::forth::Forth;
 use crate::services::compiling_words::lexicon_fault;
-use lexicon::FIRST_HERE;
+use lexicon::{FIRST_HERE, PAD_OFFSET};
 use sector_disk::SectorDevice;
 use system_words::words::LexiconWord;
 
 /// The last address at which `HERE` may stand.
 pub(crate) const LAST_HERE: u16 = 60928;
-
-/// How far `PAD` is from `HERE`, and so how far behind it a picture ends.
-pub(crate) const PAD_OFFSET: u16 = 324;
 
 /// Where `HERE` would stand, moved by this many bytes with their sign.
 fn moved_here(here: u16, n: u16) -> u32
@@ -61,7 +58,7 @@ impl<D: SectorDevice> Forth<D> {
         }
     }
 
-    /// `HERE`.
+    /// `HERE`. The machine leaves this cell by itself; this is for the definition, which has a service for each such row.
     fn here(&mut self) -> Result<(), Fault>
         ensures alters { Alters (λ a c x. on_lexicon Here c x) result self.old self.new }
         ensures spares { Spares result self.old self.new }
@@ -89,7 +86,7 @@ impl<D: SectorDevice> Forth<D> {
         Ok(())
     }
 
-    /// `PAD`.
+    /// `PAD`, as `HERE`.
     fn pad(&mut self) -> Result<(), Fault>
         requires sound { IsSound self.old.lexicon }
         ensures alters { Alters (λ a c x. on_lexicon Pad c x) result self.old self.new }

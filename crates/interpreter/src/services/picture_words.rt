@@ -7,9 +7,9 @@ ghost use Rattle.cell_machine.specs.Cells.{double};
 
 use crate::fault::{Fault, Stop};
 use crate::forth::{Forth, Picture};
-use crate::services::lexicon_words::PAD_OFFSET;
 use crate::system_cells::{BASE, cell_of};
 use crate::terminal::Terminal;
+use lexicon::PAD_OFFSET;
 use number_io::Held;
 use sector_disk::SectorDevice;
 use system_words::words::PictureWord;

@@ -32,7 +32,7 @@ pub fn sectors_for(blocks: u16) -> u32
     HEAD + 2 * UNIT * blocks as u32
 }
 
-/// Whether an image of layout 3 of so many blocks has so many sectors. It has 32 to 3,840 of them.
+/// Whether an image of layout 3 of so many blocks, from 32 to 3,840, has so many sectors.
 pub fn fits(blocks: u32, sectors: u32) -> bool
     ensures value { result ≡ is_pages_size_for blocks sectors }
     ensures many { OnTrue result (fewest_blocks ≤ blocks) }

@@ -10,7 +10,7 @@ invariant_of-self c =
     let at = last_read s.headers.items c.args.self.now c.len-last.result c.index_mut.result.now c.self.view_is c.requires (omega (arith, c.len-last.ensures)) c.index_mut.ensures.value in (
       chained_last s.headers.items c.args.self.now s.last.items s.newest.items c.len-last.result c.index_mut.result.now _ c.self.view_is c.requires (omega (arith, c.len-last.ensures)) c.index_mut.ensures.value c.self.invariant.0 (record { number = refl; previous = refl; older = refl; vocabulary = refl; len = refl; name = refl }),
       c.self.invariant.1,
-      told_alike s.headers.items (c.len-last.result - 1) c.index_mut.result.now _ s.briefs c.self.invariant.2 at refl,
+      told_alike s.headers.items (c.len-last.result - 1) c.index_mut.result.now _ s.callees c.self.invariant.2 at refl,
     )
 
 pub returns-clause-set : goal.returns-clause-set

@@ -15,7 +15,7 @@ invariant_of-self c =
     let at = last_read s.headers.items c.args.self.now c.len-last.result c.index_mut-header.result.now c.self.view_is c.requires (omega (arith, c.len-last.ensures)) c.index_mut-header.ensures.value in (
       chained_last s.headers.items c.args.self.now s.last.items s.newest.items c.len-last.result c.index_mut-header.result.now (record c.index_mut-header.result.now { kind = Kind.Created c.in-Created.data (Some c.args.part) }) c.self.view_is c.requires (omega (arith, c.len-last.ensures)) c.index_mut-header.ensures.value c.self.invariant.0 (record { number = refl; previous = refl; older = refl; vocabulary = refl; len = refl; name = refl }),
       c.self.invariant.1,
-      told_edited s.headers.items (c.len-last.result - 1) c.index_mut-header.result.now (record c.index_mut-header.result.now { kind = Kind.Created c.in-Created.data (Some c.args.part) }) s.briefs c.set.new.self (c.len-last.result - 1 + 1) c.self.invariant.2 at refl c.set.ensures.stored c.set.ensures.others,
+      told_edited s.headers.items (c.len-last.result - 1) c.index_mut-header.result.now (record c.index_mut-header.result.now { kind = Kind.Created c.in-Created.data (Some c.args.part) }) s.callees c.set.new.self (c.len-last.result - 1 + 1) c.self.invariant.2 at refl c.set.ensures.stored c.set.ensures.others,
     )
 
 -- the last header is read twice, as f and as h

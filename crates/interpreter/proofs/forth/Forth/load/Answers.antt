@@ -6,7 +6,7 @@ use Rattle.data_space.specs.Space.{cell_at, with_cell}
 use Rattle.cell_machine.specs.Frames.{Load, around_of}
 use Rattle.cell_machine.specs.Value.{and_then}
 use Rattle.lexicon.specs.Stands.{IsLeft}
-use Rattle.interpreter.specs.Begun.{start_now}
+use Rattle.interpreter.specs.LoadStart.{start_now}
 use Rattle.interpreter.specs.State.{with_load, with_run, place_in}
 use Rattle.interpreter.specs.Law.{left}
 use Rattle.interpreter.specs.Lexicon.{language_of}

@@ -2,7 +2,7 @@ use Rattle.std.proofs.Common.{◌≡◌, refl, ◌∙◌, arith}
 use Rattle.test_devices.specs.Coarse.{in_eights}
 use Rattle.sector_disk.specs.Disk.{written}
 use Rattle.sector_disk.specs.MemoryDisk.{held, size}
-use Rattle.sector_disk.proofs.Units.{went_well, on_well, spread}
+use Rattle.test_devices.proofs.Units.{went_well, on_well, spread}
 use Rattle.test_devices.proofs.coarse.CoarseSectorDevice.write.Goals as goal
 
 pub returns-clause-disk : goal.returns-clause-disk

@@ -1,7 +1,0 @@
-use Rattle.std.proofs.Common.{◌∙◌, ap}
-use Rattle.dictionary.specs.Words.{entry}
-use Rattle.dictionary.specs.Briefs.{brief_of}
-use Rattle.dictionary.proofs.chains.Chains.brief_of_any.Goals as goal
-
-pub returns : goal.returns
-returns c = c.says_of_any.ensures ∙ c.self.invariant.2 c.args.token ∙ ap (λ ws. brief_of (entry ws c.args.token)) c.self.view_is
