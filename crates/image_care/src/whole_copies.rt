@@ -159,7 +159,7 @@ pub fn read_whole<R: Readings>(
     ensures given { IfOk result (λ bytes. IsOneOf 64 (R.gives readings.old (512 * sectors)) bytes.items) }
     ensures in_use { IfErr result (λ fault. fault ≡ FileFault.InUse
         → NoneIsWhole sectors 64 (R.gives readings.old (512 * sectors))) }
-    // What was read is never told as a file that can't be opened.
+    // After a reading that changes them it is never told as a file that can't be opened.
     ensures cannot { IfErr result (λ fault. fault ≡ FileFault.Cannot → readings.new ≡ readings.old) }
     ensures fault { IfErr result (λ fault. fault ≢ FileFault.Exists) }
 {
@@ -193,7 +193,7 @@ pub fn read_whole_file<R: Readings>(
     ensures in_use { IfErr result (λ fault. fault ≡ FileFault.InUse → is_size (sectors_in len) ≡ true
         → NoneIsWhole (sectors_in len) 64 (R.gives readings.old (512 * sectors_in len))) }
     ensures no_image { is_size (sectors_in len) ≡ false → result ≡ Err FileFault.InUse }
-    // What was read is never told as a file that can't be opened.
+    // After a reading that changes them it is never told as a file that can't be opened.
     ensures cannot { IfErr result (λ fault. fault ≡ FileFault.Cannot → readings.new ≡ readings.old) }
     ensures fault { IfErr result (λ fault. fault ≢ FileFault.Exists) }
 {

@@ -58,7 +58,7 @@ impl<D: SectorDevice> Forth<D> {
         }
     }
 
-    /// `HERE`. The machine leaves this cell by itself; this is for the definition, which has a service for each such row.
+    /// `HERE`. The machine leaves this cell by itself; this is for the definition, which has a service for each row.
     fn here(&mut self) -> Result<(), Fault>
         ensures alters { Alters (λ a c x. on_lexicon Here c x) result self.old self.new }
         ensures spares { Spares result self.old self.new }
