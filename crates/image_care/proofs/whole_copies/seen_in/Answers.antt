@@ -19,8 +19,10 @@ pub returns-in-Err-clause-torn : goal.returns-in-Err-clause-torn
 returns-in-Err-clause-torn c = λ is meant.
     let made = c.new.ensures in
     let sized : is_size c.new.result.sectors ≡ true = ap is_size made.sectors ∙ c.requires.newer in
-    let means =
+    let sized_alike =
     subst (λ n. HasMeaning n (disk_of_file (still c.args.bytes.now)).content) (sym made.sectors) meant in
+    let means =
+    subst (λ (d : Disk). HasMeaning c.new.result.sectors d.content) (sym made.disk) sized_alike in
     let refused = c.in-Err.ensures in
     not_failed _ c.new.result c.look.new.device made.reads made.failures
     (record { disk = c.look.ensures.disk; stops = c.look.ensures.stops; passes = c.look.ensures.passes; begins = c.look.ensures.begins })
