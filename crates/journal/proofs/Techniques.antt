@@ -1,5 +1,5 @@
 -- What holds of each technique, by cases.
-use Rattle.std.proofs.Common.{◌≡◌, ◌≢◌, ◌⊎◌, inl, inr, ℕ, ◌+◌, ◌*◌, ◌<◌, ◌≤◌, Bool, true, false, cond, List, ◌++◌, take, drop, refl, sym, ◌∙◌, ap, subst, arith, take-append-drop}
+use Rattle.std.proofs.Common.{◌≡◌, ◌≢◌, inl, inr, ℕ, ◌+◌, ◌*◌, ◌<◌, ◌≤◌, Bool, true, false, cond, List, ◌++◌, take, drop, refl, sym, ◌∙◌, ap, subst, arith, take-append-drop}
 use Rattle.std.specs.Prelude.{length, not, OnOk, IsTrue, Result, Ok, Err}
 use Rattle.sector_disk.specs.Disk.{Disk, Image, MayLeave, written, with_sector}
 use Rattle.sector_disk.specs.Pages.{InPage}

@@ -1,4 +1,4 @@
-use Rattle.std.proofs.Common.{arith, inl, inr, ◌≡◌, refl, sym, subst, cond, Some, None, ◌∙◌, ap, IsTrue, ◌+◌, ◌*◌}
+use Rattle.std.proofs.Common.{arith, inl, inr, sym, subst, cond, Some, None, ◌∙◌, ap, IsTrue, ◌+◌, ◌*◌}
 use Rattle.std.proofs.lemmas.List.{length-map}
 use Rattle.journal.specs.Costs.{each_reads, each_writes, more_writes, save_syncs}
 use Rattle.journal.specs.Calls.{BeginsAtMost, ReadsAtMost}

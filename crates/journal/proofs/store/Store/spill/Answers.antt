@@ -1,4 +1,4 @@
-use Rattle.std.proofs.Common.{arith, ◌≡◌, cond, Some, None, sym, ◌∙◌, ap, subst, IsTrue, refl}
+use Rattle.std.proofs.Common.{arith, cond, Some, None, sym, ◌∙◌, ap, subst, IsTrue, refl}
 use Rattle.std.proofs.lemmas.List.{length-set}
 use Rattle.journal.specs.BySize.{Means}
 use Rattle.journal.specs.Layout.{listed}

@@ -1,4 +1,4 @@
-use Rattle.std.proofs.Common.{◌⊎◌, sym, subst, IsTrue}
+use Rattle.std.proofs.Common.{◌⊎◌, sym, subst}
 use Rattle.journal.specs.Technique.{saved_of, latest_of, HasBlocks}
 use Rattle.journal.proofs.Suited.{stays, sectors_suit}
 use Rattle.journal.proofs.Techniques.{on_ok, on_both, journal_saved, pages_saved, pages_named, suits_journal, suits_pages, pages_suit}
