@@ -1,5 +1,5 @@
 -- Blocks that are printed from where they stand, after a call of the device failed.
-use Rattle.std.proofs.Common.{◌≡◌, ◌≢◌, ◌⊎◌, ◌∙◌, ℕ, ◌+◌, ◌-◌, ◌*◌, ◌<◌, ◌≤◌, ◌&&◌, Bool, true, false, List, Option, None, Some, Result, Ok, Err, IsTrue, ap, arith, inl, inr, refl, subst, sym}
+use Rattle.std.proofs.Common.{◌≡◌, ◌≢◌, ◌⊎◌, ◌∙◌, ⊎_elim, ℕ, ◌+◌, ◌-◌, ◌*◌, ◌<◌, ◌≤◌, ◌&&◌, Bool, true, false, List, Option, None, Some, Result, Ok, Err, IsTrue, ap, arith, inl, inr, refl, subst, sym}
 use Rattle.std.proofs.lemmas.Bool.{cases_eq, le-ltb}
 use Rattle.std.specs.Prelude.{nat_le, nat_lt, IfErr, MatchBool, MatchResult, OnOk}
 use Rattle.std.specs.Io.KnownBytes.{Appends}
@@ -18,11 +18,12 @@ use Rattle.image_care.specs.Standing.{stands_whole}
 use Rattle.command_line.specs.declared.orders.Form.{Form}
 use Rattle.terminal.specs.Done.{maps_on, meant_by}
 use Rattle.terminal.specs.Failed.{CallFailed, FailsToPrint, FoundFails, NotHad, NotHadOf, NotStanding, RefusesImage, ShowingFails, StandingFails}
+use Rattle.terminal.specs.Failures.{of_image}
 use Rattle.terminal.specs.Screen.{listing}
 use Rattle.terminal.specs.Standing.{AllStand, ExportsStanding, OneIsDamaged, ShowsStanding, has_pages}
 use Rattle.terminal.specs.Transfer.{exports}
 use Rattle.terminal.specs.declared.failure.Failure.{Failure}
-use Rattle.terminal.specs.declared.failure.Failure.TheVariants.{CannotWrite, Device}
+use Rattle.terminal.specs.declared.failure.Failure.TheVariants.{CannotWrite, Device, NoBlock, Stopped}
 use Rattle.terminal.proofs.BlockShown.{contents_meant}
 
 -- ---- which blocks are there
@@ -51,6 +52,20 @@ one_more image first block before here b from below = elim (cases_eq b block) [
   | inl is ↦ ap (stands_whole image) is ∙ here
   | inr other ↦ before b from (omega arith)
 ]
+
+-- ---- which failures these are
+
+pub of_an_image : (fault : OpenFault) → (of_image fault ≢ NoBlock) × (of_image fault ≢ Stopped)
+of_an_image by.BadSize = ((λ is. cc), (λ is. cc))
+of_an_image by.NoLabel = ((λ is. cc), (λ is. cc))
+of_an_image by.OtherVersion = ((λ is. cc), (λ is. cc))
+of_an_image by.WrongCount = ((λ is. cc), (λ is. cc))
+of_an_image by.Damaged = ((λ is. cc), (λ is. cc))
+of_an_image by.Device = ((λ is. cc), (λ is. cc))
+
+pub stops_none : (e : Failure) → (e ≡ Device) ⊎ (e ≡ CannotWrite) → e ≢ Stopped
+stops_none e (inl device) is = let both : Device ≡ Stopped = sym device ∙ is in absurd cc
+stops_none e (inr write) is = let both : CannotWrite ≡ Stopped = sym write ∙ is in absurd cc
 
 -- What holds where all went well, of two things that do.
 pub ok_both : {T E : Type 0} (r : Result T E) {P Q R : Type 0} → (P → Q → R) → OnOk r P → OnOk r Q → OnOk r R
@@ -223,3 +238,24 @@ module _ {D : Type 0} (G : Ghosts D) where
     reading = record { reads = reads; faults = record { failed = failed; well = well }; told = told };
     found = λ keeps is. none keeps;
   })
+
+  -- Nothing was printed before, and nothing after, but where the output failed.
+  pub still_unprinted : {T W : Type 0} (first last : ℕ) (before : Failure) (looked after : D) (old mid new : W) (r : Result T Failure)
+      → IfErr r (λ e. NotStanding G first last before e looked after) → IfErr r (λ e. e ≢ CannotWrite → new ≡ mid)
+      → (before ≢ CannotWrite → mid ≡ old) → IfErr r (λ e. e ≢ CannotWrite → new ≡ old)
+  still_unprinted first last before looked after old mid new (Ok t) told same was = tt
+  still_unprinted first last before looked after old mid new (Err e) told same was = λ other.
+      same other
+      ∙ was (λ is. ⊎_elim (λ kept. other (kept.1 ∙ is)) (λ asked. let both : Device ≡ CannotWrite = sym asked.0 ∙ is in absurd cc) told)
+
+  -- After a refusal of an image no block is told to be missing.
+  pub none_missing : {T : Type 0} (P : Type 0) (first last : ℕ) (fault : OpenFault) (before : Failure) (looked after : D) (r : Result T Failure)
+      → before ≡ of_image fault → IfErr r (λ e. NotStanding G first last before e looked after) → IfErr r (λ e. e ≡ NoBlock → P)
+  none_missing P first last fault before looked after (Ok t) is told = tt
+  none_missing P first last fault before looked after (Err e) is (inl (other, same, still)) = λ none.
+      absurd ((of_an_image fault).0 (sym is ∙ sym same ∙ none))
+  none_missing P first last fault before looked after (Err e) is (inr (device, fails)) = λ none.
+      ⊎_elim
+      (λ d. let both : Device ≡ NoBlock = sym d ∙ none in absurd cc)
+      (λ w. let both : CannotWrite ≡ NoBlock = sym w ∙ none in absurd cc)
+      fails.told

@@ -2,7 +2,7 @@ use Rattle.std.proofs.Common.{inl, inr}
 use Rattle.std.proofs.lemmas.Result.{IfErr-weaker}
 use Rattle.recovery.proofs.Upgrades.{only_read_then}
 use Rattle.terminal.specs.Shown.{block_refusal}
-use Rattle.terminal.proofs.Standings.{not_shown, ok_both}
+use Rattle.terminal.proofs.Standings.{not_shown, ok_both, still_unprinted}
 use Rattle.terminal.proofs.showing.show_through.Goals as goal
 
 pub returns-in-Ok-clause-shows : goal.returns-in-Ok-clause-shows
@@ -30,3 +30,9 @@ returns-in-Err-clause-only_read g c =
 
 pub returns-in-Err-clause-unstopped : goal.returns-in-Err-clause-unstopped
 returns-in-Err-clause-unstopped g c = c.list_anyway.ensures.unstopped c.in-Err.ensures.unstopped
+
+pub returns-in-Err-clause-unprinted : goal.returns-in-Err-clause-unprinted
+returns-in-Err-clause-unprinted g c =
+    still_unprinted g.D.SectorDevice c.args.block c.args.block c.in-Err.failure c.show_over.new.device c.list_anyway.new.device
+    c.args.output.now c.show_over.new.output c.list_anyway.new.output c.list_anyway.result
+    c.list_anyway.ensures.failed c.list_anyway.ensures.unprinted c.in-Err.ensures.unprinted
