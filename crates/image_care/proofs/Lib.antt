@@ -1,4 +1,5 @@
 pub mod Copies
+pub mod Currents
 pub mod Examinations
 pub mod Findings
 pub mod Looks

@@ -14,6 +14,10 @@ use Rattle.image_care.specs.declared.pages.standing.Standing.TheVariants.{Curren
 abbrev pub holds_whole : Image → ℕ → ℕ → Bool
 holds_whole image b k = pointwise nat_eq (tag_in (image (k + 2))) (tag_of b (pair_at image k))
 
+-- whether block b stands whole where it counts: in the place that the record names which the gate names
+abbrev pub stands_whole : Image → ℕ → Bool
+stands_whole image b = holds_whole image b (current_at (record_of image) b)
+
 -- where block b stands, under a record: in the place that it names, if the block isn't damaged there; else in the other one, if that
 -- holds a whole save
 abbrev pub standing_under : List ℕ → Image → ℕ → Standing

@@ -1,7 +1,9 @@
 //! Where the blocks of images of layout 3 stand.
+mod current;
 mod finding;
 mod standing;
 
+pub use current::read_current;
 pub(crate) use finding::find;
 pub(crate) use standing::take_block;
 pub use standing::{Standing, find_standing};

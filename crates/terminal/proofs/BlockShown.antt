@@ -18,12 +18,12 @@ use Rattle.stores.specs.Images.{HasMeaning}
 use Rattle.stores.specs.Opened.{image_refusal}
 use Rattle.image_care.specs.Looked.{reads_to_look}
 use Rattle.command_line.specs.declared.orders.Form.{Form}
-use Rattle.terminal.specs.Care.{ExportDone, ListDone}
-use Rattle.terminal.specs.Done.{DoneOn, Exports, ListsBlock, blocks_on, meant_by}
-use Rattle.terminal.specs.Failed.{ExportFailed, ExportFails, FailsAfter, FailsOn, ListFailed, ListFails, ShowingFails}
+use Rattle.terminal.specs.Care.{AreExported, AreShown, ExportDone, IsListed, IsShown, ListDone}
+use Rattle.terminal.specs.Done.{DoneOn, blocks_on, meant_by}
+use Rattle.terminal.specs.Failed.{ExportFailed, ExportFails, FailsOn, FailsToPrint, ListFailed, ListFails, ShowingFails}
 use Rattle.terminal.specs.Failures.{of_file, of_image}
 use Rattle.terminal.specs.Screen.{listing}
-use Rattle.terminal.specs.Shown.{ShowsBlocks, ShowsImage, block_refusal, blocks_refusal}
+use Rattle.terminal.specs.Shown.{ShowsImage, block_refusal, blocks_refusal}
 use Rattle.terminal.specs.declared.failure.Failure.{Failure}
 use Rattle.terminal.specs.declared.failure.Failure.TheVariants.{CannotWrite, Device, NoBlock}
 use Rattle.terminal.specs.declared.left.Left.{Left}
@@ -37,7 +37,7 @@ contents_meant blocks b = ap (λ (p : Option (List ℕ)). unwrap_or p (block_in 
 
 module _ {D : Type 0} (G : Ghosts D) where
   pub shown : (device after : D) (b : ℕ) (bytes : List ℕ) (written written' : Option (List ℕ)) → Proceeds G device after
-      → b < blocks_on G device
+      → G.failures after ≡ G.failures device → b < blocks_on G device
       → (IsTrue (G.keeps_model device) → bytes ≡ block_in (meant_by G device) b)
       → (IsTrue (G.keeps_model device) → HasMeaning (G.sector_count device) (G.disk device).content)
       → (IsTrue (G.keeps_model device) → G.disk after ≡ G.disk device)
@@ -47,8 +47,9 @@ module _ {D : Type 0} (G : Ghosts D) where
       → ReadsAtMost G device after (reads_to_look (G.sector_count device) (G.disk device).content + 2))
       → (is_size (G.sector_count device) ≡ false → ReadsAtMost G device after (3 * blocks_in (G.sector_count device) + 5))
       → Appends written written' (listing bytes) → ShowsImage G b written written' device after
-  shown device after b bytes written written' passes below read meant same stops begins reads few printed = record {
+  shown device after b bytes written written' passes well below read meant same stops begins reads few printed = record {
     goes = record { model = stays G device after passes.sectors passes.model passes.units; sectors = λ keeps. passes.sectors; time = passes.time; failures = passes.failures };
+    well = well;
     meant = meant;
     there = below;
     listed = λ keeps.
@@ -88,45 +89,45 @@ module _ {D E T : Type 0} (G : Ghosts D) (L : Ghosts E) (file : Result D FileFau
       go (Err fault) (Err e) is done looks = tt
 
   pub list_done : (b : ℕ) (written written' : Option (List ℕ)) → IfOk file opened
-      → IfOk file (λ disk. OnOk r (DoneOn G (λ d. Opened d) (λ device. device ≡ disk) (ListsBlock G b written written') left))
-      → IfErr file (λ fault. OnOk r (DoneOn L (λ d. Looked d) looked (ShowsImage L b written written') left))
+      → IfOk file (λ disk. OnOk r (DoneOn G (λ d. Opened d) (λ device. device ≡ disk) (IsListed G b written written') left))
+      → IfErr file (λ fault. OnOk r (DoneOn L (λ d. Looked d) looked (IsShown L b written written') left))
       → OnOk r (ListDone G L opened looked b written written' left)
-  list_done b written written' = either_done (DoneOn L (λ d. Looked d) looked (ShowsImage L b written written') left) (ListsBlock G b written written')
+  list_done b written written' = either_done (DoneOn L (λ d. Looked d) looked (IsShown L b written written') left) (IsListed G b written written')
 
   pub export_done : (form : Form) (first last : ℕ) (written written' : Option (List ℕ)) → IfOk file opened
-      → IfOk file (λ disk. OnOk r (DoneOn G (λ d. Opened d) (λ device. device ≡ disk) (Exports G form first last written written') left))
-      → IfErr file (λ fault. OnOk r (DoneOn L (λ d. Looked d) looked (ShowsBlocks L form first last written written') left))
+      → IfOk file (λ disk. OnOk r (DoneOn G (λ d. Opened d) (λ device. device ≡ disk) (AreExported G form first last written written') left))
+      → IfErr file (λ fault. OnOk r (DoneOn L (λ d. Looked d) looked (AreShown L form first last written written') left))
       → OnOk r (ExportDone G L opened looked form first last written written' left)
   export_done form first last written written' =
-      either_done (DoneOn L (λ d. Looked d) looked (ShowsBlocks L form first last written written') left) (Exports G form first last written written')
+      either_done (DoneOn L (λ d. Looked d) looked (AreShown L form first last written written') left) (AreExported G form first last written written')
 
   -- It wasn't done: the same.
-  either_failed : (P : Failure → (device begun after : D) → Type 0) (Q : Failure → E → E → Type 0) → IfOk file opened
-      → IfOk file (λ disk. IfErr r (λ failure. DoneOn G (λ d. Opened d) (λ device. device ≡ disk) (FailsAfter G P failure) left))
+  either_failed : (P : Failure → D → D → Type 0) (Q : Failure → E → E → Type 0) → IfOk file opened
+      → IfOk file (λ disk. IfErr r (λ failure. DoneOn G (λ d. Opened d) (λ device. device ≡ disk) (P failure) left))
       → IfErr file (λ fault. IfErr r (λ failure. FailsOn L (λ d. Looked d) looked Q failure left))
-      → IfErr r (λ failure. FailsOn G (λ d. Opened d) opened (FailsAfter G P) failure left ⊎ DoneOn L (λ d. Looked d) looked (Q failure) left)
+      → IfErr r (λ failure. FailsOn G (λ d. Opened d) opened P failure left ⊎ DoneOn L (λ d. Looked d) looked (Q failure) left)
   either_failed P Q = go file r
     where
       go : (file : Result D FileFault) (r : Result T Failure) → IfOk file opened
-          → IfOk file (λ disk. IfErr r (λ failure. DoneOn G (λ d. Opened d) (λ device. device ≡ disk) (FailsAfter G P failure) left))
+          → IfOk file (λ disk. IfErr r (λ failure. DoneOn G (λ d. Opened d) (λ device. device ≡ disk) (P failure) left))
           → IfErr file (λ fault. IfErr r (λ failure. FailsOn L (λ d. Looked d) looked Q failure left))
-          → IfErr r (λ failure. FailsOn G (λ d. Opened d) opened (FailsAfter G P) failure left ⊎ DoneOn L (λ d. Looked d) looked (Q failure) left)
+          → IfErr r (λ failure. FailsOn G (λ d. Opened d) opened P failure left ⊎ DoneOn L (λ d. Looked d) looked (Q failure) left)
       go file (Ok t) is undone unshown = tt
       go (Ok disk) (Err e) is undone unshown =
-          inl (inr (undone.0, undone.1, (disk, is, subst (λ device. FailsAfter G P e device undone.0) undone.2.1 undone.2.2)))
+          inl (inr (undone.0, undone.1, (disk, is, subst (λ device. P e device undone.0) undone.2.1 undone.2.2)))
       go (Err fault) (Err e) is undone unshown = ⊎_elim (λ none. inl (inl none)) (λ read. inr read) unshown
 
   pub list_failed : (b : ℕ) → IfOk file opened
-      → IfOk file (λ disk. IfErr r (λ failure. DoneOn G (λ d. Opened d) (λ device. device ≡ disk) (FailsAfter G (ListFails G b) failure) left))
-      → IfErr file (λ fault. IfErr r (λ failure. FailsOn L (λ d. Looked d) looked (ShowingFails L (block_refusal b)) failure left))
+      → IfOk file (λ disk. IfErr r (λ failure. DoneOn G (λ d. Opened d) (λ device. device ≡ disk) (FailsToPrint G b b (ListFails G b) failure) left))
+      → IfErr file (λ fault. IfErr r (λ failure. FailsOn L (λ d. Looked d) looked (ShowingFails L (block_refusal b) b b) failure left))
       → IfErr r (λ failure. ListFailed G L opened looked b failure left)
-  list_failed b = either_failed (ListFails G b) (ShowingFails L (block_refusal b))
+  list_failed b = either_failed (FailsToPrint G b b (ListFails G b)) (ShowingFails L (block_refusal b) b b)
 
   pub export_failed : (first last : ℕ) → IfOk file opened
-      → IfOk file (λ disk. IfErr r (λ failure. DoneOn G (λ d. Opened d) (λ device. device ≡ disk) (FailsAfter G (ExportFails G first last) failure) left))
-      → IfErr file (λ fault. IfErr r (λ failure. FailsOn L (λ d. Looked d) looked (ShowingFails L (blocks_refusal first last)) failure left))
+      → IfOk file (λ disk. IfErr r (λ failure. DoneOn G (λ d. Opened d) (λ device. device ≡ disk) (FailsToPrint G first last (ExportFails G first last) failure) left))
+      → IfErr file (λ fault. IfErr r (λ failure. FailsOn L (λ d. Looked d) looked (ShowingFails L (blocks_refusal first last) first last) failure left))
       → IfErr r (λ failure. ExportFailed G L opened looked first last failure left)
-  export_failed first last = either_failed (ExportFails G first last) (ShowingFails L (blocks_refusal first last))
+  export_failed first last = either_failed (FailsToPrint G first last (ExportFails G first last)) (ShowingFails L (blocks_refusal first last) first last)
 
 -- A block was shown, or blocks, of a file that was opened.
 module _ {D E T : Type 0} (L : Ghosts E) (file : Result E FileFault) (r : Result T Failure) (left : Left D E) (opened : E → Type 0) where
@@ -144,14 +145,14 @@ module _ {D E T : Type 0} (L : Ghosts E) (file : Result E FileFault) (r : Result
       go (Err fault) (Err e) is done refused = tt
 
   pub shown_of : (b : ℕ) (written written' : Option (List ℕ)) → IfOk file opened
-      → IfOk file (λ disk. OnOk r (DoneOn L (λ d. Looked d) (λ device. device ≡ disk) (ShowsImage L b written written') left))
-      → IfErr file (λ fault. r ≡ Err (of_file fault)) → OnOk r (DoneOn L (λ d. Looked d) opened (ShowsImage L b written written') left)
-  shown_of b written written' = looked_done (ShowsImage L b written written')
+      → IfOk file (λ disk. OnOk r (DoneOn L (λ d. Looked d) (λ device. device ≡ disk) (IsShown L b written written') left))
+      → IfErr file (λ fault. r ≡ Err (of_file fault)) → OnOk r (DoneOn L (λ d. Looked d) opened (IsShown L b written written') left)
+  shown_of b written written' = looked_done (IsShown L b written written')
 
   pub blocks_shown_of : (form : Form) (first last : ℕ) (written written' : Option (List ℕ)) → IfOk file opened
-      → IfOk file (λ disk. OnOk r (DoneOn L (λ d. Looked d) (λ device. device ≡ disk) (ShowsBlocks L form first last written written') left))
-      → IfErr file (λ fault. r ≡ Err (of_file fault)) → OnOk r (DoneOn L (λ d. Looked d) opened (ShowsBlocks L form first last written written') left)
-  blocks_shown_of form first last written written' = looked_done (ShowsBlocks L form first last written written')
+      → IfOk file (λ disk. OnOk r (DoneOn L (λ d. Looked d) (λ device. device ≡ disk) (AreShown L form first last written written') left))
+      → IfErr file (λ fault. r ≡ Err (of_file fault)) → OnOk r (DoneOn L (λ d. Looked d) opened (AreShown L form first last written written') left)
+  blocks_shown_of form first last written written' = looked_done (AreShown L form first last written written')
 
   pub unshown_of : (P : Failure → E → E → Type 0) → IfOk file opened → IfErr file (λ fault. fault ≢ Exists)
       → IfOk file (λ disk. IfErr r (λ failure. DoneOn L (λ d. Looked d) (λ device. device ≡ disk) (P failure) left))

@@ -39,7 +39,7 @@ module _ {D : Type 0} (G : Ghosts D) where
       ∙ sym (contents_meant (meant_by G device) b)
 
   pub shows_blocks : (device after : D) (form : Form) (first last : ℕ) (written written' : Option (List ℕ)) → OnlyRead G device after
-      → first ≤ last → last < blocks_on G device
+      → G.failures after ≡ G.failures device → first ≤ last → last < blocks_on G device
       → (IsTrue (G.keeps_model device) → Appends written written' (exports form (maps_on G device) first (last + 1 - first)))
       → (IsTrue (G.keeps_model device) → HasMeaning (G.sector_count device) (G.disk device).content)
       → (IsTrue (G.keeps_model device) → ReadsAtMost G device after
@@ -47,8 +47,9 @@ module _ {D : Type 0} (G : Ghosts D) where
       → (is_size (G.sector_count device) ≡ false
       → ReadsAtMost G device after (3 * blocks_in (G.sector_count device) + 3 + 2 * (last + 1 - first)))
       → ShowsBlocks G form first last written written' device after
-  shows_blocks device after form first last written written' read ordered below printed meant reads few = record {
+  shows_blocks device after form first last written written' read well ordered below printed meant reads few = record {
     goes = record { model = stays G device after read.passes.sectors read.passes.model read.passes.units; sectors = λ keeps. read.passes.sectors; time = read.passes.time; failures = read.passes.failures };
+    well = well;
     meant = meant;
     ordered = ordered;
     there = below;
@@ -62,7 +63,7 @@ module _ {D : Type 0} (G : Ghosts D) where
 
   -- The same of what was printed or not.
   pub shows_or_not : {T E : Type 0} (r : Result T E) (device after : D) (form : Form) (first last n : ℕ) (written written' : Option (List ℕ))
-      → OnlyRead G device after → n ≡ blocks_on G device → OnOk r (first ≤ last) → OnOk r (last < n)
+      → OnlyRead G device after → OnOk r (G.failures after ≡ G.failures device) → n ≡ blocks_on G device → OnOk r (first ≤ last) → OnOk r (last < n)
       → (IsTrue (G.keeps_model device) → OnOk r (Appends written written' (exports form (maps_on G device) first (last + 1 - first))))
       → (IsTrue (G.keeps_model device) → HasMeaning (G.sector_count device) (G.disk device).content)
       → (IsTrue (G.keeps_model device) → ReadsAtMost G device after
@@ -70,9 +71,9 @@ module _ {D : Type 0} (G : Ghosts D) where
       → (is_size (G.sector_count device) ≡ false
       → ReadsAtMost G device after (3 * blocks_in (G.sector_count device) + 3 + 2 * (last + 1 - first)))
       → OnOk r (ShowsBlocks G form first last written written' device after)
-  shows_or_not (Ok t) device after form first last n written written' read count ordered below printed meant reads few =
-      shows_blocks device after form first last written written' read ordered (subst (λ (m : ℕ). last < m) count below) printed meant reads few
-  shows_or_not (Err e) device after form first last n written written' read count ordered below printed meant reads few = tt
+  shows_or_not (Ok t) device after form first last n written written' read well count ordered below printed meant reads few =
+      shows_blocks device after form first last written written' read well ordered (subst (λ (m : ℕ). last < m) count below) printed meant reads few
+  shows_or_not (Err e) device after form first last n written written' read well count ordered below printed meant reads few = tt
 
 -- Blocks of an image that an opening takes aren't refused where they are there, and their last doesn't come before their first; else
 -- that is told.

@@ -1,5 +1,5 @@
 -- What a command over images leaves where it failed, on any device: from the device that it opened or made to what that has become.
-use Rattle.std.specs.Prelude.{◌≡◌, ◌≢◌, ◌⊎◌, ℕ, Bool, true, ◌+◌, ◌-◌, ◌*◌, ◌≤◌, ◌<◌, IsTrue, List, [], Option, Some, IfSome, option_map}
+use Rattle.std.specs.Prelude.{◌≡◌, ◌≢◌, ◌⊎◌, ℕ, Bool, true, false, ◌+◌, ◌-◌, ◌*◌, ◌≤◌, ◌<◌, IsTrue, List, [], Option, None, Some, IfSome, option_map}
 use Rattle.std.specs.Io.KnownBytes.{Appends}
 use Rattle.sector_disk.specs.Counting.{count_up}
 use Rattle.sector_disk.specs.declared.device.SectorDevice.{Ghosts}
@@ -42,6 +42,7 @@ use Rattle.terminal.specs.Layout2 as older
 use Rattle.terminal.specs.Screen.{screen_of}
 use Rattle.terminal.specs.Scripts.{IsLed, StopsFrom, load_line}
 use Rattle.terminal.specs.Shown.{block_refusal, blocks_refusal}
+use Rattle.terminal.specs.Standing.{AfterFault, OneIsDamaged, has_pages}
 use Rattle.terminal.specs.Texts.{OneIsUnread}
 use Rattle.terminal.specs.Through.{TellsUnread}
 use Rattle.terminal.specs.Transfer.{as_blocks, spilled_from}
@@ -139,6 +140,37 @@ module _ {D : Type 0} (G : Ghosts D) where
   -- A command failed: the image was refused, or it was opened, and then was done what P says.
   abbrev pub FailsAfter : (P : Failure → (device begun after : D) → Type 0) → Failure → (device after : D) → Type 0
   FailsAfter P failure device after = RefusesImage failure device after ⊎ OpensThen (P failure) device after
+
+  -- Blocks weren't had from where they stand: a read failed, or none did, and what this says of the image is why.
+  abbrev pub NotHad : (why : Image → Type 0) → (device after : D) → Type 0
+  NotHad why device after = CallFailed G device after
+      ⊎ ((G.failures after ≡ G.failures device) × (IsTrue (G.keeps_model device) → why (G.disk device).content))
+
+  -- The blocks from the first to the last weren't: the image isn't one of layout 3 that has them, and no call of the device was made; or a
+  -- read failed; or one of them doesn't stand whole where it counts.
+  abbrev pub NotHadOf : (first last : ℕ) → (device after : D) → Type 0
+  NotHadOf first last device after = ((has_pages first last (G.sector_count device) ≡ false) × (after ≡ device))
+      ⊎ NotHad (OneIsDamaged first (last + 1)) device after
+
+  -- `list`, `export`: a call of the device had failed, and the blocks from the first to the last weren't printed from where they stand, by
+  -- reads alone: they weren't had, and the same failure is told; or the output failed, and no call did.
+  pub record StandingFails (first last : ℕ) (failure : Failure) (device after : D) : Type 0 where
+    pub reads : OnlyRead G device after
+    pub told : (failure ≡ Device) ⊎ IsUnprinted failure
+    pub unhad : failure ≡ Device → NotHadOf first last device after
+    pub well : failure ≢ Device → G.failures after ≡ G.failures device
+
+  -- What was done then of an image that wasn't opened, or of which a look failed: nothing, and the failure is told again; or the blocks
+  -- were looked for where they stand.
+  abbrev pub NotStanding : (first last : ℕ) → (before failure : Failure) → (device after : D) → Type 0
+  NotStanding first last before failure device after =
+      ((before ≢ Device) × (failure ≡ before) × (after ≡ device)) ⊎ ((before ≡ Device) × StandingFails first last failure device after)
+
+  -- `list`, `export`: the image was refused, and no call of the device failed; or one failed while it was opened, and then the blocks
+  -- weren't had from where they stand; or it was opened, and then was done what P says.
+  abbrev pub FailsToPrint : (first last : ℕ) (P : Failure → (device begun after : D) → Type 0) → Failure → (device after : D) → Type 0
+  FailsToPrint first last P failure device after = ((failure ≢ Device) × RefusesImage failure device after)
+      ⊎ AfterFault (RefusesImage Device) (StandingFails first last failure) device after ⊎ OpensThen (P failure) device after
 
   -- `run`: there was no memory for a system, and nothing was done or read or printed.
   pub record NotBegun (left left' written written' : Option (List ℕ)) (failure : Failure) (device begun after : D) : Type 0 where
@@ -253,9 +285,20 @@ module _ {D : Type 0} (G : Ghosts D) where
       ((failure ≢ Device) × LookFails written written' failure device after)
       ⊎ ((looked : D) × (between : Option (List ℕ)) × LookFails written between Device device looked × UnreadTold between written' failure looked after)
 
-  -- `list`, `export`: the image is refused, or a block isn't there.
-  abbrev pub ShowingFails : (refusal : (sectors : ℕ) → Image → Option Failure) → Failure → (device after : D) → Type 0
-  ShowingFails = ReadingFails IsUnprinted
+  -- The image was only read, and a read failed.
+  pub record ReadFailed (device after : D) : Type 0 where
+    pub reads : OnlyRead G device after
+    pub failed : CallFailed G device after
+
+  -- `list`, `export`: the image is refused, or a block isn't there; or a read failed, but only once the image was found not to be refused.
+  pub record FoundFails (refusal : (sectors : ℕ) → Image → Option Failure) (failure : Failure) (device after : D) : Type 0 where
+    pub reading : ReadingFails IsUnprinted refusal failure device after
+    pub found : IsTrue (G.keeps_model device) → failure ≡ Device → image_refusal (G.sector_count device) (G.disk device).content ≡ None
+
+  -- The same, or a read failed before that, and then the blocks from the first to the last weren't had from where they stand.
+  abbrev pub ShowingFails : (refusal : (sectors : ℕ) → Image → Option Failure) (first last : ℕ) → Failure → (device after : D) → Type 0
+  ShowingFails refusal first last failure device after = FoundFails refusal failure device after
+      ⊎ AfterFault ReadFailed (StandingFails first last failure) device after
 
   -- `diff`: the same of two images, of which the first is refused before the second one.
   pub record DiffFails (failure : Failure) (old old' new new' : D) : Type 0 where
@@ -333,14 +376,14 @@ module _ {D : Type 0} (G : Ghosts D) where
 module _ {D E : Type 0} (G : Ghosts D) (L : Ghosts E) where
   -- A block wasn't listed: no file of its image was opened, or the one for writing was, or the one for reading alone.
   abbrev pub ListFailed : (opened : D → Type 0) (looked : E → Type 0) (b : ℕ) → Failure → Left D E → Type 0
-  ListFailed opened looked b failure left = FailsOn G files.Opened opened (FailsAfter G (ListFails G b)) failure left
-      ⊎ DoneOn L files.Looked looked (ShowingFails L (block_refusal b) failure) left
+  ListFailed opened looked b failure left = FailsOn G files.Opened opened (FailsToPrint G b b (ListFails G b)) failure left
+      ⊎ DoneOn L files.Looked looked (ShowingFails L (block_refusal b) b b failure) left
 
   -- Blocks weren't exported: the same.
   abbrev pub ExportFailed : (opened : D → Type 0) (looked : E → Type 0) (first last : ℕ) → Failure → Left D E → Type 0
   ExportFailed opened looked first last failure left =
-      FailsOn G files.Opened opened (FailsAfter G (ExportFails G first last)) failure left
-      ⊎ DoneOn L files.Looked looked (ShowingFails L (blocks_refusal first last) failure) left
+      FailsOn G files.Opened opened (FailsToPrint G first last (ExportFails G first last)) failure left
+      ⊎ DoneOn L files.Looked looked (ShowingFails L (blocks_refusal first last) first last failure) left
 
 -- ---- of a script, which is read before its image is opened
 

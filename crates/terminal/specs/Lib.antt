@@ -10,6 +10,7 @@ pub mod Layout2
 pub mod Layout3
 pub mod Copying
 pub mod Shown
+pub mod Standing
 pub mod Through
 pub mod Care
 pub mod Failed

@@ -33,10 +33,11 @@ blocks_refusal first last sectors image = first_of (option_map of_image (image_r
 
 module _ {D : Type 0} (G : Ghosts D) where
   -- `list` of an image that may only be read, or is in use: the listing of a block that is there was printed, as an opening would recover it, by
-  -- reads alone, and no more of them than it asks for: of layout 3 the size alone tells how many. Nothing was written or synced, so
-  -- a stop at any moment leaves what one could leave before.
+  -- reads alone, of which none failed, and no more of them than it asks for: of layout 3 the size alone tells how many. Nothing was
+  -- written or synced, so a stop at any moment leaves what one could leave before.
   pub record ShowsImage (b : ℕ) (written written' : Option (List ℕ)) (device after : D) : Type 0 where
     pub goes : Becomes G device after
+    pub well : G.failures after ≡ G.failures device
     pub meant : IsTrue (G.keeps_model device) → HasMeaning (G.sector_count device) (G.disk device).content
     pub there : b < blocks_on G device
     pub listed : IsTrue (G.keeps_model device) → Appends written written' (listing (contents (maps_on G device) b))
@@ -51,6 +52,7 @@ module _ {D : Type 0} (G : Ghosts D) where
   -- recover them, by reads alone.
   pub record ShowsBlocks (form : Form) (first last : ℕ) (written written' : Option (List ℕ)) (device after : D) : Type 0 where
     pub goes : Becomes G device after
+    pub well : G.failures after ≡ G.failures device
     pub meant : IsTrue (G.keeps_model device) → HasMeaning (G.sector_count device) (G.disk device).content
     pub ordered : first ≤ last
     pub there : last < blocks_on G device

@@ -1,6 +1,6 @@
 //! Many blocks of an image are printed: of one whose file can't be opened for writing, or is in use, by reads alone.
 //! Rule: MANUAL, forth83 export IMAGE FIRST LAST [--raw].
-ghost use Rattle.std.specs.Prelude.{◌≡◌, ◌≢◌, ◌⊎◌, ◌<◌, ◌≤◌, ◌-◌, ◌+◌, ◌*◌, None, Some, Err, IsTrue, IfErr, IfOk, MatchResult, OnOk};
+ghost use Rattle.std.specs.Prelude.{◌≡◌, ◌≢◌, ◌⊎◌, ◌<◌, ◌≤◌, ◌-◌, ◌+◌, ◌*◌, Err, IsTrue, IfErr, IfOk, OnOk};
 ghost use Rattle.std.specs.Io.KnownBytes.{Appends};
 ghost use Rattle.sector_disk.specs.Counting.{count_up};
 ghost use Rattle.journal.specs.Calls.{ReadsAtMost};
@@ -8,18 +8,19 @@ ghost use Rattle.journal.specs.Maps.{Maps};
 ghost use Rattle.recovery.specs.Steps.{OnlyRead};
 ghost use Rattle.shadow.specs.Upgraded.{known_blocks};
 ghost use Rattle.image_care.specs.View.{found_by, sectors_of};
-ghost use Rattle.terminal.specs.Care.{ExportDone};
-ghost use Rattle.terminal.specs.Done.{DoneOn, Exports};
-ghost use Rattle.terminal.specs.Failed.{ExportFailed, ExportFails, FailsAfter, FailsOn, ShowingFails};
+ghost use Rattle.terminal.specs.Care.{AreExported, AreShown, ExportDone};
+ghost use Rattle.terminal.specs.Done.{DoneOn};
+ghost use Rattle.terminal.specs.Failed.{ExportFailed, ExportFails, FailsOn, FailsToPrint, ShowingFails};
 ghost use Rattle.terminal.specs.Failures.{of_file};
 ghost use Rattle.terminal.specs.Files.{IsOpened};
-ghost use Rattle.terminal.specs.Shown.{ShowsBlocks, blocks_refusal};
+ghost use Rattle.terminal.specs.Shown.{blocks_refusal};
 ghost use Rattle.terminal.specs.Transfer.{IsFound, exported, exports};
 
 use super::exporting::print_bytes;
 use super::failure::Failure;
 use super::left::Left;
 use super::over_devices::export_over;
+use super::standing::export_anyway;
 use command_line::orders::Form;
 use image_care::{View, look, read_found};
 use sector_disk::{FileFault, HostFile, HostFiles, SectorDevice, SectorFile, open_disk};
@@ -74,16 +75,16 @@ pub fn export_opened<H: HostFile, K: HostFile, P: HostFiles<K>, W: Write>(
 ) -> (Left<SectorFile<H>, SectorFile<K>>, Result<(), Failure>)
     // The image on the file that could be opened for writing was recovered, and exported.
     ensures exported { IfOk opened (λ disk. OnOk result.1 (DoneOn ⟦<SectorFile<H> as SectorDevice>⟧ Left.Opened (λ device. device ≡ disk)
-        (Exports ⟦<SectorFile<H> as SectorDevice>⟧ form first last (W.contents output.old) (W.contents output.new)) result.0)) }
+        (AreExported ⟦<SectorFile<H> as SectorDevice>⟧ form first last (W.contents output.old) (W.contents output.new)) result.0)) }
     ensures unexported { IfOk opened (λ disk. IfErr result.1 (λ failure. DoneOn ⟦<SectorFile<H> as SectorDevice>⟧ Left.Opened
-        (λ device. device ≡ disk) (FailsAfter ⟦<SectorFile<H> as SectorDevice>⟧
+        (λ device. device ≡ disk) (FailsToPrint ⟦<SectorFile<H> as SectorDevice>⟧ first last
         (ExportFails ⟦<SectorFile<H> as SectorDevice>⟧ first last) failure) result.0)) }
     // That on one that couldn't was looked at, and its blocks were printed.
     ensures shown { IfErr opened (λ _. OnOk result.1 (DoneOn ⟦<SectorFile<K> as SectorDevice>⟧
         Left.Looked (IsOpened K.HostFile (P.opens looking.now path.now))
-        (ShowsBlocks ⟦<SectorFile<K> as SectorDevice>⟧ form first last (W.contents output.old) (W.contents output.new)) result.0)) }
+        (AreShown ⟦<SectorFile<K> as SectorDevice>⟧ form first last (W.contents output.old) (W.contents output.new)) result.0)) }
     ensures unshown { IfErr opened (λ _. IfErr result.1 (λ failure. FailsOn ⟦<SectorFile<K> as SectorDevice>⟧ Left.Looked
-        (IsOpened K.HostFile (P.opens looking.now path.now)) (ShowingFails ⟦<SectorFile<K> as SectorDevice>⟧ (blocks_refusal first last)) failure result.0)) }
+        (IsOpened K.HostFile (P.opens looking.now path.now)) (ShowingFails ⟦<SectorFile<K> as SectorDevice>⟧ (blocks_refusal first last) first last) failure result.0)) }
     ensures unprinted { IfErr result.1 (λ e. e ≢ Failure.Device → e ≢ Failure.CannotWrite → output.new ≡ output.old) }
     ensures unstopped { IfErr result.1 (λ e. e ≢ Failure.Stopped) }
 {
@@ -108,9 +109,9 @@ pub fn show_blocks<H: HostFile, O: HostFiles<H>, W: Write, D>(
 ) -> (Left<D, SectorFile<H>>, Result<(), Failure>)
     ensures shown { OnOk result.1 (DoneOn ⟦<SectorFile<H> as SectorDevice>⟧ Left.Looked
         (IsOpened H.HostFile (O.opens files.now path.now))
-        (ShowsBlocks ⟦<SectorFile<H> as SectorDevice>⟧ form first last (W.contents output.old) (W.contents output.new)) result.0) }
+        (AreShown ⟦<SectorFile<H> as SectorDevice>⟧ form first last (W.contents output.old) (W.contents output.new)) result.0) }
     ensures unshown { IfErr result.1 (λ failure. FailsOn ⟦<SectorFile<H> as SectorDevice>⟧ Left.Looked
-        (IsOpened H.HostFile (O.opens files.now path.now)) (ShowingFails ⟦<SectorFile<H> as SectorDevice>⟧ (blocks_refusal first last)) failure result.0) }
+        (IsOpened H.HostFile (O.opens files.now path.now)) (ShowingFails ⟦<SectorFile<H> as SectorDevice>⟧ (blocks_refusal first last) first last) failure result.0) }
     ensures unprinted { IfErr result.1 (λ e. e ≢ Failure.Device → e ≢ Failure.CannotWrite → output.new ≡ output.old) }
     ensures unstopped { IfErr result.1 (λ e. e ≢ Failure.Stopped) }
 {
@@ -126,9 +127,9 @@ pub fn show_opened_blocks<H: HostFile, W: Write, D>(
     output: &mut W,
 ) -> (Left<D, SectorFile<H>>, Result<(), Failure>)
     ensures shown { IfOk opened (λ disk. OnOk result.1 (DoneOn ⟦<SectorFile<H> as SectorDevice>⟧ Left.Looked (λ device. device ≡ disk)
-        (ShowsBlocks ⟦<SectorFile<H> as SectorDevice>⟧ form first last (W.contents output.old) (W.contents output.new)) result.0)) }
+        (AreShown ⟦<SectorFile<H> as SectorDevice>⟧ form first last (W.contents output.old) (W.contents output.new)) result.0)) }
     ensures unshown { IfOk opened (λ disk. IfErr result.1 (λ failure. DoneOn ⟦<SectorFile<H> as SectorDevice>⟧ Left.Looked
-        (λ device. device ≡ disk) (ShowingFails ⟦<SectorFile<H> as SectorDevice>⟧ (blocks_refusal first last) failure) result.0)) }
+        (λ device. device ≡ disk) (ShowingFails ⟦<SectorFile<H> as SectorDevice>⟧ (blocks_refusal first last) first last failure) result.0)) }
     // Of a file that couldn't be opened nothing is printed.
     ensures refused { IfErr opened (λ fault. result.1 ≡ Err (of_file fault)) }
     ensures unopened { IfErr opened (λ _. result.0 ≡ Left.Nothing) }
@@ -145,10 +146,11 @@ pub fn show_opened_blocks<H: HostFile, W: Write, D>(
     }
 }
 
-/// Prints the blocks of the image on a device from the one to the other, by reads alone. Its failures are those of an
-/// opening, the first that holds, then `NoBlock` where one of the blocks isn't there, or `last` comes before `first`:
-/// nothing is printed then. `Device` where a call failed, and `CannotWrite` where the output failed: then some may be
-/// printed.
+/// Prints the blocks of the image on a device from the one to the other, by reads alone. Where a look at an image of
+/// layout 3 fails by a read they are printed from where they stand. Its failures are those of an opening, the first
+/// that holds, then `NoBlock` where one of the blocks isn't there, or `last` comes before `first`: nothing is printed
+/// then. `Device` where a read failed and one of the blocks isn't had, and `CannotWrite` where the output failed: then
+/// some may be printed.
 pub fn show_blocks_over<D: SectorDevice, W: Write>(
     device: &mut D,
     first: u16,
@@ -156,19 +158,14 @@ pub fn show_blocks_over<D: SectorDevice, W: Write>(
     form: Form,
     output: &mut W,
 ) -> Result<(), Failure>
-    ensures shows { OnOk result (ShowsBlocks D.SectorDevice form first last (W.contents output.old) (W.contents output.new)
+    ensures shows { OnOk result (AreShown D.SectorDevice form first last (W.contents output.old) (W.contents output.new)
         device.old device.new) }
-    // Each refusal tells the first test that fails: those of an opening, and then whether the blocks are there.
-    ensures exact { IsTrue (D.keeps_model device.old) → MatchResult result
-        (λ _. blocks_refusal first last (D.sector_count device.old) (D.disk device.old).content ≡ None)
-        (λ e. (e ≡ Failure.Device) ⊎ (e ≡ Failure.CannotWrite)
-        ⊎ (blocks_refusal first last (D.sector_count device.old) (D.disk device.old).content ≡ Some e)) }
+    // Each refusal tells the first test that fails: those of an opening, and then whether the blocks are there. A fault of
+    // the device is told just where one of its calls failed.
+    ensures failed { IfErr result (λ failure. ShowingFails D.SectorDevice (blocks_refusal first last) first last failure
+        device.old device.new) }
     ensures no_block { IfErr result (λ e. e ≡ Failure.NoBlock
         → (last < first) ⊎ (known_blocks (D.sector_count device.old) ≤ last)) }
-    // A fault of the device is told just where one of its calls failed.
-    ensures device { IfErr result (λ e. e ≡ Failure.Device → D.failures device.new ≡ count_up (D.failures device.old)) }
-    ensures refused { IfErr result (λ e. e ≢ Failure.Device → D.failures device.new ≡ D.failures device.old) }
-    ensures well { OnOk result (D.failures device.new ≡ D.failures device.old) }
     // Where the image is refused, or a block isn't there, nothing was printed.
     ensures unprinted { IfErr result (λ e. e ≢ Failure.Device → e ≢ Failure.CannotWrite → output.new ≡ output.old) }
     // Whatever the answer is, nothing was written or synced.
@@ -177,7 +174,7 @@ pub fn show_blocks_over<D: SectorDevice, W: Write>(
 {
     match look(device) {
         Ok(view) => show_found(device, &view, first, last, form, output),
-        Err(fault) => Err(Failure::from(fault)),
+        Err(fault) => export_anyway(Failure::from(fault), device, first, last, form, output),
     }
 }
 

@@ -36,6 +36,7 @@ mod salvaging_through;
 mod screen;
 mod scripts;
 mod showing;
+mod standing;
 mod starting;
 mod texts;
 mod unread_sectors;

@@ -2,8 +2,9 @@
 //! then.
 //! Rule: MANUAL, Commands; IMAGE, A recovery.
 ghost use Rattle.std.specs.Prelude.{◌≡◌, ◌≢◌, ◌<◌, OnOk, IfErr, IfOk};
-ghost use Rattle.terminal.specs.Done.{Exports, ImportsBlocks, ListsBlock, PutsBlock};
-ghost use Rattle.terminal.specs.Failed.{ExportFails, FailsAfter, ImportFails, ListFails, NotBegun, PutFails};
+ghost use Rattle.terminal.specs.Care.{AreExported, IsListed};
+ghost use Rattle.terminal.specs.Done.{ImportsBlocks, PutsBlock};
+ghost use Rattle.terminal.specs.Failed.{ExportFails, FailsAfter, FailsToPrint, ImportFails, ListFails, NotBegun, PutFails};
 ghost use Rattle.terminal.specs.Scripts.{EndsSession};
 ghost use Rattle.terminal.specs.Texts.{AreTexts, IsTextOf, IsUnread, OneIsUnread};
 
@@ -14,6 +15,7 @@ use super::files::put_file;
 use super::images::{list_block, open_over};
 use super::importing::import_files;
 use super::scripts::run_until_end;
+use super::standing::{export_anyway, list_anyway};
 use super::texts::TextFiles;
 use command_line::orders::Form;
 use interpreter::promise::Lines;
@@ -56,17 +58,19 @@ pub fn run_over<D: SectorDevice, F: Lines<D>, R: Read, W: Write, T: Tracer>(
     }
 }
 
-/// Prints a block of the image on a device. Nothing is written to it, but by its recovery. Its failures: those of
-/// `open_over`, then those of `list_block`.
+/// Prints a block of the image on a device. Nothing is written to it, but by its recovery. Where a call of the device
+/// failed in that, and the image is one of layout 3, the block is printed from where it stands. Its failures: those of
+/// `open_over`, then those of `list_block`; `Device` of `open_over` only where the block isn't had so.
 /// Rule: MANUAL, forth83 list IMAGE BLOCK.
 pub fn list_over<D: SectorDevice, W: Write>(
     device: D,
     block: u16,
     output: &mut W,
 ) -> (D, Result<(), Failure>)
-    ensures listed { OnOk result.1 (ListsBlock D.SectorDevice block (W.contents output.old) (W.contents output.new)
+    ensures listed { OnOk result.1 (IsListed D.SectorDevice block (W.contents output.old) (W.contents output.new)
         device result.0) }
-    ensures failed { IfErr result.1 (λ failure. FailsAfter D.SectorDevice (ListFails D.SectorDevice block) failure device result.0) }
+    ensures failed { IfErr result.1 (λ failure.
+        FailsToPrint D.SectorDevice block block (ListFails D.SectorDevice block) failure device result.0) }
     // Nothing was printed, but where the output failed.
     ensures unprinted { IfErr result.1 (λ e. e ≢ Failure.CannotWrite → output.new ≡ output.old) }
     ensures unstopped { IfErr result.1 (λ e. e ≢ Failure.Stopped) }
@@ -76,12 +80,17 @@ pub fn list_over<D: SectorDevice, W: Write>(
             let outcome = list_block(&mut store, block, output);
             (store.into_device(), outcome)
         }
-        Err((failure, device)) => (device, Err(failure)),
+        Err((failure, mut device)) => {
+            let outcome = list_anyway(failure, &mut device, block, output);
+            (device, outcome)
+        }
     }
 }
 
 /// Prints the blocks of the image on a device from the one to the other. Nothing is written to it, but by its recovery.
-/// Its failures: those of `open_over`, then those of `export_blocks`.
+/// Where a call of the device failed in that, and the image is one of layout 3, the blocks are printed from where they
+/// stand. Its failures: those of `open_over`, then those of `export_blocks`; `Device` of `open_over` only where one of
+/// the blocks isn't had so, and then some may be printed.
 /// Rule: MANUAL, forth83 export IMAGE FIRST LAST [--raw].
 pub fn export_over<D: SectorDevice, W: Write>(
     device: D,
@@ -90,10 +99,10 @@ pub fn export_over<D: SectorDevice, W: Write>(
     form: Form,
     output: &mut W,
 ) -> (D, Result<(), Failure>)
-    ensures exported { OnOk result.1 (Exports D.SectorDevice form first last (W.contents output.old) (W.contents output.new)
+    ensures exported { OnOk result.1 (AreExported D.SectorDevice form first last (W.contents output.old) (W.contents output.new)
         device result.0) }
     ensures failed { IfErr result.1 (λ failure.
-        FailsAfter D.SectorDevice (ExportFails D.SectorDevice first last) failure device result.0) }
+        FailsToPrint D.SectorDevice first last (ExportFails D.SectorDevice first last) failure device result.0) }
     // Some blocks may be printed only where a read or the output failed.
     ensures unprinted { IfErr result.1 (λ e. e ≢ Failure.Device → e ≢ Failure.CannotWrite → output.new ≡ output.old) }
     ensures unstopped { IfErr result.1 (λ e. e ≢ Failure.Stopped) }
@@ -103,7 +112,10 @@ pub fn export_over<D: SectorDevice, W: Write>(
             let outcome = export_blocks(&mut store, first, last, form, output);
             (store.into_device(), outcome)
         }
-        Err((failure, device)) => (device, Err(failure)),
+        Err((failure, mut device)) => {
+            let outcome = export_anyway(failure, &mut device, first, last, form, output);
+            (device, outcome)
+        }
     }
 }
 

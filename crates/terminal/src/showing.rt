@@ -6,9 +6,9 @@ ghost use Rattle.sector_disk.specs.Disk.{MayLeave};
 ghost use Rattle.journal.specs.Calls.{BeginsAtMost, StopsLeave};
 ghost use Rattle.shadow.specs.Label.{is_known_size};
 ghost use Rattle.shadow.specs.Upgraded.{known_blocks};
-ghost use Rattle.terminal.specs.Care.{ListDone};
-ghost use Rattle.terminal.specs.Done.{DoneOn, ListsBlock};
-ghost use Rattle.terminal.specs.Failed.{FailsAfter, FailsOn, ListFailed, ListFails, ShowingFails};
+ghost use Rattle.terminal.specs.Care.{IsListed, IsShown, ListDone};
+ghost use Rattle.terminal.specs.Done.{DoneOn};
+ghost use Rattle.terminal.specs.Failed.{FailsOn, FailsToPrint, ListFailed, ListFails, ShowingFails};
 ghost use Rattle.recovery.specs.Steps.{OnlyRead};
 ghost use Rattle.terminal.specs.Failures.{of_file};
 ghost use Rattle.terminal.specs.Files.{IsOpened};
@@ -19,13 +19,14 @@ use super::failure::Failure;
 use super::left::Left;
 use super::over_devices::list_over;
 use super::screen::listing;
+use super::standing::list_anyway;
 use image_care::read_block;
 use sector_disk::{FileFault, HostFile, HostFiles, SectorDevice, SectorFile, open_disk};
 use std::io::Write;
 
 /// Prints a block of an image: after its recovery where its file can be opened for writing, and by reads alone where it
 /// can't, or is in use. Its failures: `InUse` or `CannotOpen` where it can't be opened for reading either, then those
-/// of `list_over` or `show_over`.
+/// of `list_over` or `show_through`.
 pub fn list_image<H: HostFile, O: HostFiles<H>, K: HostFile, P: HostFiles<K>, W: Write>(
     files: &O,
     looking: &P,
@@ -49,7 +50,7 @@ pub fn list_image<H: HostFile, O: HostFiles<H>, K: HostFile, P: HostFiles<K>, W:
 
 /// Prints a block of an image, as `list_image`, once its file was opened for writing or wasn't: only where it wasn't it
 /// is opened for reading. Its failures: `InUse` or `CannotOpen` where it can't be opened for reading either, then those
-/// of `list_over` or `show_over`.
+/// of `list_over` or `show_through`.
 pub fn list_opened<H: HostFile, K: HostFile, P: HostFiles<K>, W: Write>(
     opened: Result<SectorFile<H>, FileFault>,
     looking: &P,
@@ -59,16 +60,16 @@ pub fn list_opened<H: HostFile, K: HostFile, P: HostFiles<K>, W: Write>(
 ) -> (Left<SectorFile<H>, SectorFile<K>>, Result<(), Failure>)
     // The image on the file that could be opened for writing was recovered, and listed.
     ensures listed { IfOk opened (λ disk. OnOk result.1 (DoneOn ⟦<SectorFile<H> as SectorDevice>⟧ Left.Opened (λ device. device ≡ disk)
-        (ListsBlock ⟦<SectorFile<H> as SectorDevice>⟧ block (W.contents output.old) (W.contents output.new)) result.0)) }
+        (IsListed ⟦<SectorFile<H> as SectorDevice>⟧ block (W.contents output.old) (W.contents output.new)) result.0)) }
     ensures unlisted { IfOk opened (λ disk. IfErr result.1 (λ failure. DoneOn ⟦<SectorFile<H> as SectorDevice>⟧ Left.Opened
-        (λ device. device ≡ disk) (FailsAfter ⟦<SectorFile<H> as SectorDevice>⟧
+        (λ device. device ≡ disk) (FailsToPrint ⟦<SectorFile<H> as SectorDevice>⟧ block block
         (ListFails ⟦<SectorFile<H> as SectorDevice>⟧ block) failure) result.0)) }
     // That on one that couldn't was looked at, and shown.
     ensures shown { IfErr opened (λ _. OnOk result.1 (DoneOn ⟦<SectorFile<K> as SectorDevice>⟧
         Left.Looked (IsOpened K.HostFile (P.opens looking.now path.now))
-        (ShowsImage ⟦<SectorFile<K> as SectorDevice>⟧ block (W.contents output.old) (W.contents output.new)) result.0)) }
+        (IsShown ⟦<SectorFile<K> as SectorDevice>⟧ block (W.contents output.old) (W.contents output.new)) result.0)) }
     ensures unshown { IfErr opened (λ _. IfErr result.1 (λ failure. FailsOn ⟦<SectorFile<K> as SectorDevice>⟧ Left.Looked
-        (IsOpened K.HostFile (P.opens looking.now path.now)) (ShowingFails ⟦<SectorFile<K> as SectorDevice>⟧ (block_refusal block)) failure result.0)) }
+        (IsOpened K.HostFile (P.opens looking.now path.now)) (ShowingFails ⟦<SectorFile<K> as SectorDevice>⟧ (block_refusal block) block block) failure result.0)) }
     ensures unprinted { IfErr result.1 (λ e. e ≢ Failure.CannotWrite → output.new ≡ output.old) }
     ensures unstopped { IfErr result.1 (λ e. e ≢ Failure.Stopped) }
 {
@@ -82,7 +83,7 @@ pub fn list_opened<H: HostFile, K: HostFile, P: HostFiles<K>, W: Write>(
 }
 
 /// Prints a block of an image. Its file is opened for nothing but that, and is given back. Its failures: `CannotOpen`
-/// or `InUse` where the file can't be opened for reading, then those of `show_over`.
+/// or `InUse` where the file can't be opened for reading, then those of `show_through`.
 pub fn show_image<H: HostFile, O: HostFiles<H>, W: Write, D>(
     files: &O,
     path: &str,
@@ -91,9 +92,9 @@ pub fn show_image<H: HostFile, O: HostFiles<H>, W: Write, D>(
 ) -> (Left<D, SectorFile<H>>, Result<(), Failure>)
     ensures shown { OnOk result.1 (DoneOn ⟦<SectorFile<H> as SectorDevice>⟧ Left.Looked
         (IsOpened H.HostFile (O.opens files.now path.now))
-        (ShowsImage ⟦<SectorFile<H> as SectorDevice>⟧ block (W.contents output.old) (W.contents output.new)) result.0) }
+        (IsShown ⟦<SectorFile<H> as SectorDevice>⟧ block (W.contents output.old) (W.contents output.new)) result.0) }
     ensures unshown { IfErr result.1 (λ failure. FailsOn ⟦<SectorFile<H> as SectorDevice>⟧ Left.Looked
-        (IsOpened H.HostFile (O.opens files.now path.now)) (ShowingFails ⟦<SectorFile<H> as SectorDevice>⟧ (block_refusal block)) failure result.0) }
+        (IsOpened H.HostFile (O.opens files.now path.now)) (ShowingFails ⟦<SectorFile<H> as SectorDevice>⟧ (block_refusal block) block block) failure result.0) }
     ensures unprinted { IfErr result.1 (λ e. e ≢ Failure.CannotWrite → output.new ≡ output.old) }
     ensures unstopped { IfErr result.1 (λ e. e ≢ Failure.Stopped) }
 {
@@ -107,9 +108,9 @@ pub fn show_opened<H: HostFile, W: Write, D>(
     output: &mut W,
 ) -> (Left<D, SectorFile<H>>, Result<(), Failure>)
     ensures shown { IfOk opened (λ disk. OnOk result.1 (DoneOn ⟦<SectorFile<H> as SectorDevice>⟧ Left.Looked (λ device. device ≡ disk)
-        (ShowsImage ⟦<SectorFile<H> as SectorDevice>⟧ block (W.contents output.old) (W.contents output.new)) result.0)) }
+        (IsShown ⟦<SectorFile<H> as SectorDevice>⟧ block (W.contents output.old) (W.contents output.new)) result.0)) }
     ensures unshown { IfOk opened (λ disk. IfErr result.1 (λ failure. DoneOn ⟦<SectorFile<H> as SectorDevice>⟧ Left.Looked
-        (λ device. device ≡ disk) (ShowingFails ⟦<SectorFile<H> as SectorDevice>⟧ (block_refusal block) failure) result.0)) }
+        (λ device. device ≡ disk) (ShowingFails ⟦<SectorFile<H> as SectorDevice>⟧ (block_refusal block) block block failure) result.0)) }
     // Of a file that couldn't be opened nothing is listed.
     ensures refused { IfErr opened (λ fault. result.1 ≡ Err (of_file fault)) }
     ensures unopened { IfErr opened (λ _. result.0 ≡ Left.Nothing) }
@@ -119,10 +120,35 @@ pub fn show_opened<H: HostFile, W: Write, D>(
 {
     match opened {
         Ok(mut disk) => {
-            let outcome = show_over(&mut disk, block, output);
+            let outcome = show_through(&mut disk, block, output);
             (Left::Looked(disk), outcome)
         }
         Err(unopened) => (Left::Nothing, Err(Failure::from(unopened))),
+    }
+}
+
+/// Prints a block of the image on a device, by reads alone, as `show_over`; and where a read of an image of layout 3
+/// failed, from where the block stands. Its failures are those of `show_over`; `Device` only where the block isn't had
+/// from there either.
+/// Rule: MANUAL, forth83 list IMAGE BLOCK; IMAGE, A sector that can't be read.
+pub fn show_through<D: SectorDevice, W: Write>(
+    device: &mut D,
+    block: u16,
+    output: &mut W,
+) -> Result<(), Failure>
+    ensures shows { OnOk result (IsShown D.SectorDevice block (W.contents output.old) (W.contents output.new)
+        device.old device.new) }
+    ensures failed { IfErr result (λ failure. ShowingFails D.SectorDevice (block_refusal block) block block failure
+        device.old device.new) }
+    // Where nothing is told of the block, nothing was printed.
+    ensures unprinted { IfErr result (λ e. e ≢ Failure.CannotWrite → output.new ≡ output.old) }
+    // Whatever the answer is, nothing was written or synced.
+    ensures only_read { OnlyRead D.SectorDevice device.old device.new }
+    ensures unstopped { IfErr result (λ e. e ≢ Failure.Stopped) }
+{
+    match show_over(device, block, output) {
+        Ok(()) => Ok(()),
+        Err(failure) => list_anyway(failure, device, block, output),
     }
 }
 

@@ -38,7 +38,7 @@ pub(super) fn tell_more<D: SectorDevice, W: Write>(
 }
 
 /// Whether a call of the image's device failed.
-fn is_of_device(failure: Failure) -> bool
+pub(super) fn is_of_device(failure: Failure) -> bool
     ensures { result ≡ is_device failure }
 {
     matches!(failure, Failure::Device)

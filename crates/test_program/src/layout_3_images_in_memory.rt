@@ -50,7 +50,7 @@ fn report(alloc: Global, blocks: u16, starts: &[(u16, &str)]) -> Result<String, 
 }
 
 /// Changes a byte of a sector.
-fn change(bytes: &mut [u8], sector: usize, at: usize) {
+pub(crate) fn change(bytes: &mut [u8], sector: usize, at: usize) {
     let place = sector.saturating_mul(512).saturating_add(at);
     if let Some(byte) = bytes.get_mut(place) {
         *byte ^= 255;
@@ -58,7 +58,9 @@ fn change(bytes: &mut [u8], sector: usize, at: usize) {
 }
 
 /// A disk with an image of 32 blocks, of which two were saved at once.
-fn with_sevens(rt: &(impl Files<File = File> + AllocGlobal + Abort)) -> Result<Disk, Fail> {
+pub(crate) fn with_sevens(
+    rt: &(impl Files<File = File> + AllocGlobal + Abort),
+) -> Result<Disk, Fail> {
     let disk = Disk::of_length(rt, LENGTH)?;
     let files = OneDisk::new(&disk);
     let words = ["forth83", "new", "A", "--blocks", "32", "--layout", "3"];
@@ -361,7 +363,7 @@ fn list_unwritable(rt: &(impl Files<File = File> + AllocGlobal), disk: &Disk, bl
 }
 
 /// Calls the program over the image on a disk that isn't opened for writing, since it is in use or may only be read.
-fn call_unwritable(
+pub(crate) fn call_unwritable(
     rt: &(impl Files<File = File> + AllocGlobal),
     disk: &Disk,
     is_in_use: bool,

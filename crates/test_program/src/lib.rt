@@ -27,4 +27,6 @@ mod support;
 #[cfg(test)]
 mod systems;
 #[cfg(test)]
+mod unread_blocks;
+#[cfg(test)]
 mod upgrades;

@@ -1,5 +1,6 @@
 //! Images of layout 3: formats, openings, saves, upgrades, examinations, copies and salvages. The digests are Python's.
 mod copies;
+mod current_blocks;
 mod examinations;
 mod formats;
 mod images;

@@ -30,7 +30,7 @@ pub enum Standing {
 }
 
 // Reads the place of block `b` that begins with sector `k`, and answers whether it holds a whole save of the block.
-fn read_place<D: SectorDevice>(
+pub(super) fn read_place<D: SectorDevice>(
     device: &mut D,
     b: u16,
     k: u32,

@@ -1,5 +1,5 @@
 use Rattle.std.proofs.Common.{refl}
-use Rattle.terminal.proofs.Ended.{done_err, done_on, if_ok, showing_failed}
+use Rattle.terminal.proofs.Ended.{done_err, done_on, if_ok}
 use Rattle.terminal.specs.declared.left.Left.TheVariants.{Looked}
 use Rattle.terminal.proofs.exporting_images.show_opened_blocks.Goals as goal
 
@@ -11,4 +11,4 @@ returns-in-Ok-clause-shown g c =
 pub returns-in-Ok-clause-unshown : goal.returns-in-Ok-clause-unshown
 returns-in-Ok-clause-unshown g c =
     let ended = c.show_blocks_over-outcome in
-    if_ok _ _ _ c.in-Ok.is (done_err (λ d. Looked d) _ _ c.in-Ok.disk ended.new.device ended.result _ refl refl (showing_failed _ _ _ ended.result c.in-Ok.disk ended.new.device ended.ensures.only_read ended.ensures.device ended.ensures.refused ended.ensures.exact))
+    if_ok _ _ _ c.in-Ok.is (done_err (λ d. Looked d) _ _ c.in-Ok.disk ended.new.device ended.result _ refl refl ended.ensures.failed)

@@ -8,7 +8,7 @@ pub returns-in-Ok-Some-clause-shows : goal.returns-in-Ok-Some-clause-shows
 returns-in-Ok-Some-clause-shows g c =
     let found = c.in-Ok-Some.ensures in
     on_ok_weaker c.print.result
-    (λ printed. shown g.D.SectorDevice c.args.device.now c.read_block.new.device c.args.block c.in-Ok-Some.bytes _ _ found.passes
+    (λ printed. shown g.D.SectorDevice c.args.device.now c.read_block.new.device c.args.block c.in-Ok-Some.bytes _ _ found.passes found.well
     (rw c.in-Ok-Some.field-0-is at found.there) (rw c.in-Ok-Some.field-0-is at found.bytes) found.meaning found.disk found.stops found.begins found.reads found.few
     (subst (λ (text : List ℕ). Appends (g.W.Write.contents c.args.output.now) (g.W.Write.contents c.print.new.output) text) (c.as_slice.ensures.value ∙ c.listing.ensures) printed))
     c.print.ensures.ok
