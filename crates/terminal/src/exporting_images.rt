@@ -45,7 +45,7 @@ pub fn export_image<H: HostFile, O: HostFiles<H>, K: HostFile, P: HostFiles<K>, 
     ensures failed { IfErr result.1 (λ failure. ExportFailed ⟦<SectorFile<H> as SectorDevice>⟧ ⟦<SectorFile<K> as SectorDevice>⟧
         (IsOpened H.HostFile (O.opens files.now path.now)) (IsOpened K.HostFile (P.opens looking.now path.now))
         first last failure result.0) }
-    // Some blocks may be printed only where a read or the output failed.
+    // Some blocks may be printed only where a call or the output failed.
     ensures unprinted { IfErr result.1 (λ e. e ≢ Failure.Device → e ≢ Failure.CannotWrite → output.new ≡ output.old) }
     // No session has begun that could stop.
     ensures unstopped { IfErr result.1 (λ e. e ≢ Failure.Stopped) }

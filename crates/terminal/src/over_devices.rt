@@ -103,7 +103,7 @@ pub fn export_over<D: SectorDevice, W: Write>(
         device result.0) }
     ensures failed { IfErr result.1 (λ failure.
         FailsToPrint D.SectorDevice first last (ExportFails D.SectorDevice first last) failure device result.0) }
-    // Some blocks may be printed only where a read or the output failed.
+    // Some blocks may be printed only where a call or the output failed.
     ensures unprinted { IfErr result.1 (λ e. e ≢ Failure.Device → e ≢ Failure.CannotWrite → output.new ≡ output.old) }
     ensures unstopped { IfErr result.1 (λ e. e ≢ Failure.Stopped) }
 {
