@@ -29,8 +29,8 @@ abbrev pub AfterFault : {D : Type 0} (failed P : D → D → Type 0) (device aft
 AfterFault {D} failed P device after = (looked : D) × failed device looked × P looked after
 
 module _ {D : Type 0} (G : Ghosts D) where
-  -- `list` of an image of layout 3 after that: the block, which is there and stands whole where it counts, was printed as the image means
-  -- it. No other block was read, and no call failed.
+  -- `list` of an image of layout 3 after that: the block, which is there and stands whole where it counts, was printed as the record names
+  -- it, which is as the image means it where it has a meaning. At most five reads were begun for it, and no further call failed.
   pub record ShowsStanding (b : ℕ) (written written' : Option (List ℕ)) (device after : D) : Type 0 where
     pub only_read : OnlyRead G device after
     pub well : G.failures after ≡ G.failures device

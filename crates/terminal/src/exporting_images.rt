@@ -161,7 +161,8 @@ pub fn show_blocks_over<D: SectorDevice, W: Write>(
     ensures shows { OnOk result (AreShown D.SectorDevice form first last (W.contents output.old) (W.contents output.new)
         device.old device.new) }
     // Each refusal tells the first test that fails: those of an opening, and then whether the blocks are there. A fault of
-    // the device is told just where one of its calls failed.
+    // the device is told only where one of its calls failed; where one did, and blocks were printed from where they stand,
+    // a failure of the output is told.
     ensures failed { IfErr result (λ failure. ShowingFails D.SectorDevice (blocks_refusal first last) first last failure
         device.old device.new) }
     ensures no_block { IfErr result (λ e. e ≡ Failure.NoBlock
