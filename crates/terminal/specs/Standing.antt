@@ -24,7 +24,8 @@ AllStand first past image = (b : ℕ) → first ≤ b → b < past → stands_wh
 abbrev pub OneIsDamaged : (first past : ℕ) → Image → Type 0
 OneIsDamaged first past image = (b : ℕ) × (first ≤ b) × (b < past) × (stands_whole image b ≡ false)
 
--- A call of the device failed at first, in what this leads to; and then was done what P says.
+-- A call of the device failed at first, in what this leads to; and then was done what P says. Of an opening that failed the image printed
+-- from is the one which it left, that is one which a stop could have left before, or one that follows such an image (`recovers`).
 abbrev pub AfterFault : {D : Type 0} (failed P : D → D → Type 0) (device after : D) → Type 0
 AfterFault {D} failed P device after = (looked : D) × failed device looked × P looked after
 

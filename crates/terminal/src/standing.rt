@@ -67,6 +67,7 @@ fn list_standing<D: SectorDevice, W: Write>(
 {
     match read_current(device, block) {
         Ok(Some(bytes)) => print(listing(&bytes).as_slice(), output),
+        // the failure that came first is told again
         Ok(None) => Err(Failure::Device),
         Err(_) => Err(Failure::Device),
     }
@@ -217,25 +218,26 @@ fn print_each<D: SectorDevice, W: Write>(
 /// Prints a block that is there from where it stands.
 fn print_current<D: SectorDevice, W: Write>(
     device: &mut D,
-    b: u16,
+    block: u16,
     form: Form,
     output: &mut W,
 ) -> Result<(), Failure>
     requires sized { is_size (D.sector_count device.old) ≡ true }
-    requires there { b < blocks_in (D.sector_count device.old) }
+    requires there { block < blocks_in (D.sector_count device.old) }
     ensures printed { IsTrue (D.keeps_model device.old) → OnOk result (Appends (W.contents output.old) (W.contents output.new)
-        (exported form (contents (maps_on D.SectorDevice device.old) b))) }
-    ensures whole { IsTrue (D.keeps_model device.old) → OnOk result (stands_whole (D.disk device.old).content b ≡ true) }
+        (exported form (contents (maps_on D.SectorDevice device.old) block))) }
+    ensures whole { IsTrue (D.keeps_model device.old) → OnOk result (stands_whole (D.disk device.old).content block ≡ true) }
     ensures only { IfErr result (λ e. (e ≡ Failure.Device) ⊎ (e ≡ Failure.CannotWrite)) }
     ensures unhad { IfErr result (λ e. e ≡ Failure.Device
-        → NotHad D.SectorDevice (λ image. stands_whole image b ≡ false) device.old device.new) }
+        → NotHad D.SectorDevice (λ image. stands_whole image block ≡ false) device.old device.new) }
     ensures refused { IfErr result (λ e. e ≢ Failure.Device → D.failures device.new ≡ D.failures device.old) }
     ensures well { OnOk result (D.failures device.new ≡ D.failures device.old) }
     ensures only_read { OnlyRead D.SectorDevice device.old device.new }
     ensures reads { ReadsAtMost D.SectorDevice device.old device.new 5 }
 {
-    match read_current(device, b) {
+    match read_current(device, block) {
         Ok(Some(bytes)) => print_bytes(&bytes, form, output),
+        // the failure that came first is told again (that there is no such block can't come: it is there)
         Ok(None) => Err(Failure::Device),
         Err(_) => Err(Failure::Device),
     }

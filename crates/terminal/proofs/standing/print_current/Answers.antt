@@ -14,7 +14,7 @@ returns-in-Ok-Some-clause-printed g c = λ keeps.
     let meant = (rw c.in-Ok-Some.field-0-is at c.in-Ok-Some.ensures.meant) keeps in
     on_ok_weaker c.print_bytes.result
     (λ printed. subst (λ (bytes : List ℕ). Appends (g.W.Write.contents c.args.output.now) (g.W.Write.contents c.print_bytes.new.output) (exported c.args.form bytes))
-    (meant ∙ sym (contents_meant (meant_by D c.args.device.now) c.args.b)) printed)
+    (meant ∙ sym (contents_meant (meant_by D c.args.device.now) c.args.block)) printed)
     c.print_bytes.ensures.ok
 
 pub returns-in-Ok-Some-clause-whole : goal.returns-in-Ok-Some-clause-whole
@@ -29,7 +29,7 @@ returns-in-Ok-None-clause-unhad g c = λ is.
 pub returns-in-Err-clause-unhad : goal.returns-in-Err-clause-unhad
 returns-in-Err-clause-unhad g c = λ is.
     let fault = c.in-Err.ensures in
-    not_had g.D.SectorDevice c.in-Err.field-0 c.args.device.now c.read_current.new.device c.args.b c.requires.sized
+    not_had g.D.SectorDevice c.in-Err.field-0 c.args.device.now c.read_current.new.device c.args.block c.requires.sized
     fault.bad_size fault.damaged fault.device fault.refused
 
 pub returns-in-Ok-Some-clause-only_read : goal.returns-in-Ok-Some-clause-only_read
