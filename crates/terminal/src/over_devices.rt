@@ -80,6 +80,7 @@ pub fn list_over<D: SectorDevice, W: Write>(
             let outcome = list_block(&mut store, block, output);
             (store.into_device(), outcome)
         }
+        // a block of an image that can't be opened may stand all the same
         Err((failure, mut device)) => {
             let outcome = list_anyway(failure, &mut device, block, output);
             (device, outcome)
@@ -112,6 +113,7 @@ pub fn export_over<D: SectorDevice, W: Write>(
             let outcome = export_blocks(&mut store, first, last, form, output);
             (store.into_device(), outcome)
         }
+        // blocks of an image that can't be opened may stand all the same
         Err((failure, mut device)) => {
             let outcome = export_anyway(failure, &mut device, first, last, form, output);
             (device, outcome)

@@ -45,6 +45,7 @@ pub(super) fn list_anyway<D: SectorDevice, W: Write>(
     ensures only_read { OnlyRead D.SectorDevice device.old device.new }
     ensures unstopped { failure ≢ Failure.Stopped → IfErr result (λ e. e ≢ Failure.Stopped) }
 {
+    // of an image that is refused nothing is printed
     if is_of_device(failure) {
         list_standing(device, block, output)
     } else {
@@ -95,6 +96,7 @@ pub(super) fn export_anyway<D: SectorDevice, W: Write>(
     ensures only_read { OnlyRead D.SectorDevice device.old device.new }
     ensures unstopped { failure ≢ Failure.Stopped → IfErr result (λ e. e ≢ Failure.Stopped) }
 {
+    // of an image that is refused no block is printed
     if is_of_device(failure) {
         export_standing(device, first, last, form, output)
     } else {
