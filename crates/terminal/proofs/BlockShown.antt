@@ -20,7 +20,7 @@ use Rattle.image_care.specs.Looked.{reads_to_look}
 use Rattle.command_line.specs.declared.orders.Form.{Form}
 use Rattle.terminal.specs.Care.{AreExported, AreShown, ExportDone, IsListed, IsShown, ListDone}
 use Rattle.terminal.specs.Done.{DoneOn, blocks_on, meant_by}
-use Rattle.terminal.specs.Failed.{ExportFailed, ExportFails, FailsOn, FailsToPrint, ListFailed, ListFails, ShowingFails}
+use Rattle.terminal.specs.Failed.{ExportFailed, ExportFails, FailsOn, FailsToPrint, ListFailed, ListFails, ListShowingFails, ShowingFails}
 use Rattle.terminal.specs.Failures.{of_file, of_image}
 use Rattle.terminal.specs.Screen.{listing}
 use Rattle.terminal.specs.Shown.{ShowsImage, block_refusal, blocks_refusal}
@@ -119,9 +119,9 @@ module _ {D E T : Type 0} (G : Ghosts D) (L : Ghosts E) (file : Result D FileFau
 
   pub list_failed : (b : ℕ) → IfOk file opened
       → IfOk file (λ disk. IfErr r (λ failure. DoneOn G (λ d. Opened d) (λ device. device ≡ disk) (FailsToPrint G b b (ListFails G b) failure) left))
-      → IfErr file (λ fault. IfErr r (λ failure. FailsOn L (λ d. Looked d) looked (ShowingFails L (block_refusal b) b b) failure left))
+      → IfErr file (λ fault. IfErr r (λ failure. FailsOn L (λ d. Looked d) looked (ListShowingFails L b) failure left))
       → IfErr r (λ failure. ListFailed G L opened looked b failure left)
-  list_failed b = either_failed (FailsToPrint G b b (ListFails G b)) (ShowingFails L (block_refusal b) b b)
+  list_failed b = either_failed (FailsToPrint G b b (ListFails G b)) (ListShowingFails L b)
 
   pub export_failed : (first last : ℕ) → IfOk file opened
       → IfOk file (λ disk. IfErr r (λ failure. DoneOn G (λ d. Opened d) (λ device. device ≡ disk) (FailsToPrint G first last (ExportFails G first last) failure) left))

@@ -17,9 +17,10 @@ use Rattle.stores.specs.Opened.{image_refusal}
 use Rattle.image_care.specs.Standing.{stands_whole}
 use Rattle.command_line.specs.declared.orders.Form.{Form}
 use Rattle.terminal.specs.Done.{maps_on, meant_by}
-use Rattle.terminal.specs.Failed.{CallFailed, FailsToPrint, FoundFails, NotHad, NotHadOf, NotStanding, RefusesImage, ShowingFails, StandingFails}
+use Rattle.terminal.specs.Failed.{CallFailed, FailsToPrint, FoundFails, IsUnprinted, ListShowingFails, NotHad, NotHadOf, NotStanding, ReadingFails, RefusesImage, ShowingFails, StandingFails}
 use Rattle.terminal.specs.Failures.{of_image}
 use Rattle.terminal.specs.Screen.{listing}
+use Rattle.terminal.specs.Shown.{block_refusal}
 use Rattle.terminal.specs.Standing.{AllStand, ExportsStanding, OneIsDamaged, ShowsStanding, has_pages}
 use Rattle.terminal.specs.Transfer.{exports}
 use Rattle.terminal.specs.declared.failure.Failure.{Failure}
@@ -209,6 +210,21 @@ module _ {D : Type 0} (G : Ghosts D) where
   )
   not_printed first last P before failure device looked after refuses (inr (is, fails)) =
       inr (inl (looked, subst (λ (f : Failure). RefusesImage G f device looked) is refuses, fails))
+
+  -- A look for one block.
+  pub not_listed : (b : ℕ) (before failure : Failure) (device looked after : D)
+      → OnlyRead G device looked → (before ≡ Device → CallFailed G device looked) → (before ≢ Device → G.failures looked ≡ G.failures device)
+      → (IsTrue (G.keeps_model device) → (before ≡ Device) ⊎ (before ≡ CannotWrite)
+      ⊎ (block_refusal b (G.sector_count device) (G.disk device).content ≡ Some before))
+      → NotStanding G b b before failure looked after → ListShowingFails G b failure device after
+  not_listed b before failure device looked after reads failed well told (inl (other, same, still)) = inl (
+    (λ is. other (sym same ∙ is)),
+    subst (λ (f : Failure). ReadingFails G IsUnprinted (block_refusal b) f device after) (sym same)
+        (subst (λ (d : D). ReadingFails G IsUnprinted (block_refusal b) before device d) (sym still)
+        (record { reads = reads; faults = record { failed = failed; well = well }; told = told })),
+  )
+  not_listed b before failure device looked after reads failed well told (inr (is, fails)) =
+      inr (looked, record { reads = reads; failed = failed is }, fails)
 
   -- A look.
   pub not_shown : (refusal : (sectors : ℕ) → Image → Option Failure) (first last : ℕ) (before failure : Failure) (device looked after : D)

@@ -290,7 +290,13 @@ module _ {D : Type 0} (G : Ghosts D) where
     pub reads : OnlyRead G device after
     pub failed : CallFailed G device after
 
-  -- `list`, `export`: the image is refused, or a block isn't there; or a read failed, but only once the image was found not to be refused.
+  -- `list`: the image is refused, the block isn't there, or it couldn't be printed, and no read failed; or one failed, and then the block
+  -- wasn't printed from where it stands.
+  abbrev pub ListShowingFails : (b : ℕ) → Failure → (device after : D) → Type 0
+  ListShowingFails b failure device after = ((failure ≢ Device) × ReadingFails IsUnprinted (block_refusal b) failure device after)
+      ⊎ AfterFault ReadFailed (StandingFails b b failure) device after
+
+  -- `export`: the image is refused, or a block isn't there; or a read failed, but only once the image was found not to be refused.
   pub record FoundFails (refusal : (sectors : ℕ) → Image → Option Failure) (failure : Failure) (device after : D) : Type 0 where
     pub reading : ReadingFails IsUnprinted refusal failure device after
     pub found : IsTrue (G.keeps_model device) → failure ≡ Device → image_refusal (G.sector_count device) (G.disk device).content ≡ None
@@ -377,7 +383,7 @@ module _ {D E : Type 0} (G : Ghosts D) (L : Ghosts E) where
   -- A block wasn't listed: no file of its image was opened, or the one for writing was, or the one for reading alone.
   abbrev pub ListFailed : (opened : D → Type 0) (looked : E → Type 0) (b : ℕ) → Failure → Left D E → Type 0
   ListFailed opened looked b failure left = FailsOn G files.Opened opened (FailsToPrint G b b (ListFails G b)) failure left
-      ⊎ DoneOn L files.Looked looked (ShowingFails L (block_refusal b) b b failure) left
+      ⊎ DoneOn L files.Looked looked (ListShowingFails L b failure) left
 
   -- Blocks weren't exported: the same.
   abbrev pub ExportFailed : (opened : D → Type 0) (looked : E → Type 0) (first last : ℕ) → Failure → Left D E → Type 0

@@ -8,7 +8,7 @@ ghost use Rattle.shadow.specs.Label.{is_known_size};
 ghost use Rattle.shadow.specs.Upgraded.{known_blocks};
 ghost use Rattle.terminal.specs.Care.{IsListed, IsShown, ListDone};
 ghost use Rattle.terminal.specs.Done.{DoneOn};
-ghost use Rattle.terminal.specs.Failed.{FailsOn, FailsToPrint, ListFailed, ListFails, ShowingFails};
+ghost use Rattle.terminal.specs.Failed.{FailsOn, FailsToPrint, ListFailed, ListFails, ListShowingFails};
 ghost use Rattle.recovery.specs.Steps.{OnlyRead};
 ghost use Rattle.terminal.specs.Failures.{of_file};
 ghost use Rattle.terminal.specs.Files.{IsOpened};
@@ -69,7 +69,7 @@ pub fn list_opened<H: HostFile, K: HostFile, P: HostFiles<K>, W: Write>(
         Left.Looked (IsOpened K.HostFile (P.opens looking.now path.now))
         (IsShown ⟦<SectorFile<K> as SectorDevice>⟧ block (W.contents output.old) (W.contents output.new)) result.0)) }
     ensures unshown { IfErr opened (λ _. IfErr result.1 (λ failure. FailsOn ⟦<SectorFile<K> as SectorDevice>⟧ Left.Looked
-        (IsOpened K.HostFile (P.opens looking.now path.now)) (ShowingFails ⟦<SectorFile<K> as SectorDevice>⟧ (block_refusal block) block block) failure result.0)) }
+        (IsOpened K.HostFile (P.opens looking.now path.now)) (ListShowingFails ⟦<SectorFile<K> as SectorDevice>⟧ block) failure result.0)) }
     ensures unprinted { IfErr result.1 (λ e. e ≢ Failure.CannotWrite → output.new ≡ output.old) }
     ensures unstopped { IfErr result.1 (λ e. e ≢ Failure.Stopped) }
 {
@@ -94,7 +94,7 @@ pub fn show_image<H: HostFile, O: HostFiles<H>, W: Write, D>(
         (IsOpened H.HostFile (O.opens files.now path.now))
         (IsShown ⟦<SectorFile<H> as SectorDevice>⟧ block (W.contents output.old) (W.contents output.new)) result.0) }
     ensures unshown { IfErr result.1 (λ failure. FailsOn ⟦<SectorFile<H> as SectorDevice>⟧ Left.Looked
-        (IsOpened H.HostFile (O.opens files.now path.now)) (ShowingFails ⟦<SectorFile<H> as SectorDevice>⟧ (block_refusal block) block block) failure result.0) }
+        (IsOpened H.HostFile (O.opens files.now path.now)) (ListShowingFails ⟦<SectorFile<H> as SectorDevice>⟧ block) failure result.0) }
     ensures unprinted { IfErr result.1 (λ e. e ≢ Failure.CannotWrite → output.new ≡ output.old) }
     ensures unstopped { IfErr result.1 (λ e. e ≢ Failure.Stopped) }
 {
@@ -110,7 +110,7 @@ pub fn show_opened<H: HostFile, W: Write, D>(
     ensures shown { IfOk opened (λ disk. OnOk result.1 (DoneOn ⟦<SectorFile<H> as SectorDevice>⟧ Left.Looked (λ device. device ≡ disk)
         (IsShown ⟦<SectorFile<H> as SectorDevice>⟧ block (W.contents output.old) (W.contents output.new)) result.0)) }
     ensures unshown { IfOk opened (λ disk. IfErr result.1 (λ failure. DoneOn ⟦<SectorFile<H> as SectorDevice>⟧ Left.Looked
-        (λ device. device ≡ disk) (ShowingFails ⟦<SectorFile<H> as SectorDevice>⟧ (block_refusal block) block block failure) result.0)) }
+        (λ device. device ≡ disk) (ListShowingFails ⟦<SectorFile<H> as SectorDevice>⟧ block failure) result.0)) }
     // Of a file that couldn't be opened nothing is listed.
     ensures refused { IfErr opened (λ fault. result.1 ≡ Err (of_file fault)) }
     ensures unopened { IfErr opened (λ _. result.0 ≡ Left.Nothing) }
@@ -138,8 +138,7 @@ pub fn show_through<D: SectorDevice, W: Write>(
 ) -> Result<(), Failure>
     ensures shows { OnOk result (IsShown D.SectorDevice block (W.contents output.old) (W.contents output.new)
         device.old device.new) }
-    ensures failed { IfErr result (λ failure. ShowingFails D.SectorDevice (block_refusal block) block block failure
-        device.old device.new) }
+    ensures failed { IfErr result (λ failure. ListShowingFails D.SectorDevice block failure device.old device.new) }
     // Where nothing is told of the block, nothing was printed.
     ensures unprinted { IfErr result (λ e. e ≢ Failure.CannotWrite → output.new ≡ output.old) }
     // Whatever the answer is, nothing was written or synced.

@@ -1,8 +1,7 @@
 use Rattle.std.proofs.Common.{inl, inr}
 use Rattle.std.proofs.lemmas.Result.{IfErr-weaker}
 use Rattle.recovery.proofs.Upgrades.{only_read_then}
-use Rattle.terminal.specs.Shown.{block_refusal}
-use Rattle.terminal.proofs.Standings.{not_shown, ok_both, still_unprinted}
+use Rattle.terminal.proofs.Standings.{not_listed, ok_both, still_unprinted}
 use Rattle.terminal.proofs.showing.show_through.Goals as goal
 
 pub returns-in-Ok-clause-shows : goal.returns-in-Ok-clause-shows
@@ -19,8 +18,8 @@ pub returns-in-Err-clause-failed : goal.returns-in-Err-clause-failed
 returns-in-Err-clause-failed g c =
     let looked = c.in-Err.ensures in
     IfErr-weaker c.list_anyway.result _ _
-    (λ e told. not_shown g.D.SectorDevice (block_refusal c.args.block) c.args.block c.args.block c.in-Err.failure e c.args.device.now c.show_over.new.device
-    c.list_anyway.new.device c.show_over.ensures.only_read looked.device looked.refused looked.exact told)
+    (λ e told. not_listed g.D.SectorDevice c.args.block c.in-Err.failure e c.args.device.now c.show_over.new.device c.list_anyway.new.device
+    c.show_over.ensures.only_read looked.device looked.refused looked.exact told)
     c.list_anyway.ensures.failed
 
 pub returns-in-Err-clause-only_read : goal.returns-in-Err-clause-only_read
