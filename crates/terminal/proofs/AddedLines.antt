@@ -1,5 +1,5 @@
 -- Lines that are added one after another are those of all blocks, or of all rows.
-use Rattle.std.proofs.Common.{◌≡◌, ◌∙◌, ◌++◌, ◌-◌, ◌≤◌, ℕ, suc, List, take, drop, length, sym, ap, ap₂, append_assoc, max, arith, replicate}
+use Rattle.std.proofs.Common.{◌≡◌, ◌∙◌, ◌++◌, ℕ, suc, List, take, drop, sym, ap, ap₂, append_assoc}
 use Rattle.terminal.specs.Compared.{change, changes, digest_line, digest_lines}
 
 -- the lines of one block more

@@ -3,7 +3,7 @@ use Rattle.std.proofs.Common.{◌≡◌, ◌≢◌, ◌⊎◌, ℕ, IsTrue, List
 use Rattle.std.specs.Prelude.{IfErr, MatchResult, OnOk, option_map}
 use Rattle.sector_disk.specs.declared.device.SectorDevice.{Ghosts}
 use Rattle.recovery.specs.Steps.{OnlyRead, WentWell}
-use Rattle.terminal.specs.Compared.{Compares, DiffDone, OneFailed, refusal_of_either}
+use Rattle.terminal.specs.Compared.{DiffDone, OneFailed, refusal_of_either}
 use Rattle.terminal.specs.Failed.{DiffFailed}
 use Rattle.terminal.specs.Failures.{of_image}
 use Rattle.terminal.specs.declared.failure.Failure.{Failure}

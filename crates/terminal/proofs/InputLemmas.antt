@@ -1,5 +1,5 @@
 -- Bytes that come before those of a reader.
-use Rattle.std.proofs.Common.{◌≡◌, ◌∙◌, ℕ, List, [], ◌++◌, Option, Some, None, Result, refl, sym, subst, ap, append_assoc, append-nil}
+use Rattle.std.proofs.Common.{◌≡◌, ◌∙◌, ℕ, List, [], ◌++◌, Option, Some, None, Result, refl, sym, subst, ap, append_assoc}
 use Rattle.std.specs.Io.KnownBytes.{ReadConsumes, prepend_known}
 use Rattle.std.proofs.KnownBytes.{prepend_known-nil}
 

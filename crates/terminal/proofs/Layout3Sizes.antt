@@ -1,5 +1,5 @@
 -- What isn't refused by an upgrade to layout 3 has the sizes of images with as many blocks, and is no old image that an opening refuses.
-use Rattle.std.proofs.Common.{◌≡◌, ℕ, true, None, sym}
+use Rattle.std.proofs.Common.{◌≡◌, ℕ, true, None}
 use Rattle.std.specs.Prelude.{◌==◌, ◌&&◌, nat_le}
 use Rattle.std.proofs.lemmas.Bool.{eqb-true}
 use Rattle.sector_disk.specs.Disk.{Image}

@@ -1,5 +1,5 @@
 -- How a command ended that was to make an image.
-use Rattle.std.proofs.Common.{◌≡◌, ◌∙◌, ◌⊎◌, ◌≤◌, ◌+◌, ◌*◌, ℕ, true, Result, Ok, Err, inr, refl, subst, sym, arith}
+use Rattle.std.proofs.Common.{◌≡◌, ◌∙◌, ◌⊎◌, ◌≤◌, ℕ, true, Result, Ok, Err, inr, subst, sym, arith}
 use Rattle.std.specs.Prelude.{⊤, IsOk, IfErr, IfOk, OnOk}
 use Rattle.std.proofs.lemmas.Bool.Decides.{nat_tests}
 use Rattle.sector_disk.specs.declared.device.SectorDevice.{Ghosts}

@@ -1,5 +1,5 @@
 -- The session of a script, from the store that is opened to how it ended.
-use Rattle.std.proofs.Common.{◌≡◌, ◌∙◌, ◌⊎◌, ℕ, Bool, true, List, Option, None, Some, Result, Ok, Err, IsTrue, ap, inl, inr, refl, subst, sym}
+use Rattle.std.proofs.Common.{◌≡◌, ◌∙◌, ℕ, Bool, true, List, Option, None, Some, Result, Ok, Err, IsTrue, ap, inl, inr, refl, subst, sym}
 use Rattle.std.specs.Prelude.{◌≢◌, IfErr, IfOk, MatchResult, OnOk}
 use Rattle.sector_disk.specs.declared.device.SectorDevice.{Ghosts}
 use Rattle.journal.specs.Maps.{Maps}

@@ -7,7 +7,7 @@ use Rattle.sector_disk.specs.Counting.{count_up}
 use Rattle.sector_disk.specs.Disk.{Disk, Image}
 use Rattle.sector_disk.specs.declared.device.SectorDevice.{Ghosts}
 use Rattle.journal.specs.Calls.{ReadsAtMost}
-use Rattle.journal.specs.Maps.{Maps, block_in, contents, fresh}
+use Rattle.journal.specs.Maps.{block_in, contents, fresh}
 use Rattle.recovery.specs.Steps.{OnlyRead}
 use Rattle.recovery.specs.declared.fault.OpenFault.{OpenFault}
 use Rattle.recovery.specs.declared.fault.OpenFault.TheVariants as by
@@ -16,6 +16,7 @@ use Rattle.stores.specs.Images.{meaning}
 use Rattle.stores.specs.Opened.{image_refusal}
 use Rattle.image_care.specs.Standing.{stands_whole}
 use Rattle.command_line.specs.declared.orders.Form.{Form}
+use Rattle.terminal.specs.Care.{IsShown}
 use Rattle.terminal.specs.Done.{maps_on, meant_by}
 use Rattle.terminal.specs.Failed.{CallFailed, FailsToPrint, FoundFails, IsUnprinted, ListShowingFails, NotHad, NotHadOf, NotStanding, ReadingFails, RefusesImage, ShowingFails, StandingFails}
 use Rattle.terminal.specs.Failures.{of_image}
@@ -210,6 +211,18 @@ module _ {D : Type 0} (G : Ghosts D) where
   )
   not_printed first last P before failure device looked after refuses (inr (is, fails)) =
       inr (inl (looked, subst (λ (f : Failure). RefusesImage G f device looked) is refuses, fails))
+
+  -- A block that was printed from where it stands, after a look that failed by its device and printed nothing.
+  pub shown_after : {W : Type 0} (contents : W → Option (List ℕ)) (b : ℕ) (before : Failure) (old mid new : W) (device looked after : D)
+      → OnlyRead G device looked → (before ≡ Device → CallFailed G device looked) → (before ≢ CannotWrite → mid ≡ old)
+      → before ≡ Device → ShowsStanding G b (contents mid) (contents new) looked after
+      → IsShown G b (contents old) (contents new) device after
+  shown_after {W} contents b before old mid new device looked after reads failed was is shown = inr (
+    looked,
+    record { reads = reads; failed = failed is },
+    subst (λ (w : W). ShowsStanding G b (contents w) (contents new) looked after)
+        (was (λ other. let both : Device ≡ CannotWrite = sym is ∙ other in absurd cc)) shown,
+  )
 
   -- A look for one block.
   pub not_listed : (b : ℕ) (before failure : Failure) (device looked after : D)

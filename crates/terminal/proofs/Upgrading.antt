@@ -1,6 +1,6 @@
 -- An image that was upgraded, of which the old one is one that was opened.
-use Rattle.std.proofs.Common.{◌≡◌, ◌⊎◌, ◌∙◌, ℕ, Result, Ok, Err, IsTrue, inl, inr, subst, sym}
-use Rattle.std.specs.Prelude.{IfErr, OnOk, ⊤}
+use Rattle.std.proofs.Common.{◌≡◌, ◌∙◌, ℕ, Result, Ok, Err, IsTrue, inl, inr, subst, sym}
+use Rattle.std.specs.Prelude.{IfErr, OnOk}
 use Rattle.sector_disk.specs.declared.device.SectorDevice.{Ghosts}
 use Rattle.journal.specs.Calls.{Proceeds, StopsLeave}
 use Rattle.journal.specs.Images.{meaning}
@@ -9,7 +9,6 @@ use Rattle.recovery.specs.Formatted.{MakingLeaves}
 use Rattle.recovery.specs.Upgraded.{OldLeaves, upgrade_refusal}
 use Rattle.command_line.specs.declared.orders.Layout.{Layout}
 use Rattle.command_line.specs.declared.orders.Layout.TheVariants.{Two, Three}
-use Rattle.terminal.specs.Done.{EachLeft}
 use Rattle.terminal.specs.Failed.{NotUpgraded, TellsRefusal, UpgradeFailed, UpgradeFails}
 use Rattle.terminal.specs.Layout3.{UpgradeDone}
 use Rattle.terminal.specs.Layout2 as older

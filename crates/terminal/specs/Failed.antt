@@ -1,12 +1,11 @@
 -- What a command over images leaves where it failed, on any device: from the device that it opened or made to what that has become.
-use Rattle.std.specs.Prelude.{◌≡◌, ◌≢◌, ◌⊎◌, ℕ, Bool, true, false, ◌+◌, ◌-◌, ◌*◌, ◌≤◌, ◌<◌, IsTrue, List, [], Option, None, Some, IfSome, option_map}
+use Rattle.std.specs.Prelude.{◌≡◌, ◌≢◌, ◌⊎◌, ℕ, Bool, true, false, ◌+◌, ◌-◌, ◌*◌, ◌≤◌, ◌<◌, IsTrue, List, [], Option, None, Some, option_map}
 use Rattle.std.specs.Io.KnownBytes.{Appends}
 use Rattle.sector_disk.specs.Counting.{count_up}
 use Rattle.sector_disk.specs.declared.device.SectorDevice.{Ghosts}
 use Rattle.journal.specs.Calls.{BeginsAtMost, ReadsAtMost, StopsLeave}
-use Rattle.journal.specs.Images as older_images
 use Rattle.journal.specs.Layout as older_layout
-use Rattle.journal.specs.Maps.{Maps, latest, spilled}
+use Rattle.journal.specs.Maps.{latest, spilled}
 use Rattle.journal.specs.PageLayout as newer_layout
 use Rattle.journal.specs.Suits.{suits}
 use Rattle.interpreter.specs.Lines.{new_forth}

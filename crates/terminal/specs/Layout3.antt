@@ -9,7 +9,7 @@ use Rattle.recovery.specs.Formatted.{blank_blocks}
 use Rattle.shadow.specs.Formatted.{FormatLeaves, MakingLeaves}
 use Rattle.journal.specs.PageImages.{Means}
 use Rattle.journal.specs.PageLayout.{sectors_for}
-use Rattle.shadow.specs.Upgraded.{known_blocks, older_refusal, reads_to_list}
+use Rattle.shadow.specs.Upgraded.{older_refusal, reads_to_list}
 use Rattle.sessions.specs.Devices.{Becomes}
 use Rattle.terminal.specs.Done.{DoneOn, MakesBlank, Upgraded, blocks_on}
 use Rattle.terminal.specs.declared.left.Left.{Left}

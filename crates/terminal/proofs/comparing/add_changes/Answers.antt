@@ -1,4 +1,4 @@
-use Rattle.std.proofs.Common.{◌≡◌, ◌∙◌, ◌+◌, ◌-◌, ◌/◌, ◌++◌, suc, ap, ap₂, arith, length}
+use Rattle.std.proofs.Common.{◌≡◌, ◌∙◌, ◌+◌, ◌-◌, ◌/◌, ◌++◌, suc, ap₂, arith, length}
 use Rattle.terminal.specs.Compared.{change, changes}
 use Rattle.terminal.proofs.AddedLines.{change_step}
 use Rattle.terminal.proofs.comparing.add_changes.Goals as goal

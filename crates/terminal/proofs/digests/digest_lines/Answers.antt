@@ -1,4 +1,4 @@
-use Rattle.std.proofs.Common.{◌≡◌, ◌∙◌, ◌+◌, ◌-◌, ◌/◌, ◌++◌, suc, ap, ap₂, arith, append-nil, sym, length, string_bytes}
+use Rattle.std.proofs.Common.{◌≡◌, ◌∙◌, ◌+◌, ◌-◌, ◌/◌, ◌++◌, suc, ap, arith, length, string_bytes}
 use Rattle.terminal.specs.Compared.{digest_line, digest_lines}
 use Rattle.terminal.proofs.AddedLines.{digest_step}
 use Rattle.terminal.proofs.digests.digest_lines.Goals as goal

@@ -1,7 +1,5 @@
 use Rattle.std.proofs.Common.{◌≡◌, ◌∙◌, ap, sym}
 use Rattle.std.proofs.lemmas.Bool.{MatchBool-at_true}
-use Rattle.journal.specs.Maps.{fresh}
-use Rattle.recovery.specs.Formatted.{blank_blocks}
 use Rattle.journal.specs.PageLayout.{sectors_for}
 use Rattle.journal.proofs.Techniques.{pages_sectors}
 use Rattle.journal.proofs.Suited.{stays}

@@ -1,8 +1,6 @@
 use Rattle.std.proofs.Common.{◌≡◌, ◌∙◌, ap, sym}
 use Rattle.std.proofs.lemmas.Bool.{MatchBool-at_true}
 use Rattle.journal.specs.Layout.{sectors_for}
-use Rattle.journal.specs.Maps.{fresh}
-use Rattle.recovery.specs.Formatted.{blank_blocks}
 use Rattle.journal.specs.Technique.{is_journal}
 use Rattle.journal.proofs.Techniques.{journal_sectors}
 use Rattle.journal.proofs.Suited.{stays}

@@ -27,5 +27,5 @@ returns-in-Ok-clause-failed g c =
     c.as_slice.ensures.value fails))
     c.salvage_seen.ensures.failed
 
-pub returns-in-Err-clause-failed : goal.returns-in-Err-clause-failed
-returns-in-Err-clause-failed g c = inl (refl, refl)
+pub returns-clause-failed : goal.returns-clause-failed
+returns-clause-failed g c = inl (refl, refl)

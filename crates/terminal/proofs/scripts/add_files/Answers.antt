@@ -1,4 +1,4 @@
-use Rattle.std.proofs.Common.{arith, length, refl}
+use Rattle.std.proofs.Common.{arith, refl}
 use Rattle.std.proofs.lemmas.Grind.{common_steps}
 use Rattle.terminal.proofs.ScriptLemmas.{lines_all, lines_next}
 use Rattle.terminal.proofs.TextLemmas.{first_and_others, first_unread_of, others_unread}

@@ -1,7 +1,7 @@
-use Rattle.std.proofs.Common.{inl, inr}
+use Rattle.std.proofs.Common.{inl}
 use Rattle.std.proofs.lemmas.Result.{IfErr-weaker}
 use Rattle.recovery.proofs.Upgrades.{only_read_then}
-use Rattle.terminal.proofs.Standings.{not_listed, ok_both, still_unprinted}
+use Rattle.terminal.proofs.Standings.{not_listed, ok_both, shown_after, still_unprinted}
 use Rattle.terminal.proofs.showing.show_through.Goals as goal
 
 pub returns-in-Ok-clause-shows : goal.returns-in-Ok-clause-shows
@@ -11,7 +11,9 @@ pub returns-in-Err-clause-shows : goal.returns-in-Err-clause-shows
 returns-in-Err-clause-shows g c =
     let looked = c.in-Err.ensures in
     ok_both c.list_anyway.result
-    (λ is shown. inr (c.show_over.new.device, record { reads = c.show_over.ensures.only_read; failed = looked.device is }, shown))
+    (λ is shown. shown_after g.D.SectorDevice g.W.Write.contents c.args.block c.in-Err.failure c.args.output.now c.show_over.new.output
+    c.list_anyway.new.output c.args.device.now c.show_over.new.device c.list_anyway.new.device
+    c.show_over.ensures.only_read looked.device looked.unprinted is shown)
     c.list_anyway.ensures.of_device c.list_anyway.ensures.listed
 
 pub returns-in-Err-clause-failed : goal.returns-in-Err-clause-failed
