@@ -62,7 +62,7 @@ impl Host for MemoryHost {
 
     ghost left_since = { λ h t c. MayLeave (held h.disk) c };
 
-    ghost present = { λ h keeps. present_of h.disk.sectors.items };
+    ghost present = { λ h keeps. present_of h.disk };
 
     ghost keeps_both = { λ h keeps. keeps };
 
