@@ -109,9 +109,10 @@ fn blocks_are_exported_beside_a_sector_that_cannot_be_read(rt: HostRuntime) -> R
         (530, "1", "31", "30", 99 + 5 * 31),
         (0, "0", "31", "31", 1 + 5 * 32),
     ] {
-        for (is_writable, form) in [(true, ""), (false, ""), (true, "--raw"), (false, "--raw")] {
+        for (is_writable, is_raw) in [(true, false), (false, false), (true, true), (false, true)] {
+            let form = if is_raw { "--raw" } else { "" };
             let case = format!(in rt.alloc();
-                "{first} to {last} beside {scar}, {is_writable} {form}"
+                "{reads} reads beside {scar}, {is_writable} {is_raw}"
             )?;
             disk.scar(u64::MAX);
             let wanted = call(&rt, &disk, is_writable, &words(&[first, had], form));
