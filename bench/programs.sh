@@ -77,7 +77,8 @@ instructions() {
     shift
     valgrind --tool=callgrind --callgrind-out-file=/dev/null "$@" < "$input" 2>&1 | awk '/Collected/ { print $4 }'
 }
-# NAME FEW MANY LONG: its time a step beside the others, and instructions a step of each
+# NAME FEW MANY LONG: its time a step beside the others, and instructions a step of each. So LONG turns take a tenth of a second or so, that what a clock tells
+# of them is of the steps.
 measured() {
     name=$1
     if [ "$wanted" != '  ' ] && [ "${wanted#* "$name" }" = "$wanted" ]; then return; fi
@@ -110,29 +111,29 @@ sort 1 2 100
 matrix 1 2 300
 gcd 1 2 80
 scale 2 4 2500
-records 10 20 5000
-adler 1 2 400
-bits 1 2 150
-calc 2 4 4000
-colours 1 2 20
-digits 1 2 300
-ledger 1 2 400
-names 1 2 60
-ring 1 2 800
-roots 1 2 100
-scanner 4 8 800
-table 1 2 200
-torus 1 2 20
-checksum 10 20 400
-computer 1 2 300
-finding 1 2 100
-fractal 1 2 100
-journal 1 2 200
-life 1 2 10
-queens 1 2 30
-reader 1 2 100
-report 1 2 300
-shell 1 2 60
+records 10 20 30000
+adler 1 2 4000
+bits 1 2 4500
+calc 2 4 28000
+colours 1 2 180
+digits 1 2 6600
+ledger 1 2 4800
+names 1 2 2400
+ring 1 2 3200
+roots 1 2 600
+scanner 4 8 4800
+table 1 2 3600
+torus 1 2 120
+checksum 10 20 2400
+computer 1 2 2400
+finding 1 2 1800
+fractal 1 2 1300
+journal 1 2 1400
+life 1 2 180
+queens 1 2 1200
+reader 1 2 2200
+report 1 2 3000
+shell 1 2 300
 LIST
 
 # FOLDER HALF: geometric means of its programs over each other system, in time and in instructions, and of its instructions a step

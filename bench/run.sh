@@ -14,7 +14,7 @@ trap 'rm -rf "$work"' EXIT
 # over each. What their checks left in out/ is taken along, so that little is checked anew.
 mkdir -p "$work/crates/bench_machine/src" "$work/crates/bench_lexicon/src"
 for crate in stacks data_space cell_machine system_words dictionary compiler lexicon; do
-    cp -R "$root/crates/$crate" "$work/crates/"
+    cp -Rp "$root/crates/$crate" "$work/crates/"
 done
 cp "$here/machine/lib.rt.txt" "$work/crates/bench_machine/src/lib.rt"
 cp "$here/lexicon/lib.rt.txt" "$work/crates/bench_lexicon/src/lib.rt"

@@ -15,7 +15,7 @@ once() {
     case $1 in
     forth83) ./whole run 1 "$2" "$program" run image --steps "$steps" ;;
     lua) ./whole run 1 empty lua "$2.lua" ;;
-    *) as_file "$2" && ./whole run 1 empty "$1" "$2.fs" ;;
+    *) as_file "$2" && ./whole run 1 empty "$1" "$2.fs" 2> told ;;
     esac | cut -d' ' -f3
 }
 as_file() {
@@ -41,7 +41,7 @@ compared() {
             for (s in long) each[s] = (long[s] - short[s]) / units
             for (s in long) {
                 over = each["gforth-fast"] > 0 ? sprintf(", %.2f of gforth-fast", each[s] / each["gforth-fast"]) : ""
-                printf "%s %.1f %.3f %s\n", s, each[s], long[s] / 1e9, over
+                printf "%s %.2f %.3f %s\n", s, each[s], long[s] / 1e9, over
             }
         }' > took
     for system in $systems; do
