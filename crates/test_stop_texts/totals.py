@@ -121,6 +121,11 @@ def is_open_gate(gate):
     return bin(bits ^ mark).count("1") < bin(bits).count("1")
 
 
+def gate(word, total):
+    """A gate of layout 3 that begins as this one, with the sum of the record that it names."""
+    return (word[:8] + total).ljust(512, b"\0")
+
+
 def bits_of(blocks):
     bits = bytearray(480)
     for b in blocks:
@@ -254,7 +259,7 @@ class Newer(Store):
         second = self.second ^ set(blocks)
         self.disk.write(24 if self.gate else 16, bits_of(second) + self.sum)
         self.disk.sync()
-        self.disk.write(8, CLOSED if self.gate else OPEN)
+        self.disk.write(8, gate(CLOSED if self.gate else OPEN, self.sum))
         self.disk.sync()
         self.gate, self.second = not self.gate, second
 
@@ -325,7 +330,8 @@ def form(disk, blocks):
         for b, tag in enumerate(tags):
             for i, data in ((0, b" " * 512), (1, b" " * 512), (2, tag.ljust(512, b"\0")), (10, bytes(512))):
                 disk.write(32 + 16 * b + i, data)
-        for k, data in ((8, CLOSED), (16, bytes(512)), (24, bytes(480) + exclusive(*tags))):
+        total = exclusive(*tags)
+        for k, data in ((8, gate(CLOSED, total)), (16, bytes(512)), (24, bytes(480) + total)):
             disk.write(k, data)
     disk.sync()
     disk.write(0, good)

@@ -93,11 +93,11 @@ module _ (n : ℕ) (is_open : Bool) (listing pending next sum : List ℕ) (d : D
         at_gate n is_open listing next (current_of listing d.content) (merged listing pending d.content) turned c has_old has_new (λ k out. is k out refl)
 
     -- Then the gate names the new record.
-    pub saved : (f : Disk) → f ≡ settled (written (settled (written d (record_at (not is_open)) next)) gate_at (gate_bytes (not is_open)))
+    pub saved : (f : Disk) → f ≡ settled (written (settled (written d (record_at (not is_open)) next)) gate_at (gate_bytes (not is_open) (sum_in next)))
         → HasSaved n is_open listing pending next d f
     saved f is = subst (HasSaved n is_open listing pending next d) (sym is) (record {
       sound = record {
-        gate = ap gate_open here ∙ gate_reads (not is_open);
+        gate = ap gate_open here ∙ gate_reads (not is_open) (sum_in next);
         settled = refl;
         spares = λ k counts. refl;
         blocks = own_blocks n next (not is_open) (merged listing pending d.content) last has;
@@ -109,12 +109,12 @@ module _ (n : ℕ) (is_open : Bool) (listing pending next sum : List ℕ) (d : D
     })
       where
         last : Image
-        last = with_sector turned gate_at (gate_bytes (not is_open))
+        last = with_sector turned gate_at (gate_bytes (not is_open) (sum_in next))
 
-        here : last gate_at ≡ gate_bytes (not is_open)
-        here = sector_same turned gate_at (gate_bytes (not is_open))
+        here : last gate_at ≡ gate_bytes (not is_open) (sum_in next)
+        here = sector_same turned gate_at (gate_bytes (not is_open) (sum_in next))
 
         has : HasBlocksUnder n (not is_open) next (merged listing pending d.content) last
         has = agrees_means n next (not is_open) (merged listing pending d.content) turned last
-            (λ k counts. sector_other turned gate_at k (gate_bytes (not is_open)) (λ at. gate_apart n next (not is_open) k counts (ap (λ m. m / 8) at)))
+            (λ k counts. sector_other turned gate_at k (gate_bytes (not is_open) (sum_in next)) (λ at. gate_apart n next (not is_open) k counts (ap (λ m. m / 8) at)))
             has_new

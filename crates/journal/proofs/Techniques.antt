@@ -16,7 +16,7 @@ use Rattle.journal.specs.PageClean as pages_clean
 use Rattle.journal.specs.PageImages as pages_images
 use Rattle.journal.specs.PageImages.{current_of, free_of}
 use Rattle.journal.specs.PageLayout as pages_layout
-use Rattle.journal.specs.PageLayout.{current_at, free_at, HasFlipped}
+use Rattle.journal.specs.PageLayout.{gate_bytes, current_at, free_at, sum_in, HasFlipped}
 use Rattle.journal.specs.PageSteps as pages_steps
 use Rattle.journal.specs.PageSteps.{InFree}
 use Rattle.journal.specs.Sizes.{is_size}
@@ -255,7 +255,7 @@ module _ (t : Technique) (n : ℕ) (pending : List ℕ) (before : NamedRecord) (
   pages_named named next other saved =
       let same : before ≡ named = cc in
       subst (λ (x : NamedRecord). NamesLatest n x.is_open x.listing pending e.content) same (record {
-        gate = saved.gate;
+        gate = saved.gate ∙ ap (λ l. gate_bytes (not before.is_open) (sum_in l)) (sym (record_named n (not before.is_open) next e saved.sound));
         flipped = subst (HasFlipped n before.listing pending) (sym (record_named n (not before.is_open) next e saved.sound)) saved.flipped;
       })
 

@@ -1,8 +1,8 @@
 -- What an image means: the bytes of its blocks.
-use Rattle.std.specs.Prelude.{◌≡◌, ℕ, ◌+◌, ◌<◌, List, length}
+use Rattle.std.specs.Prelude.{◌≡◌, ℕ, ◌+◌, ◌<◌, Bool, List, length}
 use Rattle.sector_disk.specs.Disk.{Image}
 use Rattle.journal.specs.Images.{pair_at, blocks_below}
-use Rattle.journal.specs.PageLayout.{HasGoodLabel, gate_at, gate_open, record_at, current_at, free_at, sum_in, tag_in}
+use Rattle.journal.specs.PageLayout.{HasGoodLabel, gate_at, gate_open, is_gate_of, record_at, current_at, free_at, sum_in, tag_in}
 use Rattle.journal.specs.Tags.{tag_of, sum_below}
 
 -- under a record, the bytes in the place of block b that it names, and in the free one
@@ -22,6 +22,10 @@ free_tag listing image b = tag_in (image (free_at listing b + 2))
 -- the record that the gate names
 abbrev pub record_of : Image → List ℕ
 record_of image = image (record_at (gate_open (image gate_at)))
+
+-- Whether the gate is of that record. What an image means doesn't hang on it: a stop while the gate is written leaves any sum there.
+abbrev pub gate_fits : Image → Bool
+gate_fits image = is_gate_of (image gate_at) (record_of image)
 
 -- the bytes of block b
 abbrev pub block_of : Image → ℕ → List ℕ

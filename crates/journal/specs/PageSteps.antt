@@ -69,4 +69,4 @@ pub record HasSaved (n : ℕ) (is_open : Bool) (listing pending next : List ℕ)
   pub flipped : HasFlipped n listing pending next
   pub blocks : (b : ℕ) → b < n → current_of next new.content b ≡ merged listing pending old.content b
   pub synced : (k : ℕ) → new.unsynced k ≡ false
-  pub gate : new.content gate_at ≡ gate_bytes (not is_open)
+  pub gate : new.content gate_at ≡ gate_bytes (not is_open) (sum_in next)

@@ -10,7 +10,7 @@ use Rattle.journal.specs.Images.{pair_at, is_true_record, HasHomes}
 use Rattle.journal.specs.Layout.{most_blocks, open_gate_bytes, listed, count_below}
 use Rattle.journal.specs.Maps.{Maps, block_in, pending_in, latest}
 use Rattle.journal.specs.PageImages.{record_of}
-use Rattle.journal.specs.PageLayout.{gate_at, gate_bytes, HasFlipped}
+use Rattle.journal.specs.PageLayout.{gate_at, gate_bytes, sum_in, HasFlipped}
 use Rattle.journal.specs.Sizes.{is_size}
 use Rattle.journal.specs.Suits.{suits}
 use Rattle.journal.specs.Technique.{saved_at, spilled_at, sectors_for}
@@ -143,8 +143,8 @@ pub record HasRecordOf (n : ℕ) (pending : ℕ → Bool) (image : Image) : Type
   pub rest : (b : ℕ) → n ≤ b → b < most_blocks → listed (image 2) b ≡ false
   pub digest : is_true_record n (image 2) image ≡ true
 
--- The gate of an image is spelled whole, the other way than before, and names a record that lists the other place of each block
--- that was pending, the same one of each other block, and nothing past the last block.
+-- The gate of an image is spelled whole, the other way than before and with the sum of the record that it names. This record lists
+-- the other place of each block that was pending, the same one of each other block, and nothing past the last block.
 pub record NamesLatest (n : ℕ) (is_open : Bool) (listing pending : List ℕ) (image : Image) : Type 0 where
-  pub gate : image gate_at ≡ gate_bytes (not is_open)
+  pub gate : image gate_at ≡ gate_bytes (not is_open) (sum_in (record_of image))
   pub flipped : HasFlipped n listing pending (record_of image)

@@ -12,7 +12,7 @@ use Rattle.recovery.specs.Making.{KeepsUnits}
 use Rattle.recovery.proofs.HomesMade.{given_below}
 use Rattle.journal.specs.PageCalls.{Passes, Proceeds}
 use Rattle.shadow.specs.Formatted.{MakingLeaves, HasFirst, IsFilled, IsMade, PastLabel, Spoils}
-use Rattle.journal.specs.PageLayout.{label_of}
+use Rattle.journal.specs.PageLayout.{label_of, gate_bytes}
 use Rattle.shadow.specs.Places.{HasNamed}
 use Rattle.journal.specs.Tags.{tag_of}
 use Rattle.shadow.specs.Upgraded.{found_of, found_blocks}
@@ -32,7 +32,7 @@ places_made n given listing disk made = record { filled = made.filled.filled; la
 module _ (n : ℕ) (f g : ℕ → List ℕ) (same : (b : ℕ) → b < n → f b ≡ g b) where
   pub filled_as : (image : Image) → IsFilled n f image → IsFilled n g image
   filled_as image filled = record {
-    gate = filled.gate;
+    gate = filled.gate ∙ ap (gate_bytes false) (same_sum (λ b. tag_of b (g b)) (λ b. tag_of b (f b)) n (λ b below. ap (tag_of b) (same b below)));
     spare = filled.spare;
     named = filled.named ∙ ap (λ s. replicate 480 0 ++ s) (same_sum (λ b. tag_of b (g b)) (λ b. tag_of b (f b)) n (λ b below. ap (tag_of b) (same b below)));
     places = λ b below. subst (λ bytes. HasFirst b bytes image) (same b below) (filled.places b below);

@@ -12,7 +12,7 @@ ghost use Rattle.journal.specs.PageCalls.{Passes};
 ghost use Rattle.shadow.specs.Formatted.{FormatLeaves, HasFirst, IsBlank, KeepsRest, IsMade, PastLabel, Spoils, placed};
 ghost use Rattle.journal.specs.PageImages.{Means};
 ghost use Rattle.shadow.specs.Label.{is_size_for};
-ghost use Rattle.journal.specs.PageLayout.{sectors_for, label_of, gate_at, record_at};
+ghost use Rattle.journal.specs.PageLayout.{sectors_for, label_of, gate_at, gate_bytes, record_at, sum_in};
 ghost use Rattle.shadow.specs.Opened.{end_of};
 ghost use Rattle.journal.specs.Store.{device_of, disk_of, blocks_of, closed_of, technique_of, is_pending, StandsFor};
 ghost use Rattle.journal.specs.Technique.{is_journal};
@@ -21,7 +21,7 @@ ghost use Rattle.journal.specs.Tags.{tag_of, xor_bytes};
 use crate::places::Places;
 use journal::Store;
 use journal::layout::BlockCount;
-use journal::pages::layout::{GATE, fits, place_sector, record_sector, tag_sector};
+use journal::pages::layout::{GATE, fits, gate, place_sector, record_sector, sum, tag_sector};
 use journal::pages::tags::{add, tag_of};
 use journal::pages::{write_pair, write_sector};
 use recovery::{Blanks, NullDevice, OpenFault, make};
@@ -93,19 +93,20 @@ pub(crate) fn write_block<D: SectorDevice>(
     Ok(())
 }
 
-// Closes the gate, clears the record that it doesn't name, and writes the other one.
+// Closes the gate, with the sum of the record that it names then, clears the other record, and writes this one.
 pub(crate) fn fill_head<D: SectorDevice>(
     device: &mut D,
     listing: &[u8; 512],
 ) -> Result<(), DeviceFault>
     requires { 32 ≤ D.sector_count device.old }
     ensures ok { IsTrue (D.keeps_model device.old) → OnOk result (D.disk device.new
-        ≡ written (written (written (D.disk device.old) gate_at (replicate 512 0)) (record_at true) (replicate 512 0)) (record_at false) listing.now) }
+        ≡ written (written (written (D.disk device.old) gate_at (gate_bytes false (sum_in listing.now))) (record_at true) (replicate 512 0))
+        (record_at false) listing.now) }
     ensures spoils { Spoils D.SectorDevice PastLabel device.old device.new }
     ensures passes { Passes D.SectorDevice device.old device.new result }
     ensures costs { CostsAtMost D.SectorDevice device.old device.new 3 0 0 }
 {
-    write_sector(device, GATE, &[0; 512])?;
+    write_sector(device, GATE, &gate(false, &sum(listing)))?;
     fill_records(device, listing)
 }
 

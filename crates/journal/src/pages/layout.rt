@@ -1,11 +1,11 @@
 //! Where the parts of an image of layout 3 stand, and how they are spelled. Sectors have 512 bytes and are numbered
 //! from 0.
 //! Rule: IMAGE, Layout 3.
-ghost use Rattle.std.specs.Prelude.{◌≡◌, ◌≢◌, ◌<◌, ◌≤◌, ◌+◌, ◌*◌, ◌%◌, ◌++◌, ℕ, not, true, false, IfSome, IfNone, take, replicate};
+ghost use Rattle.std.specs.Prelude.{◌≡◌, ◌≢◌, ◌<◌, ◌≤◌, ◌+◌, ◌*◌, ◌%◌, ◌++◌, ℕ, not, false, IfSome, IfNone, take, replicate};
 ghost use Rattle.std.specs.Bool.{OnTrue};
 ghost use Rattle.journal.specs.Layout.{fewest_blocks, most_blocks, listed, bits_of};
 ghost use Rattle.journal.specs.Sizes.{is_pages_size, is_pages_size_for, pages_blocks_in};
-ghost use Rattle.journal.specs.PageLayout.{sectors_for, label_of, bit_differs, bits_apart, gate_bytes, gate_open, gate_at, record_at, place_at, current_at, free_at, sum_in, tag_in};
+ghost use Rattle.journal.specs.PageLayout.{sectors_for, label_of, bit_differs, bits_apart, gate_word, gate_bytes, gate_open, gate_sum, is_gate_of, gate_at, record_at, place_at, current_at, free_at, sum_in, tag_in};
 
 use crate::layout::{FEWEST_BLOCKS, MOST_BLOCKS, is_listed, label as older_label};
 
@@ -76,40 +76,60 @@ pub fn record_sector(is_open: bool) -> u32
     if is_open { 2 * UNIT } else { 3 * UNIT }
 }
 
-/// The gate as it is written, open or closed: 512 bytes.
-pub fn gate(is_open: bool) -> [u8; 512]
-    ensures { result ≡ gate_bytes is_open }
+// The eight bytes with which a gate begins, open or closed.
+fn gate_word(is_open: bool) -> [u8; 8]
+    ensures { result ≡ gate_word is_open }
 {
-    if is_open { open_gate() } else { [0; 512] }
+    if is_open { *b"COMMIT83" } else { [0; 8] }
 }
 
-fn open_gate() -> [u8; 512]
-    ensures { result ≡ gate_bytes true }
+// These bytes, and a sum behind them.
+fn gate_front(is_open: bool, sum: &[u8; 32]) -> [u8; 40]
+    ensures { result ≡ gate_word is_open ++ sum.now }
 {
-    let mut bytes = [0; 512];
-    bytes[..8].copy_from_slice(b"COMMIT83");
+    let mut bytes = [0; 40];
+    let (word, end) = bytes.split_at_mut(8);
+    word.copy_from_slice(&gate_word(is_open));
+    end.copy_from_slice(sum);
     bytes
 }
 
-// Whether two sectors differ in bit `i`, which is bit `i % 8` of byte `i / 8`.
-fn bit_differs(a: &[u8; 512], b: &[u8; 512], i: u16) -> bool
-    requires { i < most_blocks }
-    ensures { result ≡ bit_differs a.now b.now i }
+/// The gate as it is written, open or closed, with the sum of the record that it names: 512 bytes.
+pub fn gate(is_open: bool, sum: &[u8; 32]) -> [u8; 512]
+    ensures { result ≡ gate_bytes is_open sum.now }
 {
-    if is_listed(a, i) {
-        !is_listed(b, i)
+    let mut bytes = [0; 512];
+    bytes[..40].copy_from_slice(&gate_front(is_open, sum));
+    bytes
+}
+
+// Bit `i` of eight bytes, which is bit `i % 8` of byte `i / 8`.
+fn is_set(word: &[u8; 8], i: u16) -> bool
+    requires { i < 64 }
+    ensures { result ≡ listed word.now i }
+{
+    (word[i as usize / 8] >> (i % 8)) & 1 == 1
+}
+
+// Whether a gate differs in bit `i` from one that begins so.
+fn bit_differs(gate: &[u8; 512], word: &[u8; 8], i: u16) -> bool
+    requires { i < 64 }
+    ensures { result ≡ bit_differs gate.now word.now i }
+{
+    if is_listed(gate, i) {
+        !is_set(word, i)
     } else {
-        is_listed(b, i)
+        is_set(word, i)
     }
 }
 
-// In how many of their first 64 bits two sectors differ.
-fn bits_apart(a: &[u8; 512], b: &[u8; 512]) -> u16
-    ensures { result ≡ bits_apart a.now b.now }
+// In how many of its first 64 bits a gate differs from one that begins so.
+fn bits_apart(gate: &[u8; 512], word: &[u8; 8]) -> u16
+    ensures { result ≡ bits_apart gate.now word.now }
 {
     let mut apart = 0;
     for i in 0..64 {
-        if bit_differs(a, b, i) {
+        if bit_differs(gate, word, i) {
             apart += 1;
         }
     }
@@ -122,7 +142,7 @@ fn bits_apart(a: &[u8; 512], b: &[u8; 512]) -> u16
 pub fn gate_is_open(gate: &[u8; 512]) -> bool
     ensures { result ≡ gate_open gate.now }
 {
-    bits_apart(gate, &open_gate()) < bits_apart(gate, &[0; 512])
+    bits_apart(gate, &gate_word(true)) < bits_apart(gate, &gate_word(false))
 }
 
 /// The first sector of the first or the second place of block `b`, a number below 3,840.
@@ -163,6 +183,25 @@ pub fn sum(listing: &[u8; 512]) -> [u8; 32]
     let (_, end) = listing.split_at(BITS);
     let mut sum = [0; 32];
     sum.copy_from_slice(end);
+    sum
+}
+
+/// Whether a gate is of this record: whether its bytes 8 to 39 are the record's sum.
+/// Rule: IMAGE, Layout 3.
+pub fn is_gate_of(gate: &[u8; 512], listing: &[u8; 512]) -> bool
+    ensures { result ≡ is_gate_of gate.now listing.now }
+{
+    sum_in_gate(gate) == sum(listing)
+}
+
+// The sum in a gate: its bytes 8 to 39.
+fn sum_in_gate(gate: &[u8; 512]) -> [u8; 32]
+    ensures { result ≡ gate_sum gate.now }
+{
+    let (_, end) = gate.split_at(8);
+    let (front, _) = end.split_at(32);
+    let mut sum = [0; 32];
+    sum.copy_from_slice(front);
     sum
 }
 

@@ -10,7 +10,7 @@ ghost use Rattle.sector_disk.specs.Pages.{InPage};
 ghost use Rattle.journal.specs.Steps.{IsAsSynced};
 ghost use Rattle.journal.specs.PageSteps.{HasBlocks, HasSpilled, IsSound, HasSaved, merged};
 
-use super::layout::{GATE, gate, list, record_sector, with_sum};
+use super::layout::{GATE, gate, list, record_sector, sum, with_sum};
 use super::pairs::write_through;
 use crate::layout::is_listed;
 use sector_disk::{DeviceFault, SectorDevice};
@@ -51,11 +51,12 @@ fn next_record(blocks: u16, listing: &[u8; 512], pending: &[u8; 512], sum: &[u8;
     with_sum(&flipped(blocks, listing, pending), sum)
 }
 
-// Writes the record that doesn't count, and then the gate, which names it.
+// Writes the record that doesn't count, and then the gate, which names it and has its sum.
 fn turn<D: SectorDevice>(device: &mut D, is_open: bool, next: &[u8; 512]) -> Result<(), DeviceFault>
     requires { 32 ≤ D.sector_count device.old }
     ensures ok { IsTrue (D.keeps_model device.old) → OnOk result (D.disk device.new
-        ≡ settled (written (settled (written (D.disk device.old) (record_at (not is_open)) next.now)) gate_at (gate_bytes (not is_open)))) }
+        ≡ settled (written (settled (written (D.disk device.old) (record_at (not is_open)) next.now)) gate_at
+        (gate_bytes (not is_open) (sum_in next.now)))) }
     ensures stops { IsTrue (D.keeps_model device.old) → StopsLeave D.SectorDevice device.old device.new
         (λ c. IsAsSynced (InPage (record_at (not is_open))) (D.disk device.old) c
         ⊎ IsAsSynced (InPage gate_at) (settled (written (D.disk device.old) (record_at (not is_open)) next.now)) c) }
@@ -64,7 +65,7 @@ fn turn<D: SectorDevice>(device: &mut D, is_open: bool, next: &[u8; 512]) -> Res
 {
     let record = *next;
     write_through(device, record_sector(!is_open), &record)?;
-    write_through(device, GATE, &gate(!is_open))
+    write_through(device, GATE, &gate(!is_open, &sum(next)))
 }
 
 /// Makes the free places of the pending blocks their current ones, all at once, and `listing` the record that counts

@@ -45,13 +45,25 @@ pub(crate) fn put<D: SectorDevice>(
     disk.write(k, bytes).map_err(|_| "write failed")
 }
 
-/// The record of an image of blank blocks.
-pub(crate) fn blank_record() -> [u8; 512] {
+// The sum of the tags of blank blocks.
+fn blank_sum() -> [u8; 32] {
     let mut sum = [0; 32];
     for b in 0..BLOCKS {
         add(&mut sum, &tag_of(b, &[b' '; 1024]));
     }
-    with_sum(&[0; 512], &sum)
+    sum
+}
+
+/// The record of an image of blank blocks.
+pub(crate) fn blank_record() -> [u8; 512] {
+    with_sum(&[0; 512], &blank_sum())
+}
+
+// Its gate: closed, with the record's sum.
+fn blank_gate() -> [u8; 512] {
+    let mut gate = [0; 512];
+    gate[8..40].copy_from_slice(&blank_sum());
+    gate
 }
 
 fn put_blank(disk: &mut MemoryDisk, b: u16) -> Result<(), &'static str> {
@@ -67,6 +79,7 @@ pub(crate) fn blank(alloc: Global) -> Result<MemoryDisk, Fail> {
     let mut label = [0; 512];
     label[..12].copy_from_slice(b"F83BLOCK\x03\x00\x20\x00");
     put(&mut disk, 0, &label)?;
+    put(&mut disk, 8, &blank_gate())?;
     put(&mut disk, 24, &blank_record())?;
     for b in 0..BLOCKS {
         put_blank(&mut disk, b)?;

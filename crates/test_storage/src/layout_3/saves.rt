@@ -33,6 +33,23 @@ fn is_record(
     Ok(())
 }
 
+// A gate that begins with these eight bytes, and has this sum and zeros behind it.
+fn is_gate(
+    rt: &impl Abort,
+    alloc: Global,
+    disk: &mut MemoryDisk,
+    word: &[u8; 8],
+    sum: &str,
+) -> Result<(), Fail> {
+    let gate = sector(disk, 8)?;
+    let (front, rest) = gate.split_at(8);
+    let (named, zeros) = rest.split_at(32);
+    assert_same!(rt; front, word.as_slice());
+    assert_same!(rt; hex(alloc, named)?.as_str(), sum);
+    assert_same!(rt; zeros, [0; 472].as_slice());
+    Ok(())
+}
+
 fn saved(store: &mut Store<Fused<Coarse>>) -> Result<(), &'static str> {
     store.commit().map_err(|_| "commit failed")
 }
@@ -64,7 +81,7 @@ fn a_save_writes_free_places_the_other_record_and_the_gate(rt: HostRuntime) -> R
         "80de12f98d73883f97fc8008980545085be0be5b15c150c8ebb20d8218cc91820000"
     );
     assert_same!(rt; sector(&mut disk, 112)?, [b' '; 512]);
-    assert!(rt; sector(&mut disk, 8)?.starts_with(b"COMMIT83\x00"));
+    is_gate(&rt, rt.alloc(), &mut disk, b"COMMIT83", WITH_A)?;
     is_record(&rt, rt.alloc(), &mut disk, 16, &[0x20, 0, 0, 0], WITH_A)?;
     is_record(&rt, rt.alloc(), &mut disk, 24, &[0; 4], BLANK)?;
     assert_same!(rt; told(rt.alloc(), &mut disk)?.as_str(), " 5A");
@@ -85,7 +102,7 @@ fn a_spill_writes_its_tag(rt: HostRuntime) -> Result<(), Fail> {
         hex(rt.alloc(), tag)?.as_str(),
         "80de12f98d73883f97fc8008980545085be0be5b15c150c8ebb20d8218cc91820000"
     );
-    assert_same!(rt; sector(&mut disk, 8)?, [0; 512]);
+    is_gate(&rt, rt.alloc(), &mut disk, &[0; 8], BLANK)?;
     is_record(&rt, rt.alloc(), &mut disk, 24, &[0; 4], BLANK)?;
     assert_same!(rt; told(rt.alloc(), &mut disk)?.as_str(), "");
     Ok(())
@@ -115,7 +132,7 @@ fn the_next_save_goes_back(rt: HostRuntime) -> Result<(), Fail> {
     let mut disk = disk_of(store);
     assert_same!(rt; sector(&mut disk, 112)?, [b'B'; 512]);
     assert_same!(rt; sector(&mut disk, 536)?, [b'C'; 512]);
-    assert_same!(rt; sector(&mut disk, 8)?, [0; 512]);
+    is_gate(&rt, rt.alloc(), &mut disk, &[0; 8], WITH_B_AND_C)?;
     is_record(
         &rt,
         rt.alloc(),

@@ -7,4 +7,4 @@ pub returns : goal.returns
 unfolding bits_apart
 returns c =
     let ended : c.loop-i.i ≡ 64 = omega (arith, c.loop-i.auto.i-end, c.loop-i-test.false) in
-    subst (λ n. c.loop-i.apart ≡ count_below (bit_differs c.args.a.now c.args.b.now) n) ended c.loop-i.invariant.counted
+    subst (λ n. c.loop-i.apart ≡ count_below (bit_differs c.args.gate.now c.args.word.now) n) ended c.loop-i.invariant.counted

@@ -5,6 +5,6 @@ use Rattle.journal.proofs.pages.layout.bits_apart.Given as goal
 
 abbrev pub invariant-loop-i : goal.invariant-loop-i
 invariant-loop-i l = record {
-  counted : l.apart ≡ count_below (bit_differs l.a l.b) l.i;
+  counted : l.apart ≡ count_below (bit_differs l.gate l.word) l.i;
   few : l.apart ≤ l.i;
 }

@@ -5,4 +5,6 @@ use Rattle.journal.proofs.pages.layout.gate_is_open.Goals as goal
 
 pub returns : goal.returns
 unfolding gate_open
-returns c = λ i. nat_lt ((c.bits_apart.ensures ∙ ap (bits_apart c.args.gate.now) c.open_gate.ensures) i) (c.bits_apart-2.ensures i)
+returns c = λ i. nat_lt
+    ((c.bits_apart.ensures ∙ ap (bits_apart c.args.gate.now) c.gate_word.ensures) i)
+    ((c.bits_apart-2.ensures ∙ ap (bits_apart c.args.gate.now) c.gate_word-2.ensures) i)

@@ -4,7 +4,7 @@ use Rattle.std.proofs.lemmas.Result.{on_ok_weaker}
 use Rattle.sector_disk.specs.Disk.{Disk, written, settled}
 use Rattle.sector_disk.proofs.Moments.{leaves_then}
 use Rattle.journal.proofs.PageCalls.{keeps_on, passes_then}
-use Rattle.journal.specs.PageLayout.{gate_at, record_at}
+use Rattle.journal.specs.PageLayout.{gate_at, gate_bytes, record_at}
 use Rattle.sector_disk.specs.Pages.{InPage}
 use Rattle.journal.specs.Steps.{IsAsSynced}
 use Rattle.journal.proofs.pages.saving.turn.Goals as goal
@@ -18,7 +18,7 @@ returns-clause-ok g c = λ keeps.
     c.in_ok-write_through.ensures.ok keeps ∙ ap (λ k. settled (written (D.disk old) k c.args.next.now)) c.record_sector.ensures in
     let honest = keeps_on D old mid keeps c.write_through.ensures.passes in
     on_ok_weaker c.write_through-2.result
-    (λ is. is ∙ (λ t. settled (written (is_mid t) gate_at (c.gate.ensures t))))
+    (λ is. is ∙ (λ t. settled (written (is_mid t) gate_at ((c.gate.ensures ∙ ap (gate_bytes (not c.args.is_open)) c.sum.ensures) t))))
     (c.write_through-2.ensures.ok honest)
 
 pub returns-in_err-write_through-clause-stops : goal.returns-in_err-write_through-clause-stops
