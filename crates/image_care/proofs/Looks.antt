@@ -11,7 +11,7 @@ use Rattle.journal.specs.Layout as older_layout
 use Rattle.journal.specs.Layout.{fewest_blocks, most_blocks}
 use Rattle.journal.specs.PageImages as newer_images
 use Rattle.journal.specs.PageLayout as newer_layout
-use Rattle.journal.specs.PageLayout.{current_at}
+use Rattle.journal.specs.PageLayout.{current_at, gate_at, is_gate_of}
 use Rattle.journal.specs.Maps.{block_in}
 use Rattle.journal.proofs.Blocks.{all_below, at_below, length-below, same_below}
 use Rattle.journal.proofs.KnownSizes.{older_count, size_older}
@@ -27,8 +27,8 @@ use Rattle.stores.specs.Images.{meaning}
 use Rattle.stores.specs.Opened.{image_refusal, newer_refusal}
 use Rattle.stores.proofs.Opened.{newer_meaning, older_meaning}
 use Rattle.image_care.specs.Examined.{count_in, joined_below, reads_to_list, record_in}
-use Rattle.image_care.specs.Looked.{reads_to_look, save_in}
-use Rattle.image_care.specs.View.{IsOf, found_by, is_journal, place_by, save_by, sectors_for, sectors_of}
+use Rattle.image_care.specs.Looked.{gate_fits_in, reads_to_look, save_in}
+use Rattle.image_care.specs.View.{IsOf, fits_by, found_by, is_journal, place_by, save_by, sectors_for, sectors_of}
 use Rattle.image_care.specs.declared.view.Listing.{Listing}
 use Rattle.image_care.specs.declared.view.Listing.TheVariants.{Journal, Pages}
 use Rattle.image_care.specs.declared.view.View.{View}
@@ -106,6 +106,18 @@ save_is view sectors image layout count of = by view.listing (older_label.is_siz
     by (Journal listing) false is number here = cc
     by (Pages named) true is number here = cc
     by (Pages named) false is number here = refl
+
+-- Whether the gate is of the record that it names, by the record and by the image.
+pub fit_is : (view : View) (sectors : ℕ) (image : Image) → is_journal view.listing ≡ older_label.is_size sectors → IsOf view.listing image
+    → fits_by view.listing image ≡ gate_fits_in sectors image
+fit_is view sectors image layout of = by view.listing (older_label.is_size sectors) layout of
+  where
+    by : (listing : Listing) (b : Bool) → is_journal listing ≡ b → IsOf listing image
+        → fits_by listing image ≡ (if b then true else newer_images.gate_fits image)
+    by (Journal listing) true is here = refl
+    by (Journal listing) false is here = cc
+    by (Pages named) true is here = cc
+    by (Pages named) false is here = ap (is_gate_of (image gate_at)) (sym here.1)
 
 -- By layout 2 the label and the record decide, where the size is good; by layout 3 its own tests do.
 pub refused_as : (n sectors : ℕ) (image : Image) → fewest_blocks ≤ n → n ≤ most_blocks → sectors ≡ older_layout.sectors_for n

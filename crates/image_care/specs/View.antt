@@ -5,7 +5,7 @@ use Rattle.journal.specs.Images.{pair_at}
 use Rattle.journal.specs.Layout as journal
 use Rattle.journal.specs.PageImages.{record_of}
 use Rattle.journal.specs.PageLayout as pages
-use Rattle.journal.specs.PageLayout.{current_at, gate_at, gate_open}
+use Rattle.journal.specs.PageLayout.{current_at, gate_at, gate_open, is_gate_of}
 use Rattle.recovery.specs.Found.{place_in}
 use Rattle.image_care.specs.Examined.{count_in, record_in}
 use Rattle.image_care.specs.declared.view.Listing.{Listing}
@@ -31,6 +31,11 @@ place_by (Pages named) n b = current_at named.listing b
 abbrev pub save_by : Listing → ℕ → Option ℕ
 save_by (Journal listing) n = count_in n listing
 save_by (Pages named) n = None
+
+-- whether the gate is of the record: by layout 2 it names none
+abbrev pub fits_by : Listing → Image → Bool
+fits_by (Journal listing) image = true
+fits_by (Pages named) image = is_gate_of (image gate_at) named.listing
 
 -- The record is that of the image: of layout 2 the one of a save that is under way, of layout 3 the one that the gate names.
 abbrev pub IsOf : Listing → Image → Type 0

@@ -12,12 +12,13 @@ ghost use Rattle.shadow.specs.Upgraded.{known_blocks};
 ghost use Rattle.stores.specs.Images.{HasMeaning, meaning};
 ghost use Rattle.stores.specs.Opened.{image_refusal};
 ghost use Rattle.image_care.specs.Examined.{joined_below};
-ghost use Rattle.image_care.specs.Looked.{reads_to_look, save_in};
-ghost use Rattle.image_care.specs.View.{found_by, save_by, sectors_of};
+ghost use Rattle.image_care.specs.Looked.{gate_fits_in, gate_reads, reads_to_look, save_in};
+ghost use Rattle.image_care.specs.View.{fits_by, found_by, is_journal, save_by, sectors_of};
 
 use crate::blocks::digest_of_blocks;
 use crate::looking::look;
-use crate::view::View;
+use crate::pages::gate_fits;
+use crate::view::{Listing, View};
 use recovery::OpenFault;
 use sector_disk::SectorDevice;
 
@@ -28,6 +29,9 @@ pub struct Examined {
     pub blocks: u16,
     /// How many of them the save has that is under way, where one is. By layout 3 none ever waits to be finished.
     pub under_way: Option<u16>,
+    /// Whether the gate is of the record that it names; where it isn't, a save may be lost. By layout 2 it names none,
+    /// and this is always so.
+    pub gate_fits: bool,
     /// The SHA-256 of the blocks, block 0 first, 1,024 bytes each.
     pub digest: [u8; 32],
 }
@@ -48,6 +52,9 @@ pub fn examine<D: SectorDevice>(device: &mut D) -> Result<Examined, OpenFault>
     // A save is under way where the gate of an image of layout 2 is open, and has the blocks that the record lists.
     ensures under_way { IsTrue (D.keeps_model device.old) → IfOk result (λ found.
         found.under_way ≡ save_in (D.sector_count device.old) (D.disk device.old).content) }
+    // The gate of an image of layout 3 fits where it has the sum of the record that it names.
+    ensures fits { IsTrue (D.keeps_model device.old) → IfOk result (λ found.
+        found.gate_fits ≡ gate_fits_in (D.sector_count device.old) (D.disk device.old).content) }
     // The digest is that of all blocks as the image means them.
     ensures digest { IsTrue (D.keeps_model device.old) → IfOk result (λ found.
         found.digest ≡ sha256 (concat (meaning (D.sector_count device.old) (D.disk device.old).content))) }
@@ -69,12 +76,13 @@ pub fn examine<D: SectorDevice>(device: &mut D) -> Result<Examined, OpenFault>
         → StopsLeave D.SectorDevice device.old device.new (MayLeave (D.disk device.old)) }
     ensures passes { Proceeds D.SectorDevice device.old device.new }
     ensures begins { BeginsAtMost D.SectorDevice device.old device.new 0 0 }
-    // What an opening looks at is read, and each block once more. Of layout 3 the size alone tells how much that is.
+    // What an opening looks at is read, and once more each block and the gate of layout 3. There the size alone tells how much that is.
     ensures reads { IsTrue (D.keeps_model device.old)
         → ReadsAtMost D.SectorDevice device.old device.new
-        (reads_to_look (D.sector_count device.old) (D.disk device.old).content + 2 * known_blocks (D.sector_count device.old)) }
+        (reads_to_look (D.sector_count device.old) (D.disk device.old).content + 2 * known_blocks (D.sector_count device.old)
+        + gate_reads (is_size (D.sector_count device.old))) }
     ensures few { is_size (D.sector_count device.old) ≡ false
-        → ReadsAtMost D.SectorDevice device.old device.new (5 * blocks_in (D.sector_count device.old) + 3) }
+        → ReadsAtMost D.SectorDevice device.old device.new (5 * blocks_in (D.sector_count device.old) + 4) }
 {
     let view = look(device)?;
     add_up(device, &view)
@@ -85,6 +93,8 @@ fn add_up<D: SectorDevice>(device: &mut D, view: &View) -> Result<Examined, Open
     requires size { D.sector_count device.old ≡ sectors_of view.now }
     ensures blocks { IfOk result (λ found. found.blocks ≡ view.now.blocks.number) }
     ensures under_way { IfOk result (λ found. found.under_way ≡ save_by view.now.listing view.now.blocks.number) }
+    ensures fits { IsTrue (D.keeps_model device.old) → IfOk result (λ found.
+        found.gate_fits ≡ fits_by view.now.listing (D.disk device.old).content) }
     ensures digest { IsTrue (D.keeps_model device.old) → IfOk result (λ found.
         found.digest ≡ sha256 (joined_below (found_by view.now (D.disk device.old).content) view.now.blocks.number)) }
     ensures fault { IfErr result (λ e. e ≡ Device) }
@@ -94,14 +104,63 @@ fn add_up<D: SectorDevice>(device: &mut D, view: &View) -> Result<Examined, Open
     ensures stops { IsTrue (D.keeps_model device.old)
         → StopsLeave D.SectorDevice device.old device.new (MayLeave (D.disk device.old)) }
     ensures passes { Proceeds D.SectorDevice device.old device.new }
-    ensures costs { CostsAtMost D.SectorDevice device.old device.new 0 0 (2 * view.now.blocks.number) }
+    ensures costs { CostsAtMost D.SectorDevice device.old device.new 0 0
+        (2 * view.now.blocks.number + gate_reads (is_journal view.now.listing)) }
 {
     match digest_of_blocks(device, view) {
-        Ok(digest) => Ok(Examined {
+        Ok(digest) => with_digest(device, view, digest),
+        Err(_) => Err(OpenFault::Device),
+    }
+}
+
+// The same, where its blocks have this digest.
+fn with_digest<D: SectorDevice>(
+    device: &mut D,
+    view: &View,
+    digest: [u8; 32],
+) -> Result<Examined, OpenFault>
+    requires size { D.sector_count device.old ≡ sectors_of view.now }
+    ensures blocks { IfOk result (λ found. found.blocks ≡ view.now.blocks.number) }
+    ensures under_way { IfOk result (λ found. found.under_way ≡ save_by view.now.listing view.now.blocks.number) }
+    ensures fits { IsTrue (D.keeps_model device.old) → IfOk result (λ found.
+        found.gate_fits ≡ fits_by view.now.listing (D.disk device.old).content) }
+    ensures digest { IfOk result (λ found. found.digest ≡ digest) }
+    ensures fault { IfErr result (λ e. e ≡ Device) }
+    ensures device { IfErr result (λ _. D.failures device.new ≡ count_up (D.failures device.old)) }
+    ensures well { OnOk result (D.failures device.new ≡ D.failures device.old) }
+    ensures disk { IsTrue (D.keeps_model device.old) → D.disk device.new ≡ D.disk device.old }
+    ensures stops { IsTrue (D.keeps_model device.old)
+        → StopsLeave D.SectorDevice device.old device.new (MayLeave (D.disk device.old)) }
+    ensures passes { Proceeds D.SectorDevice device.old device.new }
+    ensures costs { CostsAtMost D.SectorDevice device.old device.new 0 0 (gate_reads (is_journal view.now.listing)) }
+{
+    match look_at_gate(device, view) {
+        Ok(gate_fits) => Ok(Examined {
             blocks: view.blocks.number,
             under_way: view.under_way(),
+            gate_fits,
             digest,
         }),
-        Err(_) => Err(OpenFault::Device),
+        Err(fault) => Err(fault),
+    }
+}
+
+// Whether the gate is of the record that it names. By layout 2 it names none.
+fn look_at_gate<D: SectorDevice>(device: &mut D, view: &View) -> Result<bool, OpenFault>
+    requires size { D.sector_count device.old ≡ sectors_of view.now }
+    ensures fits { IsTrue (D.keeps_model device.old)
+        → IfOk result (λ fits. fits ≡ fits_by view.now.listing (D.disk device.old).content) }
+    ensures fault { IfErr result (λ e. e ≡ Device) }
+    ensures device { IfErr result (λ _. D.failures device.new ≡ count_up (D.failures device.old)) }
+    ensures well { OnOk result (D.failures device.new ≡ D.failures device.old) }
+    ensures disk { IsTrue (D.keeps_model device.old) → D.disk device.new ≡ D.disk device.old }
+    ensures stops { IsTrue (D.keeps_model device.old)
+        → StopsLeave D.SectorDevice device.old device.new (MayLeave (D.disk device.old)) }
+    ensures passes { Proceeds D.SectorDevice device.old device.new }
+    ensures costs { CostsAtMost D.SectorDevice device.old device.new 0 0 (gate_reads (is_journal view.now.listing)) }
+{
+    match &view.listing {
+        Listing::Journal(_) => Ok(true),
+        Listing::Pages(named) => gate_fits(device, &named.listing),
     }
 }

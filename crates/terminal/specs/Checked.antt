@@ -1,5 +1,5 @@
 -- What is told of an image that is checked, on any device.
-use Rattle.std.specs.Prelude.{◌≡◌, ℕ, ◌+◌, ◌*◌, false, if◌then◌else◌, IsTrue, List, [], ◌∷◌, ◌++◌, Option, Some, None, codes}
+use Rattle.std.specs.Prelude.{◌≡◌, ℕ, ◌+◌, ◌*◌, Bool, false, if◌then◌else◌, IsTrue, List, [], ◌∷◌, ◌++◌, Option, Some, None, codes}
 use Rattle.std.specs.Fmt.{decimal}
 use Rattle.std.specs.Io.KnownBytes.{Appends}
 use Rattle.std.specs.List.{concat}
@@ -12,7 +12,7 @@ use Rattle.recovery.specs.Label.{is_size}
 use Rattle.shadow.specs.Label.{blocks_in}
 use Rattle.shadow.specs.Upgraded.{known_blocks}
 use Rattle.stores.specs.Images.{HasMeaning, meaning}
-use Rattle.image_care.specs.Looked.{reads_to_look, save_in}
+use Rattle.image_care.specs.Looked.{gate_fits_in, gate_reads, reads_to_look, save_in}
 use Rattle.command_line.specs.declared.orders.Layout.{Layout}
 use Rattle.command_line.specs.declared.orders.Layout.TheVariants.{Two, Three}
 use Rattle.sessions.specs.Devices.{Becomes}
@@ -31,11 +31,16 @@ version_of Three = 3
 abbrev pub line : (about value : List ℕ) → List ℕ
 line about value = about ++ codes ": " ++ value ++ 10 ∷ []
 
--- five lines, about the bytes of the file, the layout, the blocks, the save that is under way, and the digest of all blocks
-abbrev pub report : (bytes : ℕ) → Layout → (blocks : ℕ) → (under_way : Option ℕ) → (digest : List ℕ) → List ℕ
-report bytes layout blocks under_way digest =
+-- a line where the gate isn't of the record that it names
+abbrev pub gate_line : (gate_fits : Bool) → List ℕ
+gate_line gate_fits = if gate_fits then [] else line (codes "gate") (codes "not of its record, a save may be lost")
+
+-- five lines, about the bytes of the file, the layout, the blocks, the save that is under way, and the digest of all blocks; before the last
+-- one of the gate, where there is something to tell
+abbrev pub report : (bytes : ℕ) → Layout → (blocks : ℕ) → (under_way : Option ℕ) → (gate_fits : Bool) → (digest : List ℕ) → List ℕ
+report bytes layout blocks under_way gate_fits digest =
     line (codes "bytes") (decimal bytes) ++ line (codes "layout") (decimal (version_of layout)) ++ line (codes "blocks") (decimal blocks)
-    ++ line (codes "save under way") (save_text under_way) ++ line (codes "sha256") (encode_lower digest)
+    ++ line (codes "save under way") (save_text under_way) ++ gate_line gate_fits ++ line (codes "sha256") (encode_lower digest)
 
 -- The layout of images with so many sectors. What has the size of no image is refused by layout 3, as an opening does.
 abbrev pub layout_by_size : (sectors : ℕ) → Layout
@@ -44,7 +49,8 @@ layout_by_size sectors = if is_size sectors then Two else Three
 -- what is told of the image on a device of so many sectors
 abbrev pub told_of : (sectors : ℕ) → Image → List ℕ
 told_of sectors image =
-    report (512 * sectors) (layout_by_size sectors) (known_blocks sectors) (save_in sectors image) (sha256 (concat (meaning sectors image)))
+    report (512 * sectors) (layout_by_size sectors) (known_blocks sectors) (save_in sectors image) (gate_fits_in sectors image)
+    (sha256 (concat (meaning sectors image)))
 
 module _ {D : Type 0} (G : Ghosts D) where
   -- `check`: the image on the device, which has a meaning, was told of by reads alone, and no more of them than it asks for: of
@@ -58,5 +64,6 @@ module _ {D : Type 0} (G : Ghosts D) where
     pub stops : IsTrue (G.keeps_model device) → StopsLeave G device after (MayLeave (G.disk device))
     pub begins : BeginsAtMost G device after 0 0
     pub reads : IsTrue (G.keeps_model device) → ReadsAtMost G device after
-        (reads_to_look (G.sector_count device) (G.disk device).content + 2 * known_blocks (G.sector_count device))
-    pub few : is_size (G.sector_count device) ≡ false → ReadsAtMost G device after (5 * blocks_in (G.sector_count device) + 3)
+        (reads_to_look (G.sector_count device) (G.disk device).content + 2 * known_blocks (G.sector_count device)
+        + gate_reads (is_size (G.sector_count device)))
+    pub few : is_size (G.sector_count device) ≡ false → ReadsAtMost G device after (5 * blocks_in (G.sector_count device) + 4)

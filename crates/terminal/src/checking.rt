@@ -1,6 +1,6 @@
 //! An image is checked: what it holds is told, and nothing of it is changed.
 //! Rule: MANUAL, forth83 check IMAGE.
-ghost use Rattle.std.specs.Prelude.{◌≡◌, ◌≢◌, ◌⊎◌, ◌+◌, ◌*◌, Some, None, string_bytes};
+ghost use Rattle.std.specs.Prelude.{◌≡◌, ◌≢◌, ◌⊎◌, ◌+◌, ◌*◌, ◌++◌, Some, None, string_bytes};
 ghost use Rattle.std.specs.Prelude.{IsTrue, IfErr, IfOk, MatchBool, MatchResult, OnOk, option_map};
 ghost use Rattle.std.specs.Io.KnownBytes.{Appends};
 ghost use Rattle.sector_disk.specs.Counting.{count_up};
@@ -8,7 +8,7 @@ ghost use Rattle.sector_disk.specs.Disk.{MayLeave};
 ghost use Rattle.journal.specs.Calls.{BeginsAtMost, StopsLeave};
 ghost use Rattle.shadow.specs.Label.{is_known_size};
 ghost use Rattle.stores.specs.Opened.{image_refusal};
-ghost use Rattle.terminal.specs.Checked.{ChecksImage, layout_by_size, report, save_text, version_of};
+ghost use Rattle.terminal.specs.Checked.{ChecksImage, gate_line, layout_by_size, report, save_text, version_of};
 ghost use Rattle.terminal.specs.Damage.{damage_report};
 ghost use Rattle.terminal.specs.Done.{DoneOn};
 ghost use Rattle.terminal.specs.Failed.{CheckFails, FailsOn};
@@ -93,6 +93,8 @@ struct ImageReport {
     blocks: u16,
     /// How many blocks a save has that is under way, where one is.
     under_way: Option<u16>,
+    /// Whether the gate is of the record that it names.
+    gate_fits: bool,
     /// The SHA-256 of its blocks.
     digest: [u8; 32],
 }
@@ -144,6 +146,7 @@ pub fn check_over<D: SectorDevice, W: Write>(
                 layout,
                 blocks: found.blocks,
                 under_way: found.under_way,
+                gate_fits: found.gate_fits,
                 digest,
             };
             print_report(alloc, &told, output)
@@ -159,7 +162,7 @@ pub fn check_over<D: SectorDevice, W: Write>(
 /// Prints what is told of an image.
 fn print_report<W: Write>(alloc: Global, told: &ImageReport, output: &mut W) -> Result<(), Failure>
     ensures ok { OnOk result (Appends (W.contents output.old) (W.contents output.new)
-        (report told.now.bytes told.now.layout told.now.blocks told.now.under_way told.now.digest)) }
+        (report told.now.bytes told.now.layout told.now.blocks told.now.under_way told.now.gate_fits told.now.digest)) }
     ensures only { IfErr result (λ e. (e ≡ Failure.NoMemory) ⊎ (e ≡ Failure.CannotWrite)) }
     ensures unprinted { IfErr result (λ e. e ≢ Failure.CannotWrite → output.new ≡ output.old) }
 {
@@ -181,7 +184,7 @@ pub(super) fn print<W: Write>(text: &[u8], output: &mut W) -> Result<(), Failure
 /// What is told of an image, as lines.
 fn report(alloc: Global, told: &ImageReport) -> Result<String, AllocError>
     ensures { IfOk result (λ text. string_bytes text
-        ≡ report told.now.bytes told.now.layout told.now.blocks told.now.under_way told.now.digest) }
+        ≡ report told.now.bytes told.now.layout told.now.blocks told.now.under_way told.now.gate_fits told.now.digest) }
 {
     let save = save_text(alloc, told.under_way)?;
     let digest = hex::encode(alloc, told.digest)?;
@@ -190,8 +193,20 @@ fn report(alloc: Global, told: &ImageReport) -> Result<String, AllocError>
     writeln!(text, "layout: {}", version_of(told.layout))?;
     writeln!(text, "blocks: {}", told.blocks)?;
     writeln!(text, "save under way: {save}")?;
+    add_gate_line(&mut text, told.gate_fits)?;
     writeln!(text, "sha256: {digest}")?;
     Ok(text)
+}
+
+/// Adds what is told of the gate, where it isn't of the record that it names.
+fn add_gate_line(text: &mut String, gate_fits: bool) -> Result<(), AllocError>
+    ensures { OnOk result (string_bytes text.new ≡ string_bytes text.old ++ gate_line gate_fits) }
+{
+    if gate_fits {
+        Ok(())
+    } else {
+        writeln!(text, "gate: not of its record, a save may be lost")
+    }
 }
 
 /// Whether a save is under way, and of how many blocks.

@@ -1,4 +1,5 @@
-// What a change of an image at rest does: which bits are told when it is opened again, which change nothing, and which change a block that nobody tells.
+// What a change of an image at rest does: which bits are told when it is opened again or examined, which change nothing, and which change a block that nobody
+// tells.
 // What is wanted follows from what an image means and from when it is damaged.
 use crate::assertions::{Assert, assert_same};
 use crate::either_layout::saves::made;
@@ -37,10 +38,10 @@ fn saved(
     Ok(store.into_device())
 }
 
-// The digest of an image's blocks, or why it isn't opened.
-fn digest_of(disk: &mut MemoryDisk) -> Result<[u8; 32], &'static str> {
+// The digest of an image's blocks, and whether the gate is of its record; or why it isn't opened.
+fn look_at(disk: &mut MemoryDisk) -> Result<([u8; 32], bool), &'static str> {
     match examine(disk) {
-        Ok(held) => Ok(held.digest),
+        Ok(held) => Ok((held.digest, held.gate_fits)),
         Err(OpenFault::BadSize) => Err("bad size"),
         Err(OpenFault::NoLabel) => Err("no label"),
         Err(OpenFault::OtherVersion) => Err("other version"),
@@ -50,11 +51,19 @@ fn digest_of(disk: &mut MemoryDisk) -> Result<[u8; 32], &'static str> {
     }
 }
 
-// What an opening finds: why it refuses the image, or whether its blocks are those of this digest.
+fn digest_of(disk: &mut MemoryDisk) -> Result<[u8; 32], &'static str> {
+    let (digest, _) = look_at(disk)?;
+    Ok(digest)
+}
+
+// What an opening finds: why it refuses the image, or whether its blocks are those of this digest; and then whether an examination tells that a save may be
+// lost.
 fn found(disk: &mut MemoryDisk, digest: &[u8; 32]) -> &'static str {
-    match digest_of(disk) {
-        Ok(held) if held == *digest => "same",
-        Ok(_) => "other",
+    match look_at(disk) {
+        Ok((held, true)) if held == *digest => "same",
+        Ok((held, false)) if held == *digest => "same, told",
+        Ok((_, true)) => "other",
+        Ok((_, false)) => "other, told",
         Err(told) => told,
     }
 }
@@ -190,6 +199,7 @@ fn by_layout_3_each_bit_of_label_and_record_is_told(rt: HostRuntime) -> Result<(
             (0, 80, 96, "wrong count"),
             (0, 96, 4096, "no label"),
             (8, 0, 64, "same"),
+            (8, 64, 320, "same, told"),
             (16, 0, 32, "damaged"),
             (16, 3840, 4096, "damaged"),
         ],
@@ -221,7 +231,7 @@ fn by_layout_3_no_other_bit_counts(rt: HostRuntime) -> Result<(), Fail> {
         &rt,
         &mut disk,
         &[
-            (8, 64, 4096, "same"),
+            (8, 320, 4096, "same"),
             (9, 0, 4096, "same"),
             (16, 32, 3840, "same"),
             (17, 0, 4096, "same"),
@@ -305,10 +315,12 @@ fn by_layout_2_an_open_gate_that_comes_back_is_harmless_or_told(
     Ok(())
 }
 
-// By layout 3 a gate that comes back takes a save away, and a record two, where each of their blocks still stands in the place that it had. Any place that
-// comes back is told.
+// By layout 3 a gate that comes back takes a save away, and a record two, where each of their blocks still stands in the place that it had. The record is told
+// then: it is what stands there where the disk lost its write. Any place that comes back is told.
 #[test]
-fn by_layout_3_a_gate_or_a_record_that_comes_back_is_not_told(rt: HostRuntime) -> Result<(), Fail> {
+fn by_layout_3_a_gate_that_comes_back_is_not_told_and_a_record_is(
+    rt: HostRuntime,
+) -> Result<(), Fail> {
     each_put_back(
         &rt,
         true,
@@ -316,7 +328,7 @@ fn by_layout_3_a_gate_or_a_record_that_comes_back_is_not_told(rt: HostRuntime) -
         &[
             (2, 0, 8, 3, "same"), // the label
             (2, 8, 16, 2, "same"), // the gate
-            (2, 16, 24, 1, "same"), // the record that counts
+            (2, 16, 24, 1, "same, told"), // the record that counts
             (2, 8, 24, 2, "same"), // both
             (1, 24, 32, 3, "same"), // the other record
             (2, 72, 80, 3, "damaged"), // the place of block 2
@@ -350,7 +362,36 @@ fn by_layout_3_a_gate_over_a_later_spill_is_told(rt: HostRuntime) -> Result<(), 
     spill(&mut store, 0, b'C')?;
     let mut disk = store.into_device();
     let digest = digest_of(&mut disk)?;
-    put(&mut disk, 8, &open_gate())?;
+    let mut old = saved(rt.alloc(), true, &[(0, b'A')], 1)?;
+    put(&mut disk, 8, &sector(&mut old, 8)?)?;
     assert_same!(rt; found(&mut disk, &digest), "damaged");
+    Ok(())
+}
+
+// A gate of which so many bytes were written when a stop came, over the one before. With four of them it is nearer to an open one, and names the new record: it
+// has this record's sum once all 40 are there, and before the old one's.
+#[test]
+fn by_layout_3_a_gate_that_was_half_written_is_told(rt: HostRuntime) -> Result<(), Fail> {
+    let saves = [(0, b'A'), (1, b'B'), (2, b'C')];
+    let mut disk = saved(rt.alloc(), true, &saves, 3)?;
+    let mut old = saved(rt.alloc(), true, &saves, 2)?;
+    let (new_gate, old_gate) = (sector(&mut disk, 8)?, sector(&mut old, 8)?);
+    for (written, like, want) in [
+        (0, 2, "same"),
+        (3, 2, "same"),
+        (4, 3, "same, told"),
+        (8, 3, "same, told"),
+        (39, 3, "same, told"),
+        (40, 3, "same"),
+        (512, 3, "same"),
+    ] {
+        let mut gate = old_gate;
+        for at in 0..written {
+            gate[at % 512] = new_gate[at % 512];
+        }
+        put(&mut disk, 8, &gate)?;
+        let digest = digest_of(&mut saved(rt.alloc(), true, &saves, like)?)?;
+        assert_same!(rt; found(&mut disk, &digest), want, "{written} bytes");
+    }
     Ok(())
 }

@@ -45,7 +45,7 @@ fn is_open_by(view: &View) -> Option<bool> {
     }
 }
 
-// Of 32 blocks three sectors each are read for damage, and two for the digest, beside label, gate and record.
+// Of 32 blocks three sectors each are read for damage, and two for the digest, beside label, gate and record, and the gate once more.
 #[test]
 fn an_image_is_told_by_reads_alone(rt: HostRuntime) -> Result<(), Fail> {
     for (saves, is_open, digest) in [
@@ -68,9 +68,10 @@ fn an_image_is_told_by_reads_alone(rt: HostRuntime) -> Result<(), Fail> {
         let mut disk = saved(rt.alloc(), 32, saves)?;
         let before = disk.counts();
         let found = examine(&mut disk).map_err(name_of)?;
-        assert_same!(rt; since(disk.counts(), before), [163, 0, 0]);
+        assert_same!(rt; since(disk.counts(), before), [164, 0, 0]);
         assert_same!(rt; found.blocks, 32);
         assert_same!(rt; found.under_way, None);
+        assert!(rt; found.gate_fits);
         assert_same!(rt; hex(rt.alloc(), &found.digest)?.as_str(), digest);
         let view = look(&mut disk).map_err(name_of)?;
         assert_same!(rt; view.blocks.number, 32);
@@ -88,7 +89,7 @@ fn each_image_is_examined_or_refused(rt: HostRuntime) -> Result<(), Fail> {
         (0, 511, 1, "no label"),
         (0, 8, 2, "other version"),
         (0, 10, 33, "wrong count"),
-        (8, 8, b'?', "examined"), // past the gate's name
+        (8, 8, b'?', "examined"), // a gate that isn't of its record
         (8, 0, b'?', "examined"), // a gate that names the record before
         (16, 480, 0, "damaged"),
         (16, 0, 1, "damaged"),
@@ -190,7 +191,7 @@ fn one_block_is_read(rt: HostRuntime) -> Result<(), Fail> {
 // Each read that fails is told.
 #[test]
 fn a_fault_is_told(rt: HostRuntime) -> Result<(), Fail> {
-    for call in [1, 2, 3, 4, 99, 100, 163] {
+    for call in [1, 2, 3, 4, 99, 100, 163, 164] {
         let disk = saved(rt.alloc(), 32, &[(5, b'A')])?;
         assert_same!(rt;
             refusal(&mut Fused::from(disk, call)),

@@ -11,10 +11,10 @@ returns-in-Ok-clause-checks g c =
     let found = c.in-Ok.found in
     let examined = c.in-Ok.ensures in
     on_ok_weaker c.print_report.result
-    (λ printed. checked g.D.SectorDevice c.args.device.now c.examine.new.device found.blocks found.under_way found.digest _ _ examined.size examined.passes
-    examined.meaning examined.under_way examined.digest examined.disk examined.stops examined.begins examined.reads examined.few
+    (λ printed. checked g.D.SectorDevice c.args.device.now c.examine.new.device found.blocks found.under_way found.gate_fits found.digest _ _
+    examined.size examined.passes examined.meaning examined.under_way examined.fits examined.digest examined.disk examined.stops examined.begins examined.reads examined.few
     (subst (λ (text : List ℕ). Appends (g.W.Write.contents c.args.output.now) (g.W.Write.contents c.print_report.new.output) text)
-    (λ i. report (512 * c.sectors-sectors.ensures i) ((c.layout_by_size-layout.ensures ∙ ap layout_by_size c.sectors-sectors.ensures) i) found.blocks found.under_way found.digest) printed))
+    (λ i. report (512 * c.sectors-sectors.ensures i) ((c.layout_by_size-layout.ensures ∙ ap layout_by_size c.sectors-sectors.ensures) i) found.blocks found.under_way found.gate_fits found.digest) printed))
     c.print_report.ensures.ok
 
 pub returns-in-Ok-clause-only_read : goal.returns-in-Ok-clause-only_read
