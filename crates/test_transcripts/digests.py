@@ -52,6 +52,7 @@ SHOWN = {
         (33, {}),
         *((32, it) for it in FIFTH.values()),
         *((32, {31: [b"LAST"], **it}) for it in ({}, FIFTH[b"ONE"], FIFTH[b"TWO"])),
+        *((32, dict(enumerate([[b"ONE"], [b"TWO"], [b"THREE"]][:count]))) for count in (1, 2, 3)),
     ],
     "layout-3-labels": [(32, {31: [b"LAST"], **FIFTH[name]}) for name in (b"ONE", b"TWO")],
     "layout-3-copies": [

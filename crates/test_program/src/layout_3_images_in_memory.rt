@@ -136,7 +136,8 @@ fn check_copies(
     Ok(())
 }
 
-/// Of 32 blocks label, gate, record and three sectors each are read, and two for the digest. Each sixth of these reads fails: that alone is told.
+/// Of 32 blocks label, gate, record and three sectors each are read, two for the digest, and the gate once more. Each sixth of these reads fails, and the last:
+/// that alone is told.
 #[test]
 fn checks_whose_reads_fail(rt: HostRuntime) -> Result<(), Fail> {
     let disk = with_sevens(&rt)?;
@@ -146,9 +147,9 @@ fn checks_whose_reads_fail(rt: HostRuntime) -> Result<(), Fail> {
     let left = call_over(&rt, &files, &words, b"");
     let wanted = report(rt.alloc(), 32, BOTH_SEVENS)?;
     assert_same!(rt; left.output.as_slice(), wanted.as_bytes());
-    assert_same!(rt; disk.calls(), 163);
+    assert_same!(rt; disk.calls(), 164);
     let unread = all_unread(rt.alloc())?;
-    for k in (0..163).step_by(6) {
+    for k in (1..164).step_by(6) {
         disk.begin(k);
         let left = call_over(&rt, &files, &words, b"");
         check_fault(&rt, &left, k);
