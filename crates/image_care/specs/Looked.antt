@@ -16,8 +16,8 @@ abbrev pub gate_fits_in : ℕ → Image → Bool
 gate_fits_in sectors image = if older_label.is_size sectors then true else gate_fits image
 
 -- how many reads look at that, by layout 2 or by layout 3
-abbrev pub gate_reads : (is_journal : Bool) → ℕ
-gate_reads is_journal = if is_journal then 0 else 1
+abbrev pub reads_of_gate : (is_journal : Bool) → ℕ
+reads_of_gate is_journal = if is_journal then 0 else 1
 
 -- how many reads find where the blocks stand: what an opening looks at
 abbrev pub reads_to_look : ℕ → Image → ℕ

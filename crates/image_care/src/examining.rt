@@ -12,7 +12,7 @@ ghost use Rattle.shadow.specs.Upgraded.{known_blocks};
 ghost use Rattle.stores.specs.Images.{HasMeaning, meaning};
 ghost use Rattle.stores.specs.Opened.{image_refusal};
 ghost use Rattle.image_care.specs.Examined.{joined_below};
-ghost use Rattle.image_care.specs.Looked.{gate_fits_in, gate_reads, reads_to_look, save_in};
+ghost use Rattle.image_care.specs.Looked.{gate_fits_in, reads_of_gate, reads_to_look, save_in};
 ghost use Rattle.image_care.specs.View.{fits_by, found_by, is_journal, save_by, sectors_of};
 
 use crate::blocks::digest_of_blocks;
@@ -80,7 +80,7 @@ pub fn examine<D: SectorDevice>(device: &mut D) -> Result<Examined, OpenFault>
     ensures reads { IsTrue (D.keeps_model device.old)
         → ReadsAtMost D.SectorDevice device.old device.new
         (reads_to_look (D.sector_count device.old) (D.disk device.old).content + 2 * known_blocks (D.sector_count device.old)
-        + gate_reads (is_size (D.sector_count device.old))) }
+        + reads_of_gate (is_size (D.sector_count device.old))) }
     ensures few { is_size (D.sector_count device.old) ≡ false
         → ReadsAtMost D.SectorDevice device.old device.new (5 * blocks_in (D.sector_count device.old) + 4) }
 {
@@ -105,7 +105,7 @@ fn add_up<D: SectorDevice>(device: &mut D, view: &View) -> Result<Examined, Open
         → StopsLeave D.SectorDevice device.old device.new (MayLeave (D.disk device.old)) }
     ensures passes { Proceeds D.SectorDevice device.old device.new }
     ensures costs { CostsAtMost D.SectorDevice device.old device.new 0 0
-        (2 * view.now.blocks.number + gate_reads (is_journal view.now.listing)) }
+        (2 * view.now.blocks.number + reads_of_gate (is_journal view.now.listing)) }
 {
     match digest_of_blocks(device, view) {
         Ok(digest) => with_digest(device, view, digest),
@@ -132,7 +132,7 @@ fn with_digest<D: SectorDevice>(
     ensures stops { IsTrue (D.keeps_model device.old)
         → StopsLeave D.SectorDevice device.old device.new (MayLeave (D.disk device.old)) }
     ensures passes { Proceeds D.SectorDevice device.old device.new }
-    ensures costs { CostsAtMost D.SectorDevice device.old device.new 0 0 (gate_reads (is_journal view.now.listing)) }
+    ensures costs { CostsAtMost D.SectorDevice device.old device.new 0 0 (reads_of_gate (is_journal view.now.listing)) }
 {
     match look_at_gate(device, view) {
         Ok(gate_fits) => Ok(Examined {
@@ -157,7 +157,7 @@ fn look_at_gate<D: SectorDevice>(device: &mut D, view: &View) -> Result<bool, Op
     ensures stops { IsTrue (D.keeps_model device.old)
         → StopsLeave D.SectorDevice device.old device.new (MayLeave (D.disk device.old)) }
     ensures passes { Proceeds D.SectorDevice device.old device.new }
-    ensures costs { CostsAtMost D.SectorDevice device.old device.new 0 0 (gate_reads (is_journal view.now.listing)) }
+    ensures costs { CostsAtMost D.SectorDevice device.old device.new 0 0 (reads_of_gate (is_journal view.now.listing)) }
 {
     match &view.listing {
         Listing::Journal(_) => Ok(true),

@@ -10,7 +10,7 @@ use Rattle.recovery.specs.Label.{is_size}
 use Rattle.shadow.specs.Label.{blocks_in}
 use Rattle.shadow.specs.Upgraded.{known_blocks}
 use Rattle.stores.specs.Images.{HasMeaning, meaning}
-use Rattle.image_care.specs.Looked.{gate_fits_in, gate_reads, reads_to_look, save_in}
+use Rattle.image_care.specs.Looked.{gate_fits_in, reads_of_gate, reads_to_look, save_in}
 use Rattle.terminal.specs.Checked.{ChecksImage, layout_by_size, report}
 use Rattle.journal.proofs.Suited.{stays}
 
@@ -26,7 +26,7 @@ module _ {D : Type 0} (G : Ghosts D) where
       → BeginsAtMost G device after 0 0
       → (IsTrue (G.keeps_model device) → ReadsAtMost G device after
       (reads_to_look (G.sector_count device) (G.disk device).content + 2 * known_blocks (G.sector_count device)
-      + gate_reads (is_size (G.sector_count device))))
+      + reads_of_gate (is_size (G.sector_count device))))
       → (is_size (G.sector_count device) ≡ false → ReadsAtMost G device after (5 * blocks_in (G.sector_count device) + 4))
       → Appends written written' (report (512 * G.sector_count device) (layout_by_size (G.sector_count device)) n under_way gate_fits digest)
       → ChecksImage G written written' device after

@@ -12,7 +12,7 @@ use Rattle.recovery.specs.Label.{is_size}
 use Rattle.shadow.specs.Label.{blocks_in}
 use Rattle.shadow.specs.Upgraded.{known_blocks}
 use Rattle.stores.specs.Images.{HasMeaning, meaning}
-use Rattle.image_care.specs.Looked.{gate_fits_in, gate_reads, reads_to_look, save_in}
+use Rattle.image_care.specs.Looked.{gate_fits_in, reads_of_gate, reads_to_look, save_in}
 use Rattle.command_line.specs.declared.orders.Layout.{Layout}
 use Rattle.command_line.specs.declared.orders.Layout.TheVariants.{Two, Three}
 use Rattle.sessions.specs.Devices.{Becomes}
@@ -65,5 +65,5 @@ module _ {D : Type 0} (G : Ghosts D) where
     pub begins : BeginsAtMost G device after 0 0
     pub reads : IsTrue (G.keeps_model device) → ReadsAtMost G device after
         (reads_to_look (G.sector_count device) (G.disk device).content + 2 * known_blocks (G.sector_count device)
-        + gate_reads (is_size (G.sector_count device)))
+        + reads_of_gate (is_size (G.sector_count device)))
     pub few : is_size (G.sector_count device) ≡ false → ReadsAtMost G device after (5 * blocks_in (G.sector_count device) + 4)

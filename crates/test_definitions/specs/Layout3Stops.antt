@@ -7,7 +7,7 @@ use Rattle.test_devices.specs.Coarse.{in_eights}
 use Rattle.sector_disk.specs.Disk.{Image, Disk}
 use Rattle.sector_disk.specs.declared.memory_disk.Fate.{Fate}
 use Rattle.sector_disk.specs.declared.memory_disk.Fate.TheVariants.{Lost, Kept, Torn}
-use Rattle.journal.specs.PageLayout.{bits_apart, gate_open, label_of, place_at}
+use Rattle.journal.specs.PageLayout.{bits_apart, gate_bytes, gate_open, is_gate_of, label_of, place_at}
 use Rattle.journal.specs.PageImages.{block_of}
 use Rattle.test_definitions.specs.Stops.{DiskCall, Write, Sync, after_calls, at_each_stop, synced_disk, open_gate, closed_gate}
 
@@ -42,6 +42,14 @@ means_these bytes image = pointwise nat_eq (first_blocks image) bytes
 gates : map gate_open (codes "COMMIT83" ∷ codes "BOMMIT83" ∷ codes "COMM" ∷ codes "C" ∷ replicate 512 255 ∷ replicate 512 0 ∷ []) ≡ true ∷ true ∷ true ∷ false ∷ true ∷ false ∷ []
 unfolding gate_open bits_apart
 gates = refl
+
+-- one as it is written, with a sum of sevens
+a_gate_written : gate_bytes true (replicate 32 7) ≡ (67 ∷ 79 ∷ 77 ∷ 77 ∷ 73 ∷ 84 ∷ 56 ∷ 51 ∷ []) ++ replicate 32 7 ++ replicate 472 0
+a_gate_written = refl
+
+-- gates of a record with this sum, open and closed; with another sum, with one of which a byte is another, and with none
+gates_of_a_record : map (λ gate. is_gate_of gate (replicate 480 1 ++ replicate 32 7)) (gate_bytes true (replicate 32 7) ∷ gate_bytes false (replicate 32 7) ∷ gate_bytes true (replicate 32 8) ∷ gate_bytes true (6 ∷ replicate 31 7) ∷ codes "COMMIT83" ∷ []) ≡ true ∷ true ∷ false ∷ false ∷ false ∷ []
+gates_of_a_record = refl
 
 -- ---- a save of the blocks 1 and 2
 

@@ -7,7 +7,7 @@ use Rattle.journal.proofs.Calls.{proceeds_then}
 use Rattle.stores.specs.Images.{meaning}
 use Rattle.stores.proofs.Results.{if_ok}
 use Rattle.image_care.specs.Examined.{joined_below}
-use Rattle.image_care.specs.Looked.{gate_reads}
+use Rattle.image_care.specs.Looked.{reads_of_gate}
 use Rattle.image_care.specs.View.{fits_by, found_by, is_journal}
 use Rattle.image_care.proofs.Looks.{fit_is, found_meaning, save_is}
 use Rattle.shadow.specs.Label.{blocks_in}
@@ -49,14 +49,14 @@ returns-clause-fits g c = λ keeps.
 pub returns-clause-reads : goal.returns-clause-reads
 returns-clause-reads g c = λ keeps.
     let look = c.in_ok-view.ensures in
-    omega (arith, c.look.ensures.reads keeps, c.add_up.ensures.costs.few_reads, look.count, ap gate_reads look.layout)
+    omega (arith, c.look.ensures.reads keeps, c.add_up.ensures.costs.few_reads, look.count, ap reads_of_gate look.layout)
 
 pub returns-clause-few : goal.returns-clause-few
 returns-clause-few g c = λ newer.
     let sectors = g.D.SectorDevice.sector_count c.args.device.now in
     let look = c.in_ok-view.ensures in
     let count : c.in_ok-view.view.blocks.number ≡ blocks_in sectors = look.count ∙ ap (λ b. if b then older.blocks_in sectors else blocks_in sectors) newer in
-    let one : gate_reads (is_journal c.in_ok-view.view.listing) ≡ 1 = ap gate_reads (look.layout ∙ newer) in
+    let one : reads_of_gate (is_journal c.in_ok-view.view.listing) ≡ 1 = ap reads_of_gate (look.layout ∙ newer) in
     omega (arith, c.look.ensures.few newer, c.add_up.ensures.costs.few_reads, count, one)
 
 pub returns-clause-passes : goal.returns-clause-passes
