@@ -1,7 +1,7 @@
 //! Where the parts of an image of layout 3 stand, and how they are spelled. Sectors have 512 bytes and are numbered
 //! from 0.
 //! Rule: IMAGE, Layout 3.
-ghost use Rattle.std.specs.Prelude.{◌≡◌, ◌≢◌, ◌<◌, ◌≤◌, ◌+◌, ◌*◌, ◌%◌, ◌++◌, ℕ, not, false, IfSome, IfNone, take, replicate};
+ghost use Rattle.std.specs.Prelude.{◌≡◌, ◌≢◌, ◌<◌, ◌≤◌, ◌+◌, ◌*◌, ◌%◌, ◌++◌, ℕ, not, true, false, IfSome, IfNone, take, replicate};
 ghost use Rattle.std.specs.Bool.{OnTrue};
 ghost use Rattle.journal.specs.Layout.{fewest_blocks, most_blocks, listed, bits_of};
 ghost use Rattle.journal.specs.Sizes.{is_pages_size, is_pages_size_for, pages_blocks_in};
