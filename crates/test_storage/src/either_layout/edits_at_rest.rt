@@ -328,6 +328,7 @@ fn by_layout_3_a_gate_that_comes_back_is_not_told_and_a_record_is(
         &[
             (2, 0, 8, 3, "same"), // the label
             (2, 8, 16, 2, "same"), // the gate
+            (1, 8, 16, 3, "same, told"), // the gate of two saves before
             (2, 16, 24, 1, "same, told"), // the record that counts
             (2, 8, 24, 2, "same"), // both
             (1, 24, 32, 3, "same"), // the other record
