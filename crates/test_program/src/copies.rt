@@ -1,6 +1,6 @@
 //! Copies and salvages of an image of which a save is under way: what becomes of its blocks, and what a stop leaves of both images.
-use super::stopping::{Disk, FATES, Fate, NAMED, OneDisk};
-use super::support::{call_over, call_over_both, make_over, told_of_making, transcript};
+use super::stopping::{Disk, FATES, Fate, LENGTH, Making, NAMED, OneDisk, copying_is_stopped};
+use super::support::{call_over, call_over_both, make_over, transcript};
 use super::systems::{BOTH, SAVED, SEVENS};
 use crate::assertions::{Assert, assert_same};
 use std::fs::File;
@@ -11,6 +11,17 @@ use std::test::Fail;
 /// What each salvage tells.
 const NO_RECOVERY: &str =
     "salvaged, not recovered: of a save that was under way some blocks may be old and some new\n";
+
+const COPY: Making = Making {
+    words: &["forth83", "copy", "A", "A"],
+    length: LENGTH,
+    named: NAMED,
+};
+
+const SALVAGE: Making = Making {
+    words: &["forth83", "salvage", "A", "A"],
+    ..COPY
+};
 
 /// An image of which a save of two blocks is under way: its gate is open, and their homes are blank.
 fn half_saved(rt: &(impl Files<File = File> + AllocGlobal + Abort)) -> Result<Disk, Fail> {
@@ -58,64 +69,36 @@ fn saves_that_are_under_way(rt: HostRuntime) -> Result<(), Fail> {
 /// byte for byte as it was, and the new one is none, or whole.
 #[test]
 fn copies_that_are_stopped(rt: HostRuntime) -> Result<(), Fail> {
-    makings_are_stopped(&rt, "copy")
+    copyings_are_stopped(&rt, COPY)
 }
 
 /// And so is a salvage.
 #[test]
 fn salvages_that_are_stopped(rt: HostRuntime) -> Result<(), Fail> {
-    makings_are_stopped(&rt, "salvage")
+    copyings_are_stopped(&rt, SALVAGE)
 }
 
-fn makings_are_stopped(
+fn copyings_are_stopped(
     rt: &(impl Files<File = File> + AllocGlobal + Abort),
-    name: &str,
+    making: Making,
 ) -> Result<(), Fail> {
     let old = half_saved(rt)?;
     let before = old.copy(rt)?;
     let new = Disk::new(rt)?;
     let (looking, files) = (OneDisk::beside(&old, &new), OneDisk::new(&new));
     new.begin(u64::MAX);
-    let left = call_over_both(rt, &files, &looking, &["forth83", name, "A", "A"], b"");
+    let left = call_over_both(rt, &files, &looking, making.words, b"");
     let calls = new.calls();
     assert!(rt; left.status == 0 && (130..400).contains(&calls), "{calls}");
     for (k, fate) in (0..calls).zip(FATES.iter().cycle()) {
-        making_is_stopped(rt, name, &old, k, *fate)?;
+        copying_is_stopped(rt, making, &old, k, *fate)?;
     }
     for k in calls.saturating_sub(6)..calls {
         for fate in FATES {
-            making_is_stopped(rt, name, &old, k, fate)?;
+            copying_is_stopped(rt, making, &old, k, fate)?;
         }
     }
-    assert!(rt; old.copy(rt)? == before, "{name}");
-    Ok(())
-}
-
-fn making_is_stopped(
-    rt: &(impl Files<File = File> + AllocGlobal + Abort),
-    name: &str,
-    old: &Disk,
-    k: u64,
-    fate: Fate,
-) -> Result<(), Fail> {
-    let new = Disk::new(rt)?;
-    let (looking, files) = (OneDisk::beside(old, &new), OneDisk::new(&new));
-    new.begin(k);
-    let left = call_over_both(rt, &files, &looking, &["forth83", name, "A", "A"], b"");
-    assert_same!(rt;
-        (left.status, left.output.is_empty()),
-        (3, true),
-        "{name} at {k}"
-    );
-    let told = told_of_making(k, NAMED).as_bytes();
-    assert_same!(rt; left.errors.as_slice(), told, "{name} at {k}");
-    new.restart(fate);
-    old.restart(fate);
-    let left = call_over(rt, &files, &["forth83", "run", "A"], BOTH.as_bytes());
-    let is_none = left.status == 3
-        && left.errors.as_slice() == b"forth83: image: no label\n".as_slice();
-    let is_whole = left.status == 0 && left.output.as_slice() == SEVENS.as_bytes();
-    assert!(rt; is_none || is_whole, "{name}, {fate:?} at {k}");
+    assert!(rt; old.copy(rt)? == before, "{making:?}");
     Ok(())
 }
 

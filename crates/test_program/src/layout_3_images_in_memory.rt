@@ -1,6 +1,6 @@
 //! Images of layout 3 on disks in memory, whose calls fail and are stopped, that are checked, copied, salvaged, and listed and exported by reads alone.
 use super::layout_3_images::{LENGTH, NAMED};
-use super::stopping::{Disk, FATES, Fate, OneDisk, Opened};
+use super::stopping::{Disk, FATES, Fate, Making, OneDisk, Opened, copying_is_stopped};
 use super::support::{
     DEVICE_FAULT, Left, call_over, call_over_both, check, overwrite, run_over_files, told_of_making,
 };
@@ -20,6 +20,17 @@ const BOTH_SEVENS: &[(u16, &str)] = &[(1, "\x07\x00"), (2, "\x07\x00")];
 /// What each salvage tells.
 const PAGES_NO_RECOVERY: &str =
     "salvaged, not recovered: a damaged block may be older, or written and not saved, or blank\n";
+
+const COPY: Making = Making {
+    words: &["forth83", "copy", "A", "A"],
+    length: LENGTH,
+    named: NAMED,
+};
+
+const SALVAGE: Making = Making {
+    words: &["forth83", "salvage", "A", "A"],
+    ..COPY
+};
 
 /// Prints the first characters of both blocks.
 const FIRST_CHARACTERS: &[u8] = b"1 BLOCK C@ . 2 BLOCK C@ .\n";
@@ -260,71 +271,44 @@ fn images_of_layout_3_with_a_sector_that_cannot_be_read(rt: HostRuntime) -> Resu
 #[test]
 fn copies_of_layout_3_that_are_stopped(rt: HostRuntime) -> Result<(), Fail> {
     // Of the old image label, gate, record and each block with its tag, and then the two sectors of each block.
-    makings_are_stopped(&rt, "copy", 163)
+    copyings_are_stopped(&rt, COPY, 163)
 }
 
 /// And so is a salvage.
 #[test]
 fn salvages_of_layout_3_that_are_stopped(rt: HostRuntime) -> Result<(), Fail> {
     // Of the old image each sector, and then gate, record and each block with its tag.
-    makings_are_stopped(&rt, "salvage", 544 + 98)
+    copyings_are_stopped(&rt, SALVAGE, 544 + 98)
 }
 
-fn makings_are_stopped(
+fn copyings_are_stopped(
     rt: &(impl Files<File = File> + AllocGlobal + Abort),
-    name: &str,
+    making: Making,
     reads: u32,
 ) -> Result<(), Fail> {
     let old = with_sevens(rt)?;
     let before = old.copy(rt)?;
     let new = Disk::of_length(rt, LENGTH)?;
     let (looking, files) = (OneDisk::beside(&old, &new), OneDisk::new(&new));
-    let left = call_over_both(rt, &files, &looking, &["forth83", name, "A", "A"], b"");
+    let left = call_over_both(rt, &files, &looking, making.words, b"");
     let calls = new.calls();
-    assert_same!(rt; left.status, 0, "{name}");
+    assert_same!(rt; left.status, 0, "{making:?}");
     // The file is made first; then come a sync and a read of the label, four sectors of each block, gate and records, a sync, the label and a sync.
     let made = NAMED + 1;
     assert_same!(rt;
         calls,
         made + reads as u64 + 2 + 4 * 32 + 3 + 1 + 2,
-        "{name}"
+        "{making:?}"
     );
     for (k, fate) in (0..calls).step_by(11).zip(FATES.iter().cycle()) {
-        making_is_stopped(rt, name, &old, k, *fate)?;
+        copying_is_stopped(rt, making, &old, k, *fate)?;
     }
     for k in calls.saturating_sub(6)..calls {
         for fate in FATES {
-            making_is_stopped(rt, name, &old, k, fate)?;
+            copying_is_stopped(rt, making, &old, k, fate)?;
         }
     }
-    assert!(rt; old.copy(rt)? == before, "{name}");
-    Ok(())
-}
-
-fn making_is_stopped(
-    rt: &(impl Files<File = File> + AllocGlobal + Abort),
-    name: &str,
-    old: &Disk,
-    k: u64,
-    fate: Fate,
-) -> Result<(), Fail> {
-    let new = Disk::of_length(rt, LENGTH)?;
-    let (looking, files) = (OneDisk::beside(old, &new), OneDisk::new(&new));
-    new.begin(k);
-    let left = call_over_both(rt, &files, &looking, &["forth83", name, "A", "A"], b"");
-    assert_same!(rt;
-        (left.status, left.output.is_empty()),
-        (3, true),
-        "{name} at {k}"
-    );
-    let told = told_of_making(k, NAMED).as_bytes();
-    assert_same!(rt; left.errors.as_slice(), told, "{name} at {k}");
-    new.restart(fate);
-    let left = call_over(rt, &files, &["forth83", "run", "A"], BOTH.as_bytes());
-    let is_none = left.status == 3
-        && left.errors.as_slice() == b"forth83: image: no label\n".as_slice();
-    let is_whole = left.status == 0 && left.output.as_slice() == SEVENS.as_bytes();
-    assert!(rt; is_none || is_whole, "{name}, {fate:?} at {k}");
+    assert!(rt; old.copy(rt)? == before, "{making:?}");
     Ok(())
 }
 

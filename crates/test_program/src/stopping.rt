@@ -1,5 +1,5 @@
 //! The program over an image on a disk that loses its power at each call: what wasn't synced is lost or kept, sector by sector.
-use super::support::{call_over, make_over, told_of_making, transcript};
+use super::support::{call_over, call_over_both, make_over, told_of_making, transcript};
 use super::systems::{BLANK, BOTH, SAVED, SEVENS, SEVENS_FILE};
 use crate::assertions::{Assert, assert_same};
 use sector_disk::{FileFault, HostFault, HostFile, HostFiles};
@@ -393,7 +393,7 @@ fn recovery_is_stopped(
     Ok(())
 }
 
-/// How an image of 32 blank blocks is made.
+/// How an image of 32 blocks is made.
 #[derive(Clone, Copy, Debug)]
 pub(crate) struct Making {
     pub(crate) words: &'static [&'static str],
@@ -448,16 +448,44 @@ fn making_is_stopped(
     disk.begin(k);
     let left = call_over(rt, &files, making.words, b"");
     assert_same!(rt; left.status, 3, "at {k}");
-    assert_same!(rt;
-        left.errors.as_slice(),
-        told_of_making(k, making.named).as_bytes(),
-        "at {k}"
-    );
+    let told = told_of_making(k, making.named).as_bytes();
+    assert_same!(rt; left.errors.as_slice(), told, "at {k}");
     disk.restart(fate);
-    let left = call_over(rt, &files, &["forth83", "run", "A"], BOTH.as_bytes());
+    is_none_or(rt, &files, BLANK, k, fate)
+}
+
+/// A copy or a salvage of an image with sevens in both blocks is stopped: the new file is no image, or a whole one.
+pub(crate) fn copying_is_stopped(
+    rt: &(impl Files<File = File> + AllocGlobal + Abort),
+    making: Making,
+    old: &Disk,
+    k: u64,
+    fate: Fate,
+) -> Result<(), Fail> {
+    let new = Disk::of_length(rt, making.length)?;
+    let (looking, files) = (OneDisk::beside(old, &new), OneDisk::new(&new));
+    new.begin(k);
+    let left = call_over_both(rt, &files, &looking, making.words, b"");
+    assert_same!(rt; (left.status, left.output.is_empty()), (3, true), "at {k}");
+    let told = told_of_making(k, making.named).as_bytes();
+    assert_same!(rt; left.errors.as_slice(), told, "at {k}");
+    new.restart(fate);
+    old.restart(fate);
+    is_none_or(rt, &files, SEVENS, k, fate)
+}
+
+/// The file is no image, or one of which a session prints this of both blocks.
+fn is_none_or(
+    rt: &(impl Files<File = File> + AllocGlobal + Abort),
+    files: &OneDisk<'_>,
+    printed: &str,
+    k: u64,
+    fate: Fate,
+) -> Result<(), Fail> {
+    let left = call_over(rt, files, &["forth83", "run", "A"], BOTH.as_bytes());
     let is_none = left.status == 3
         && left.errors.as_slice() == b"forth83: image: no label\n".as_slice();
-    let is_blank = left.status == 0 && left.output.as_slice() == BLANK.as_bytes();
-    assert!(rt; is_none || is_blank, "{fate:?} at {k}");
+    let is_whole = left.status == 0 && left.output.as_slice() == printed.as_bytes();
+    assert!(rt; is_none || is_whole, "{fate:?} at {k}");
     Ok(())
 }

@@ -154,6 +154,17 @@ struct OneFile<'a> {
     is_there: Cell<bool>,
 }
 
+impl<'a> OneFile<'a> {
+    /// The file isn't there yet.
+    fn new(file: &'a RefCell<MemoryFile>, calls: &'a Calls) -> OneFile<'a> {
+        OneFile {
+            file,
+            calls,
+            is_there: Cell::new(false),
+        }
+    }
+}
+
 impl<'a> HostFiles<Opened<'a>> for OneFile<'a> {
     ghost opens = { λ files path file. Unit {0} };
 
@@ -233,11 +244,7 @@ fn sessions_over_short_calls(rt: HostRuntime) -> Result<(), Fail> {
     for most in [1, 7, 100, 511, 512] {
         let file = empty(&rt)?;
         let calls = Calls::new();
-        let files = OneFile {
-            file: &file,
-            calls: &calls,
-            is_there: Cell::new(false),
-        };
+        let files = OneFile::new(&file, &calls);
         calls.most.set(most);
         calls.interrupted.set(3);
         make_over(&rt, &files);
@@ -245,6 +252,18 @@ fn sessions_over_short_calls(rt: HostRuntime) -> Result<(), Fail> {
         run_over_files(&rt, &files, "> 1 BLOCK @ . 2 BLOCK @ .\n7 7  ok\n")?;
     }
     Ok(())
+}
+
+/// A session that saves two blocks of a new image, of which call `k` fails.
+fn save_failing_at(
+    rt: &(impl Files<File = File> + AllocGlobal + Abort),
+    files: &OneFile<'_>,
+    k: u64,
+) -> Result<Left, Fail> {
+    make_over(rt, files);
+    files.calls.begin(k);
+    let (input, _) = transcript(rt, SAVED)?;
+    Ok(call_over(rt, files, &["forth83", "run", "A"], input.as_slice()))
 }
 
 /// How many calls open an image of which no save is under way: a sync, and two reads, of the label and the gate.
@@ -257,15 +276,8 @@ fn sessions_whose_calls_fail(rt: HostRuntime) -> Result<(), Fail> {
     for k in 0..60 {
         let file = empty(&rt)?;
         let calls = Calls::new();
-        let files = OneFile {
-            file: &file,
-            calls: &calls,
-            is_there: Cell::new(false),
-        };
-        make_over(&rt, &files);
-        calls.begin(k);
-        let (input, _) = transcript(&rt, SAVED)?;
-        let left = call_over(&rt, &files, &["forth83", "run", "A"], input.as_slice());
+        let files = OneFile::new(&file, &calls);
+        let left = save_failing_at(&rt, &files, k)?;
         assert_same!(rt; calls.openings.get(), 1, "at {k}");
         let (status, told) = if k < OPENING {
             (3, DEVICE_FAULT)
@@ -334,11 +346,7 @@ fn saving_fails(
 ) -> Result<u64, Fail> {
     let file = empty(rt)?;
     let calls = Calls::new();
-    let files = OneFile {
-        file: &file,
-        calls: &calls,
-        is_there: Cell::new(false),
-    };
+    let files = OneFile::new(&file, &calls);
     make_over(rt, &files);
     calls.begin(fails_at);
     let left = call_over(rt, &files, words, b"");
@@ -370,11 +378,7 @@ fn saving_fails(
 fn images_whose_making_fails(rt: HostRuntime) -> Result<(), Fail> {
     let file = empty(&rt)?;
     let calls = Calls::new();
-    let files = OneFile {
-        file: &file,
-        calls: &calls,
-        is_there: Cell::new(false),
-    };
+    let files = OneFile::new(&file, &calls);
     make_over(&rt, &files);
     let named = calls.named.get();
     for k in (0..calls.made.get()).rev().step_by(16) {
@@ -392,11 +396,7 @@ fn making_fails(
 ) -> Result<(), Fail> {
     let file = empty(rt)?;
     let calls = Calls::new();
-    let files = OneFile {
-        file: &file,
-        calls: &calls,
-        is_there: Cell::new(false),
-    };
+    let files = OneFile::new(&file, &calls);
     calls.begin(k);
     let words = ["forth83", "new", "A", "--blocks", "32"].as_slice();
     let left = call_over(rt, &files, words, b"");
@@ -420,11 +420,7 @@ fn making_fails(
 fn what_is_put_aside_is_given_up(rt: HostRuntime) -> Result<(), Fail> {
     let file = empty(&rt)?;
     let calls = Calls::new();
-    let files = OneFile {
-        file: &file,
-        calls: &calls,
-        is_there: Cell::new(false),
-    };
+    let files = OneFile::new(&file, &calls);
     make_over(&rt, &files);
     run_over_files(&rt, &files, SAVED)?;
     let aside = "> 9 1 BLOCK ! UPDATE 3 BLOCK 4 BLOCK 5 BLOCK 6 BLOCK 1 BLOCK @ .\n9  ok\n";
@@ -460,11 +456,7 @@ const CHECK: [&str; 3] = ["forth83", "check", "A"];
 fn checks_whose_calls_fail(rt: HostRuntime) -> Result<(), Fail> {
     let file = empty(&rt)?;
     let calls = Calls::new();
-    let files = OneFile {
-        file: &file,
-        calls: &calls,
-        is_there: Cell::new(false),
-    };
+    let files = OneFile::new(&file, &calls);
     make_over(&rt, &files);
     let left = call_over(&rt, &files, CHECK.as_slice(), b"");
     assert_same!(rt; left.status, 0);
@@ -513,11 +505,7 @@ fn check_each_call(
 fn listings_whose_calls_fail(rt: HostRuntime) -> Result<(), Fail> {
     let file = empty(&rt)?;
     let calls = Calls::new();
-    let files = OneFile {
-        file: &file,
-        calls: &calls,
-        is_there: Cell::new(false),
-    };
+    let files = OneFile::new(&file, &calls);
     make_over(&rt, &files);
     check_each_call(&rt, &files, &["forth83", "list", "A", "1"], 5)?;
     check_each_call(&rt, &files, &["forth83", "export", "A", "1", "1"], 5)
@@ -531,15 +519,8 @@ fn checks_before_a_recovery(rt: HostRuntime) -> Result<(), Fail> {
     for k in 0..60 {
         let file = empty(&rt)?;
         let calls = Calls::new();
-        let files = OneFile {
-            file: &file,
-            calls: &calls,
-            is_there: Cell::new(false),
-        };
-        make_over(&rt, &files);
-        calls.begin(k);
-        let (input, _) = transcript(&rt, SAVED)?;
-        let _ = call_over(&rt, &files, &["forth83", "run", "A"], input.as_slice());
+        let files = OneFile::new(&file, &calls);
+        let _ = save_failing_at(&rt, &files, k)?;
         calls.begin(u64::MAX);
         let before = call_over(&rt, &files, CHECK.as_slice(), b"");
         assert_same!(rt; (before.status, calls.writes.get()), (0, 0), "at {k}");
@@ -639,15 +620,8 @@ fn listings_before_a_recovery(rt: HostRuntime) -> Result<(), Fail> {
     for k in 0..60 {
         let file = empty(&rt)?;
         let calls = Calls::new();
-        let files = OneFile {
-            file: &file,
-            calls: &calls,
-            is_there: Cell::new(false),
-        };
-        make_over(&rt, &files);
-        calls.begin(k);
-        let (input, _) = transcript(&rt, SAVED)?;
-        let _ = call_over(&rt, &files, &["forth83", "run", "A"], input.as_slice());
+        let files = OneFile::new(&file, &calls);
+        let _ = save_failing_at(&rt, &files, k)?;
         calls.begin(u64::MAX);
         let before = list_unwritable(&rt, &files, "2");
         assert_same!(rt; (before.status, calls.openings.get()), (0, 1), "at {k}");
@@ -679,11 +653,7 @@ fn listings_before_a_recovery(rt: HostRuntime) -> Result<(), Fail> {
 fn listings_that_are_refused(rt: HostRuntime) -> Result<(), Fail> {
     let file = empty(&rt)?;
     let calls = Calls::new();
-    let files = OneFile {
-        file: &file,
-        calls: &calls,
-        is_there: Cell::new(false),
-    };
+    let files = OneFile::new(&file, &calls);
     check_unlisted(&rt, &files, "1", "cannot open")?;
     make_over(&rt, &files);
     run_over_files(&rt, &files, SAVED)?;

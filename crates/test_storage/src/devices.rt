@@ -6,6 +6,5 @@ mod fused;
 mod memory;
 mod recorded;
 pub(crate) mod scarred;
-mod sectors;
 mod short_calls;
 mod still_disk;

@@ -17,3 +17,5 @@ mod layout_2;
 #[cfg(test)]
 mod layout_3;
 pub mod premises;
+#[cfg(test)]
+mod sectors;

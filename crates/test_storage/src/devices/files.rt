@@ -1,5 +1,5 @@
 //! Files of this system as devices: locks, places, calls that fail, and what a save leaves in one.
-use crate::devices::sectors::{put, sector};
+use crate::sectors::{put, sector};
 use recovery::format;
 use sector_disk::{FileDisk, FileFault, HostFault, HostFiles, SectorDevice, SectorFile, StdFiles};
 use std::fs;

@@ -1,5 +1,5 @@
 //! A file whose calls move few bytes, are interrupted and fail, as a device.
-use crate::devices::sectors::{put, sector};
+use crate::sectors::{put, sector};
 use sector_disk::{SectorDevice, SectorFile};
 use std::test::Fail;
 use test_devices::{MemoryFile, Script};

@@ -3,7 +3,7 @@
 // What is wanted follows from what an image means and from when it is damaged.
 use crate::assertions::{Assert, assert_same};
 use crate::either_layout::saves::made;
-use crate::layout_3::saved_images::{put, sector};
+use crate::sectors::{put, sector};
 use image_care::examine;
 use journal::Store;
 use recovery::OpenFault;

@@ -4,7 +4,7 @@ use crate::assertions::{Assert, assert_same};
 use crate::devices::scarred::{NONE, Scarred};
 use crate::either_layout::saves::made;
 use crate::layout_3::salvages::{SAVES, told};
-use crate::layout_3::saved_images::sector;
+use crate::sectors::sector;
 use image_care::{StillDisk, Taken, examine, read_block, read_through, salvage};
 use journal::Store;
 use recovery::OpenFault;

@@ -1,6 +1,7 @@
 // Images are copied, stopped at each call of either device.
 use crate::assertions::{Assert, assert_same};
-use crate::layout_3::saved_images::{are_same, change, saved, sector, since, stopped};
+use crate::layout_3::saved_images::{are_same, change, saved, since, stopped};
+use crate::sectors::sector;
 use image_care::{copy, examine};
 use journal::pages::layout::label;
 use recovery::{OpenFault, UpgradeFault};

@@ -3,7 +3,8 @@
 use crate::assertions::{Assert, assert_same};
 use crate::devices::scarred::{NONE, Scarred};
 use crate::layout_3::salvages::SAVES;
-use crate::layout_3::saved_images::{SECTORS, change, put, saved, sector, since};
+use crate::layout_3::saved_images::{SECTORS, change, saved, since};
+use crate::sectors::{put, sector};
 use image_care::pages::read_current;
 use recovery::OpenFault;
 use sector_disk::{Counts, Fused, MemoryDisk, SectorDevice, SectorFile};

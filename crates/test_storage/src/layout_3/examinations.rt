@@ -1,6 +1,7 @@
 // Images are examined, and their blocks looked at, without a change of them.
 use crate::assertions::{Assert, assert_same};
-use crate::layout_3::saved_images::{are_same, change, saved, sector, since};
+use crate::layout_3::saved_images::{are_same, change, saved, since};
+use crate::sectors::sector;
 use image_care::pages::{Standing, find_standing};
 use image_care::{Listing, View, examine, look, read_block};
 use recovery::OpenFault;

@@ -1,7 +1,8 @@
 // Formats: what is written, and what a stop leaves of it.
 use crate::assertions::{Assert, assert_same};
-use crate::layout_3::images::{blank, opened, sector, spill, told};
+use crate::layout_3::images::{blank, opened, spill, told};
 use crate::layout_3::openings::refusal;
+use crate::sectors::sector;
 use sector_disk::{Fate, Fused, MemoryDisk};
 use shadow::format;
 use std::alloc::Global;

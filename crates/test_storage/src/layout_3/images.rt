@@ -2,6 +2,7 @@
 ghost use Rattle.std.specs.Prelude.{◌<◌};
 ghost use Rattle.journal.specs.Layout.{most_blocks};
 
+use crate::sectors::{put, sector};
 use journal::Store;
 use journal::pages::layout::{current_sector, sum, tag, tag_sector, with_sum};
 use journal::pages::tags::{add, tag_of};
@@ -20,29 +21,6 @@ pub(crate) fn hex(alloc: Global, bytes: &[u8]) -> Result<String, AllocError> {
         text.push_str(&format!(in alloc; "{byte:02x}")?)?;
     }
     Ok(text)
-}
-
-/// A sector's bytes, or an error where there is no such sector or it can't be read.
-pub(crate) fn sector<D: SectorDevice>(disk: &mut D, k: u32) -> Result<[u8; 512], &'static str> {
-    let mut bytes = [0; 512];
-    if k >= disk.sectors() {
-        return Err("no such sector");
-    }
-    match disk.read(k, &mut bytes) {
-        Ok(()) => Ok(bytes),
-        Err(_) => Err("read failed"),
-    }
-}
-
-pub(crate) fn put<D: SectorDevice>(
-    disk: &mut D,
-    k: u32,
-    bytes: &[u8; 512],
-) -> Result<(), &'static str> {
-    if k >= disk.sectors() {
-        return Err("no sector to write");
-    }
-    disk.write(k, bytes).map_err(|_| "write failed")
 }
 
 // The sum of the tags of blank blocks.

@@ -1,6 +1,7 @@
 // Openings: which images are refused, and what an opening does.
 use crate::assertions::{Assert, assert_same};
-use crate::layout_3::images::{blank, opened, put, sector, spill, told};
+use crate::layout_3::images::{blank, opened, spill, told};
+use crate::sectors::{put, sector};
 use recovery::OpenFault;
 use sector_disk::{Fate, MemoryDisk};
 use shadow::open;

@@ -1,6 +1,7 @@
 // What is read whole of an image, by readings that all give the same.
 use crate::assertions::{Assert, assert_same};
-use crate::layout_3::images::{blank, sector};
+use crate::layout_3::images::blank;
+use crate::sectors::sector;
 use image_care::{StillReadings, read_whole};
 use sector_disk::FileFault;
 use std::alloc::Global;

@@ -1,6 +1,7 @@
 // What can be had of damaged images is salvaged.
 use crate::assertions::{Assert, assert_same};
-use crate::layout_3::saved_images::{change, put, saved, sector, since, stopped};
+use crate::layout_3::saved_images::{change, saved, since, stopped};
+use crate::sectors::{put, sector};
 use image_care::{Taken, read_block, salvage};
 use journal::layout::is_listed;
 use recovery::{OpenFault, UpgradeFault};

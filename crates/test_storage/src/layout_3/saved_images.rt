@@ -1,4 +1,5 @@
 // Images of 32 blocks that the tests put together, and what they hold.
+use crate::sectors::{put, sector};
 use journal::Store;
 use sector_disk::{Counts, Fate, MemoryDisk, SectorDevice};
 use shadow::format;
@@ -7,29 +8,6 @@ use std::test::Fail;
 
 /// How many sectors an image of 32 blocks has.
 pub(crate) const SECTORS: u32 = 544;
-
-/// A sector's bytes, or an error where there is no such sector or it can't be read.
-pub(crate) fn sector<D: SectorDevice>(disk: &mut D, k: u32) -> Result<[u8; 512], &'static str> {
-    let mut bytes = [0; 512];
-    if k >= disk.sectors() {
-        return Err("no such sector");
-    }
-    match disk.read(k, &mut bytes) {
-        Ok(()) => Ok(bytes),
-        Err(_) => Err("read failed"),
-    }
-}
-
-pub(crate) fn put<D: SectorDevice>(
-    disk: &mut D,
-    k: u32,
-    bytes: &[u8; 512],
-) -> Result<(), &'static str> {
-    if k >= disk.sectors() {
-        return Err("no sector to write");
-    }
-    disk.write(k, bytes).map_err(|_| "write failed")
-}
 
 /// Changes one byte of a sector.
 pub(crate) fn change(

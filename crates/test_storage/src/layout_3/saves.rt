@@ -1,6 +1,7 @@
 // A save on a disk whose sectors lie in units of eight: what it writes, and what a stop leaves of it.
 use crate::assertions::{Assert, assert_same};
-use crate::layout_3::images::{blank, hex, opened, sector, spill, told};
+use crate::layout_3::images::{blank, hex, opened, spill, told};
+use crate::sectors::sector;
 use journal::Store;
 use sector_disk::{Fate, Fused, MemoryDisk, SectorDevice};
 use std::alloc::Global;

@@ -1,7 +1,8 @@
 // Upgrades of images of layout 1 and 2: what is refused, what is written, and what a stop leaves of both images.
 use crate::assertions::{Assert, assert_same};
-use crate::layout_3::images::{blank, opened, put, sector, spill, told};
+use crate::layout_3::images::{blank, opened, spill, told};
 use crate::layout_3::openings::refusal;
+use crate::sectors::{put, sector};
 use recovery::{OpenFault, UpgradeFault};
 use sector_disk::{Fate, Fused, MemoryDisk, SectorDevice};
 use shadow::upgrade;

@@ -1,4 +1,4 @@
-//! Sectors for tests.
+//! Sectors of a device, read and written by tests.
 use sector_disk::SectorDevice;
 
 /// A sector's bytes, or an error where there is no such sector or it can't be read.
