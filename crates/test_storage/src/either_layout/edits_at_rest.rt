@@ -4,7 +4,7 @@
 use crate::assertions::{Assert, assert_same};
 use crate::either_layout::saves::made;
 use crate::sectors::{put, sector};
-use image_care::examine;
+use image_care::{Examined, examine};
 use journal::Store;
 use recovery::OpenFault;
 use sector_disk::MemoryDisk;
@@ -38,10 +38,10 @@ fn saved(
     Ok(store.into_device())
 }
 
-// The digest of an image's blocks, and whether the gate is of its record; or why it isn't opened.
-fn look_at(disk: &mut MemoryDisk) -> Result<([u8; 32], bool), &'static str> {
+// What an examination tells, or why the image isn't opened.
+fn look_at(disk: &mut MemoryDisk) -> Result<Examined, &'static str> {
     match examine(disk) {
-        Ok(held) => Ok((held.digest, held.gate_fits)),
+        Ok(held) => Ok(held),
         Err(OpenFault::BadSize) => Err("bad size"),
         Err(OpenFault::NoLabel) => Err("no label"),
         Err(OpenFault::OtherVersion) => Err("other version"),
@@ -52,18 +52,20 @@ fn look_at(disk: &mut MemoryDisk) -> Result<([u8; 32], bool), &'static str> {
 }
 
 fn digest_of(disk: &mut MemoryDisk) -> Result<[u8; 32], &'static str> {
-    let (digest, _) = look_at(disk)?;
-    Ok(digest)
+    let held = look_at(disk)?;
+    Ok(held.digest)
 }
 
 // What an opening finds: why it refuses the image, or whether its blocks are those of this digest; and then whether an examination tells that a save may be
 // lost.
 fn found(disk: &mut MemoryDisk, digest: &[u8; 32]) -> &'static str {
     match look_at(disk) {
-        Ok((held, true)) if held == *digest => "same",
-        Ok((held, false)) if held == *digest => "same, told",
-        Ok((_, true)) => "other",
-        Ok((_, false)) => "other, told",
+        Ok(held) => match (held.digest == *digest, held.gate_fits) {
+            (true, true) => "same",
+            (true, false) => "same, told",
+            (false, true) => "other",
+            (false, false) => "other, told",
+        },
         Err(told) => told,
     }
 }
