@@ -6,7 +6,7 @@ use Rattle.std.specs.Prelude.{option_map, true, Box}
 use Rattle.std.specs.Box.{box_value}
 use Rattle.clap.specs.declared.parser.matches.ArgMatches.TheViews.{out-ArgMatches, out-SubCommand}
 use Rattle.clap.specs.declared.parser.matches.SubCommand.{SubCommand}
-use Rattle.clap.specs.Words.{App, HasMatchesOf, ReadsOne, Row, Text, found_of, is_simple, one_text, first_value, rows_of, subcommand_name_of, subcommand_of, subcommand_rows, subcommand_rows_of}
+use Rattle.clap.specs.Words.{ReadsOne, Row, Text, found_of, one_text, first_value, rows_of, subcommand_name_of, subcommand_rows, subcommand_rows_of}
 use Rattle.command_line.specs.declared.orders.Order.{Order}
 use Rattle.command_line.specs.declared.orders.Order.TheVariants.{Memory}
 use Rattle.clap.specs.declared.parser.matches.ArgMatches.{ArgMatches}
@@ -67,17 +67,12 @@ pair_mapped (Some p) name rows is at =
     let two : p.1 ≡ rows = cc in
     λ i. Some (one i, two i)
 
-module _ (command app : App) (same : command ≡ app) (simple : is_simple app ≡ true) (words : List Text) (m : ArgMatches) (has : HasMatchesOf command words m) where
-  met : subcommand_rows_of m ≡ subcommand_of app words
-  met = subst (λ (a : App). is_simple a ≡ true → subcommand_rows_of m ≡ subcommand_of a words) same (λ s. (has s).1) simple
+pub none_given : (m : ArgMatches) → None ≡ option_map (λ (p : Text × List Row). p.1) (subcommand_rows_of m) → Orders (subcommand_rows_of m) Memory
+none_given m is = subst (λ o. Orders o Memory) (sym (none_mapped (λ p. p.1) (subcommand_rows_of m) (sym is))) tt
 
-  pub none_given : None ≡ option_map (λ (p : Text × List Row). p.1) (subcommand_rows_of m) → Orders (subcommand_of app words) Memory
-  none_given is = subst (λ o. Orders o Memory) met (subst (λ o. Orders o Memory) (sym (none_mapped (λ p. p.1) (subcommand_rows_of m) (sym is))) tt)
-
-  pub order_given : (name : Text) (rows : List Row) (order : Order) → option_map (λ (p : Text × List Row). p.0) (subcommand_rows_of m) ≡ Some name
-      → option_map (λ (p : Text × List Row). p.1) (subcommand_rows_of m) ≡ Some rows → Orders (Some (name, rows)) order → Orders (subcommand_of app words) order
-  order_given name rows order is at orders =
-      subst (λ o. Orders o order) met (subst (λ o. Orders o order) (sym (pair_mapped (subcommand_rows_of m) name rows is at)) orders)
+pub order_given : (m : ArgMatches) (name : Text) (rows : List Row) (order : Order) → option_map (λ (p : Text × List Row). p.0) (subcommand_rows_of m) ≡ Some name
+    → option_map (λ (p : Text × List Row). p.1) (subcommand_rows_of m) ≡ Some rows → Orders (Some (name, rows)) order → Orders (subcommand_rows_of m) order
+order_given m name rows order is at orders = subst (λ o. Orders o order) (sym (pair_mapped (subcommand_rows_of m) name rows is at)) orders
 
 -- the name of the command
 pub name_met : (m : ArgMatches) (name : Text) → Some name ≡ subcommand_name_of m → option_map (λ (p : Text × List Row). p.0) (subcommand_rows_of m) ≡ Some name

@@ -3,6 +3,7 @@
 
 pub use reading::order;
 
+mod arguments;
 pub mod laws;
 pub mod orders;
 mod reading;

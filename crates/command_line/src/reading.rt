@@ -1,13 +1,19 @@
 //! The words of a command line are read.
 //! Rule: MANUAL, Commands; MANUAL, All commands.
-ghost use Rattle.std.specs.Prelude.{◌≡◌, ◌≤◌, ℕ, List, false, Some, map, codes, IfOk, IfSome};
-ghost use Rattle.clap.specs.Words.{App, FailsBy, app_of, fault_of, found_of, rows_of, rule_of, with_subcommand};
+ghost use Rattle.std.specs.Prelude.{◌≡◌, ◌≤◌, ℕ, List, [], false, Some, map, codes, IfOk, IfSome};
+ghost use Rattle.clap.specs.Words.{App, FailsBy, Rule, app_of, fault_of, found_of, new_app, rows_of, rule_of, subcommand_rows_of, with_rule, with_subcommand};
 ghost use Rattle.clap.specs.declared.builder.command.Command.TheViews.{out-Command};
-ghost use Rattle.command_line.specs.Commands.{image, old_image, new_image, block, first_block, last_block, file, files, asked_file, asked_files, many, raw, check, strict, load, trace, blocks, steps, asked_layout, new_app_of, run_app, run_without_flags, list_app, put_app, export_app, import_app, import_without_flags, check_app, upgrade_app, program, forth83, over_blocks, ReadsAs, SufficesFor, HasFlag, HasForm, HasLayout, HasNumber, HasScript, HasText, HasTexts, Orders, IsOrderOf, IsInRange};
-ghost use Rattle.command_line.specs.Commands.{asked_blocks, copy_app, salvage_app, making, HasAsked, HasBlocks, AreInRange, diff_app, each_block, looking};
+ghost use Rattle.command_line.specs.Commands.{new_app_of, run_app, list_app, put_app, export_app, import_app, check_app, upgrade_app, program, forth83, over_blocks, ReadsAs, SufficesFor, HasFlag, HasForm, HasLayout, HasNumber, HasScript, HasText, HasTexts, Orders, IsOrderOf, IsInRange};
+ghost use Rattle.command_line.specs.Commands.{copy_app, salvage_app, making, HasAsked, HasBlocks, AreInRange, diff_app, looking};
 
+use super::arguments::{
+    asked_blocks_option, block_argument, blocks_option, check_option, each_block_option,
+    file_argument, first_argument, image_argument, last_argument, layout_option, load_option,
+    new_argument, old_argument, raw_option, script_argument, source_argument,
+    source_image_argument, steps_option, strict_option, trace_option,
+};
 use super::orders::{Form, Layout, Order, Script};
-use clap::{Arg, ArgAction, ArgMatches, Command, Error};
+use clap::{Arg, ArgMatches, Command, Error};
 use std::alloc::{AllocError, Global};
 use std::convert::AsStr;
 
@@ -30,6 +36,15 @@ pub fn order<'a, S: AsStr>(alloc: Global, words: &'a [S]) -> Result<Order<'a>, E
 {
     let mut command = command_for(alloc, words)?;
     let matches = command.try_get_matches_from_mut(words)?;
+    order_found(alloc, &matches)
+}
+
+/// The order that was found in the words. An error is want of memory.
+fn order_found<'a>(alloc: Global, matches: &ArgMatches<'a>) -> Result<Order<'a>, Error>
+    ensures given { IfOk result (λ o. Orders (subcommand_rows_of matches.now) o) }
+    ensures ranges { IfOk result (λ o. IsInRange o) }
+    ensures fits { FailsBy [] result }
+{
     let Some((name, given)) = matches.subcommand() else {
         return Ok(Order::Memory);
     };
@@ -297,385 +312,212 @@ fn form_of(given: &ArgMatches<'_>) -> Option<Form>
     }
 }
 
-fn image_argument<'a>(alloc: Global) -> Arg<'a>
-    ensures rule { rule_of result ≡ image }
-    ensures local { result.global ≡ false }
+/// A command with its first argument.
+fn command_with<'a>(
+    alloc: Global,
+    name: &'a str,
+    about: &'a str,
+    argument: Arg<'a>,
+) -> Result<Command<'a>, AllocError>
+    ensures app { (rule : Rule) → rule_of argument.entry ≡ rule → argument.entry.global ≡ false → IfOk result (λ c. app_of c ≡ with_rule (new_app name.now) rule) }
+    ensures local { argument.entry.global ≡ false → IfOk result (λ c. (out-Command c).has_globals ≡ false) }
 {
-    Arg::new(alloc, "IMAGE")
-        .required(true)
-        .action(ArgAction::Set)
-        .help("The file of the image")
+    Command::new(alloc, name).about(about).arg(argument)
 }
 
-fn old_argument<'a>(alloc: Global) -> Arg<'a>
-    ensures rule { rule_of result ≡ old_image }
-    ensures local { result.global ≡ false }
+/// Adds an argument to a command that was made, or couldn't be. (A `?` costs a proof more, the more values are there:
+/// here there are two.)
+fn with_argument<'a>(
+    made: Result<Command<'a>, AllocError>,
+    argument: Arg<'a>,
+) -> Result<Command<'a>, AllocError>
+    ensures app { (app : App) (rule : Rule) → IfOk made.entry (λ c. app_of c ≡ app) → rule_of argument.entry ≡ rule → argument.entry.global ≡ false
+        → IfOk result (λ c. app_of c ≡ with_rule app rule) }
+    ensures local { IfOk made.entry (λ c. (out-Command c).has_globals ≡ false) → argument.entry.global ≡ false
+        → IfOk result (λ c. (out-Command c).has_globals ≡ false) }
 {
-    Arg::new(alloc, "OLD")
-        .required(true)
-        .action(ArgAction::Set)
-        .help("The file of an image of an older layout")
-}
-
-fn source_image_argument<'a>(alloc: Global) -> Arg<'a>
-    ensures rule { rule_of result ≡ old_image }
-    ensures local { result.global ≡ false }
-{
-    Arg::new(alloc, "OLD")
-        .required(true)
-        .action(ArgAction::Set)
-        .help("The file of an image, which is only read")
-}
-
-fn new_argument<'a>(alloc: Global, help: &'a str) -> Arg<'a>
-    ensures rule { rule_of result ≡ new_image }
-    ensures local { result.global ≡ false }
-{
-    Arg::new(alloc, "NEW")
-        .required(true)
-        .action(ArgAction::Set)
-        .help(help)
-}
-
-fn block_argument<'a>(alloc: Global) -> Arg<'a>
-    ensures rule { rule_of result ≡ block }
-    ensures local { result.global ≡ false }
-{
-    Arg::new(alloc, "BLOCK")
-        .required(true)
-        .action(ArgAction::Set)
-        .value_parser(clap::value_parser!(u16))
-        .help("The number of the block, from 0")
-}
-
-fn first_argument<'a>(alloc: Global) -> Arg<'a>
-    ensures rule { rule_of result ≡ first_block }
-    ensures local { result.global ≡ false }
-{
-    Arg::new(alloc, "FIRST")
-        .required(true)
-        .action(ArgAction::Set)
-        .value_parser(clap::value_parser!(u16))
-        .help("The number of the first block, from 0")
-}
-
-fn last_argument<'a>(alloc: Global) -> Arg<'a>
-    ensures rule { rule_of result ≡ last_block }
-    ensures local { result.global ≡ false }
-{
-    Arg::new(alloc, "LAST")
-        .required(true)
-        .action(ArgAction::Set)
-        .value_parser(clap::value_parser!(u16))
-        .help("The number of the last block")
-}
-
-fn file_argument<'a>(alloc: Global) -> Arg<'a>
-    ensures rule { rule_of result ≡ file }
-    ensures local { result.global ≡ false }
-{
-    Arg::new(alloc, "FILE")
-        .required(true)
-        .action(ArgAction::Set)
-        .help("A text of at most 16 lines of at most 64 bytes")
-}
-
-/// An argument that takes as many values as are given.
-fn many<'a>(argument: Arg<'a>) -> Arg<'a>
-    ensures rule { rule_of result ≡ many (rule_of argument.entry) }
-    ensures local { result.global ≡ argument.entry.global }
-{
-    argument.num_args(1..)
-}
-
-fn source_argument<'a>(alloc: Global) -> Arg<'a>
-    ensures rule { rule_of result ≡ files }
-    ensures local { result.global ≡ false }
-{
-    many(file_argument(alloc)).help(
-        "A text of lines of at most 64 bytes, 16 for a block; each file begins a block",
-    )
-}
-
-fn asked_file_argument<'a>(alloc: Global) -> Arg<'a>
-    ensures rule { rule_of result ≡ asked_file }
-    ensures local { result.global ≡ false }
-{
-    Arg::new(alloc, "FILE").action(ArgAction::Set)
-}
-
-fn script_argument<'a>(alloc: Global) -> Arg<'a>
-    ensures rule { rule_of result ≡ asked_files }
-    ensures local { result.global ≡ false }
-{
-    many(asked_file_argument(alloc)).help(
-        "Files whose lines are run; without one those of standard input are",
-    )
-}
-
-fn load_option<'a>(alloc: Global) -> Arg<'a>
-    ensures rule { rule_of result ≡ load }
-    ensures local { result.global ≡ false }
-{
-    Arg::new(alloc, "load")
-        .long("load")
-        .value_name("BLOCK")
-        .action(ArgAction::Set)
-        .value_parser(clap::value_parser!(u16))
-        .help("Load a block before the first line")
-}
-
-fn strict_option<'a>(alloc: Global) -> Arg<'a>
-    ensures rule { rule_of result ≡ strict }
-    ensures local { result.global ≡ false }
-{
-    Arg::new(alloc, "strict")
-        .long("strict")
-        .action(ArgAction::SetTrue)
-        .help("End with the first line that a fault ended, in status 1")
-}
-
-fn blocks_option<'a>(alloc: Global) -> Arg<'a>
-    ensures rule { rule_of result ≡ blocks }
-    ensures local { result.global ≡ false }
-{
-    Arg::new(alloc, "blocks")
-        .long("blocks")
-        .value_name("N")
-        .required(true)
-        .action(ArgAction::Set)
-        .value_parser(clap::value_parser!(u16).range(32..=3840))
-        .help("How many blocks the image has, 32 to 3840")
-}
-
-/// `--blocks` where it may be left out.
-fn asked_blocks_option<'a>(alloc: Global, help: &'a str) -> Arg<'a>
-    ensures rule { rule_of result ≡ asked_blocks }
-    ensures local { result.global ≡ false }
-{
-    Arg::new(alloc, "blocks")
-        .long("blocks")
-        .value_name("N")
-        .action(ArgAction::Set)
-        .value_parser(clap::value_parser!(u16).range(32..=3840))
-        .help(help)
-}
-
-fn layout_option<'a>(alloc: Global, help: &'a str) -> Arg<'a>
-    ensures rule { rule_of result ≡ asked_layout }
-    ensures local { result.global ≡ false }
-{
-    Arg::new(alloc, "layout")
-        .long("layout")
-        .value_name("L")
-        .action(ArgAction::Set)
-        .value_parser(clap::value_parser!(u16).range(2..=3))
-        .default_value("2")
-        .help(help)
-}
-
-fn steps_option<'a>(alloc: Global) -> Arg<'a>
-    ensures rule { rule_of result ≡ steps }
-    ensures local { result.global ≡ false }
-{
-    Arg::new(alloc, "steps")
-        .long("steps")
-        .value_name("S")
-        .action(ArgAction::Set)
-        .value_parser(clap::value_parser!(u32).range(1..=1_000_000_000))
-        .default_value("1000000")
-        .help("How many steps a line may take, 1 to 1000000000")
-}
-
-fn raw_option<'a>(alloc: Global) -> Arg<'a>
-    ensures rule { rule_of result ≡ raw }
-    ensures local { result.global ≡ false }
-{
-    Arg::new(alloc, "raw")
-        .long("raw")
-        .action(ArgAction::SetTrue)
-        .help("Blocks as they are, 1024 bytes each")
-}
-
-fn check_option<'a>(alloc: Global) -> Arg<'a>
-    ensures rule { rule_of result ≡ check }
-    ensures local { result.global ≡ false }
-{
-    Arg::new(alloc, "check")
-        .long("check")
-        .action(ArgAction::SetTrue)
-        .help("Tell what looks wrong in FILE, and write nothing")
-}
-
-fn each_block_option<'a>(alloc: Global) -> Arg<'a>
-    ensures rule { rule_of result ≡ each_block }
-    ensures local { result.global ≡ false }
-{
-    Arg::new(alloc, "blocks")
-        .long("blocks")
-        .action(ArgAction::SetTrue)
-        .help("Tell number and SHA-256 of each block instead")
-}
-
-fn trace_option<'a>(alloc: Global) -> Arg<'a>
-    ensures rule { rule_of result ≡ trace }
-    ensures local { result.global ≡ false }
-{
-    Arg::new(alloc, "trace")
-        .long("trace")
-        .action(ArgAction::SetTrue)
-        .help("Tell on standard error where a fault ended a line")
+    made?.arg(argument)
 }
 
 fn new_command<'a>(alloc: Global) -> Result<Command<'a>, AllocError>
     ensures app { IfOk result (λ c. app_of c ≡ new_app_of) }
     ensures local { IfOk result (λ c. (out-Command c).has_globals ≡ false) }
 {
-    Command::new(alloc, "new")
-        .about("Make an image of blank blocks, in a new file")
-        .arg(image_argument(alloc))?
-        .arg(blocks_option(alloc))?
-        .arg(layout_option(alloc, "The layout of the image, 2 or 3"))
-}
-
-/// `run` without its flags.
-fn run_arguments<'a>(alloc: Global) -> Result<Command<'a>, AllocError>
-    ensures app { IfOk result (λ c. app_of c ≡ run_without_flags) }
-    ensures local { IfOk result (λ c. (out-Command c).has_globals ≡ false) }
-{
-    Command::new(alloc, "run")
-        .about("Run the lines of files, or of standard input, over an image")
-        .arg(image_argument(alloc))?
-        .arg(script_argument(alloc))?
-        .arg(load_option(alloc))?
-        .arg(steps_option(alloc))
+    let command = command_with(
+        alloc,
+        "new",
+        "Make an image of blank blocks, in a new file",
+        image_argument(alloc),
+    );
+    let command = with_argument(command, blocks_option(alloc));
+    with_argument(
+        command,
+        layout_option(alloc, "The layout of the image, 2 or 3"),
+    )
 }
 
 fn run_command<'a>(alloc: Global) -> Result<Command<'a>, AllocError>
     ensures app { IfOk result (λ c. app_of c ≡ run_app) }
     ensures local { IfOk result (λ c. (out-Command c).has_globals ≡ false) }
 {
-    run_arguments(alloc)?
-        .arg(strict_option(alloc))?
-        .arg(trace_option(alloc))
+    let command = command_with(
+        alloc,
+        "run",
+        "Run the lines of files, or of standard input, over an image",
+        image_argument(alloc),
+    );
+    let command = with_argument(command, script_argument(alloc));
+    let command = with_argument(command, load_option(alloc));
+    let command = with_argument(command, steps_option(alloc));
+    let command = with_argument(command, strict_option(alloc));
+    with_argument(command, trace_option(alloc))
 }
 
 fn list_command<'a>(alloc: Global) -> Result<Command<'a>, AllocError>
     ensures app { IfOk result (λ c. app_of c ≡ list_app) }
     ensures local { IfOk result (λ c. (out-Command c).has_globals ≡ false) }
 {
-    Command::new(alloc, "list")
-        .about("Print a block as 16 lines of 64 characters")
-        .arg(image_argument(alloc))?
-        .arg(block_argument(alloc))
+    let command = command_with(
+        alloc,
+        "list",
+        "Print a block as 16 lines of 64 characters",
+        image_argument(alloc),
+    );
+    with_argument(command, block_argument(alloc))
 }
 
 fn put_command<'a>(alloc: Global) -> Result<Command<'a>, AllocError>
     ensures app { IfOk result (λ c. app_of c ≡ put_app) }
     ensures local { IfOk result (λ c. (out-Command c).has_globals ≡ false) }
 {
-    Command::new(alloc, "put")
-        .about("Make the lines of a file a block of an image")
-        .arg(image_argument(alloc))?
-        .arg(block_argument(alloc))?
-        .arg(file_argument(alloc))
+    let command = command_with(
+        alloc,
+        "put",
+        "Make the lines of a file a block of an image",
+        image_argument(alloc),
+    );
+    let command = with_argument(command, block_argument(alloc));
+    with_argument(command, file_argument(alloc))
 }
 
 fn export_command<'a>(alloc: Global) -> Result<Command<'a>, AllocError>
     ensures app { IfOk result (λ c. app_of c ≡ export_app) }
     ensures local { IfOk result (λ c. (out-Command c).has_globals ≡ false) }
 {
-    Command::new(alloc, "export")
-        .about("Print blocks as 16 lines each")
-        .arg(image_argument(alloc))?
-        .arg(first_argument(alloc))?
-        .arg(last_argument(alloc))?
-        .arg(raw_option(alloc))
-}
-
-/// `import` without its flags.
-fn import_arguments<'a>(alloc: Global) -> Result<Command<'a>, AllocError>
-    ensures app { IfOk result (λ c. app_of c ≡ import_without_flags) }
-    ensures local { IfOk result (λ c. (out-Command c).has_globals ≡ false) }
-{
-    Command::new(alloc, "import")
-        .about("Make the lines of files blocks of an image, in one save")
-        .arg(image_argument(alloc))?
-        .arg(first_argument(alloc))?
-        .arg(source_argument(alloc))
+    let command = command_with(
+        alloc,
+        "export",
+        "Print blocks as 16 lines each",
+        image_argument(alloc),
+    );
+    let command = with_argument(command, first_argument(alloc));
+    let command = with_argument(command, last_argument(alloc));
+    with_argument(command, raw_option(alloc))
 }
 
 fn import_command<'a>(alloc: Global) -> Result<Command<'a>, AllocError>
     ensures app { IfOk result (λ c. app_of c ≡ import_app) }
     ensures local { IfOk result (λ c. (out-Command c).has_globals ≡ false) }
 {
-    import_arguments(alloc)?
-        .arg(raw_option(alloc))?
-        .arg(check_option(alloc))
+    let command = command_with(
+        alloc,
+        "import",
+        "Make the lines of files blocks of an image, in one save",
+        image_argument(alloc),
+    );
+    let command = with_argument(command, first_argument(alloc));
+    let command = with_argument(command, source_argument(alloc));
+    let command = with_argument(command, raw_option(alloc));
+    with_argument(command, check_option(alloc))
 }
 
 fn check_command<'a>(alloc: Global) -> Result<Command<'a>, AllocError>
     ensures app { IfOk result (λ c. app_of c ≡ check_app) }
     ensures local { IfOk result (λ c. (out-Command c).has_globals ≡ false) }
 {
-    Command::new(alloc, "check")
-        .about("Tell what an image holds, by reading alone")
-        .arg(image_argument(alloc))?
-        .arg(each_block_option(alloc))
+    let command = command_with(
+        alloc,
+        "check",
+        "Tell what an image holds, by reading alone",
+        image_argument(alloc),
+    );
+    with_argument(command, each_block_option(alloc))
 }
 
 fn diff_command<'a>(alloc: Global) -> Result<Command<'a>, AllocError>
     ensures app { IfOk result (λ c. app_of c ≡ diff_app) }
     ensures local { IfOk result (λ c. (out-Command c).has_globals ≡ false) }
 {
-    Command::new(alloc, "diff")
-        .about("Tell in which lines the blocks of two images differ, by reading alone")
-        .arg(source_image_argument(alloc))?
-        .arg(new_argument(alloc, "The file of another image, which is only read too"))
+    let command = command_with(
+        alloc,
+        "diff",
+        "Tell in which lines the blocks of two images differ, by reading alone",
+        source_image_argument(alloc),
+    );
+    with_argument(
+        command,
+        new_argument(alloc, "The file of another image, which is only read too"),
+    )
 }
 
 fn upgrade_command<'a>(alloc: Global) -> Result<Command<'a>, AllocError>
     ensures app { IfOk result (λ c. app_of c ≡ upgrade_app) }
     ensures local { IfOk result (λ c. (out-Command c).has_globals ≡ false) }
 {
-    Command::new(alloc, "upgrade")
-        .about("Make an image of layout 2 or 3, in a new file, of the blocks of an older one")
-        .arg(old_argument(alloc))?
-        .arg(new_argument(alloc, MADE))?
-        .arg(layout_option(
+    let command = command_with(
+        alloc,
+        "upgrade",
+        "Make an image of layout 2 or 3, in a new file, of the blocks of an older one",
+        old_argument(alloc),
+    );
+    let command = with_argument(command, new_argument(alloc, MADE));
+    with_argument(
+        command,
+        layout_option(
             alloc,
             "The layout of the new image: 2, of one of layout 1, or 3, of one of layout 1 or 2",
-        ))
+        ),
+    )
 }
 
 fn copy_command<'a>(alloc: Global) -> Result<Command<'a>, AllocError>
     ensures app { IfOk result (λ c. app_of c ≡ copy_app) }
     ensures local { IfOk result (λ c. (out-Command c).has_globals ≡ false) }
 {
-    Command::new(alloc, "copy")
-        .about("Make an image, in a new file, of the blocks of another one")
-        .arg(source_image_argument(alloc))?
-        .arg(new_argument(alloc, MADE))?
-        .arg(asked_blocks_option(
+    let command = command_with(
+        alloc,
+        "copy",
+        "Make an image, in a new file, of the blocks of another one",
+        source_image_argument(alloc),
+    );
+    let command = with_argument(command, new_argument(alloc, MADE));
+    with_argument(
+        command,
+        asked_blocks_option(
             alloc,
             "How many blocks the new image has, as many as OLD to 3840; without it as many as OLD",
-        ))
+        ),
+    )
 }
 
 fn salvage_command<'a>(alloc: Global) -> Result<Command<'a>, AllocError>
     ensures app { IfOk result (λ c. app_of c ≡ salvage_app) }
     ensures local { IfOk result (λ c. (out-Command c).has_globals ≡ false) }
 {
-    Command::new(alloc, "salvage")
-        .about(
-            "Make an image, in a new file, of what can be had of a damaged one. This is no recovery",
-        )
-        .arg(source_image_argument(alloc))?
-        .arg(new_argument(alloc, MADE))?
-        .arg(asked_blocks_option(
+    let command = command_with(
+        alloc,
+        "salvage",
+        "Make an image, in a new file, of what can be had of a damaged one. This is no recovery",
+        source_image_argument(alloc),
+    );
+    let command = with_argument(command, new_argument(alloc, MADE));
+    with_argument(
+        command,
+        asked_blocks_option(
             alloc,
             "How many blocks OLD has: it is refused if it has not so many",
-        ))
+        ),
+    )
 }
 
 /// The program with the commands that these words may be for: only one, where the second word is its name. Each command
@@ -694,71 +536,81 @@ fn command_named<'a>(alloc: Global, name: &str) -> Result<Command<'a>, AllocErro
     ensures { IfOk result (λ c. SufficesFor (app_of c) name.now) }
 {
     match name {
-        "new" => alone(alloc, new_command(alloc)?),
-        "run" => alone(alloc, run_command(alloc)?),
-        "list" => alone(alloc, list_command(alloc)?),
-        "put" => alone(alloc, put_command(alloc)?),
-        "export" => alone(alloc, export_command(alloc)?),
-        "import" => alone(alloc, import_command(alloc)?),
-        "check" => alone(alloc, check_command(alloc)?),
-        "diff" => alone(alloc, diff_command(alloc)?),
-        "upgrade" => alone(alloc, upgrade_command(alloc)?),
-        "copy" => alone(alloc, copy_command(alloc)?),
-        "salvage" => alone(alloc, salvage_command(alloc)?),
+        "new" => alone(alloc, new_command(alloc)),
+        "run" => alone(alloc, run_command(alloc)),
+        "list" => alone(alloc, list_command(alloc)),
+        "put" => alone(alloc, put_command(alloc)),
+        "export" => alone(alloc, export_command(alloc)),
+        "import" => alone(alloc, import_command(alloc)),
+        "check" => alone(alloc, check_command(alloc)),
+        "diff" => alone(alloc, diff_command(alloc)),
+        "upgrade" => alone(alloc, upgrade_command(alloc)),
+        "copy" => alone(alloc, copy_command(alloc)),
+        "salvage" => alone(alloc, salvage_command(alloc)),
         _ => forth83(alloc),
     }
 }
 
-/// The program with one command.
-fn alone<'a>(alloc: Global, command: Command<'a>) -> Result<Command<'a>, AllocError>
-    requires { (out-Command command).has_globals ≡ false }
-    ensures { IfOk result (λ c. app_of c ≡ with_subcommand program (app_of command.entry).top) }
-{
-    program(alloc).subcommand(command)
-}
-
-/// Adds a command that was made, or couldn't be. (A `?` costs a proof more, the more values are there: here there are
-/// two.)
-fn with_command<'a>(
-    command: Command<'a>,
+/// The program with one command that was made, or couldn't be.
+fn alone<'a>(
+    alloc: Global,
     made: Result<Command<'a>, AllocError>,
 ) -> Result<Command<'a>, AllocError>
-    ensures app { (app : App) → IfOk made.entry (λ c. app_of c ≡ app) → IfOk made.entry (λ c. (out-Command c).has_globals ≡ false)
-        → IfOk result (λ c. app_of c ≡ with_subcommand (app_of command.entry) app.top) }
-    ensures local { (out-Command command.entry).has_globals ≡ false → IfOk made.entry (λ c. (out-Command c).has_globals ≡ false)
+    ensures { (app : App) → IfOk made.entry (λ c. app_of c ≡ app) → IfOk made.entry (λ c. (out-Command c).has_globals ≡ false)
+        → IfOk result (λ c. app_of c ≡ with_subcommand program app.top) }
+{
+    with_command(Ok(program(alloc)), made)
+}
+
+/// Adds a command. Each of the two was made, or couldn't be.
+fn with_command<'a>(
+    command: Result<Command<'a>, AllocError>,
+    made: Result<Command<'a>, AllocError>,
+) -> Result<Command<'a>, AllocError>
+    ensures app { (before app : App) → IfOk command.entry (λ c. app_of c ≡ before) → IfOk made.entry (λ c. app_of c ≡ app)
+        → IfOk made.entry (λ c. (out-Command c).has_globals ≡ false) → IfOk result (λ c. app_of c ≡ with_subcommand before app.top) }
+    ensures local { IfOk command.entry (λ c. (out-Command c).has_globals ≡ false) → IfOk made.entry (λ c. (out-Command c).has_globals ≡ false)
         → IfOk result (λ c. (out-Command c).has_globals ≡ false) }
 {
-    command.subcommand(made?)
+    command?.subcommand(made?)
 }
 
 /// Adds the commands over the blocks of an image.
-fn with_blocks<'a>(alloc: Global, command: Command<'a>) -> Result<Command<'a>, AllocError>
-    ensures app { IfOk result (λ c. app_of c ≡ over_blocks (app_of command.entry)) }
-    ensures local { (out-Command command.entry).has_globals ≡ false → IfOk result (λ c. (out-Command c).has_globals ≡ false) }
+fn with_blocks<'a>(
+    alloc: Global,
+    command: Result<Command<'a>, AllocError>,
+) -> Result<Command<'a>, AllocError>
+    ensures app { (before : App) → IfOk command.entry (λ c. app_of c ≡ before) → IfOk result (λ c. app_of c ≡ over_blocks before) }
+    ensures local { IfOk command.entry (λ c. (out-Command c).has_globals ≡ false) → IfOk result (λ c. (out-Command c).has_globals ≡ false) }
 {
-    let command = with_command(command, list_command(alloc))?;
-    let command = with_command(command, put_command(alloc))?;
-    let command = with_command(command, export_command(alloc))?;
+    let command = with_command(command, list_command(alloc));
+    let command = with_command(command, put_command(alloc));
+    let command = with_command(command, export_command(alloc));
     with_command(command, import_command(alloc))
 }
 
 /// Adds the commands that look at images.
-fn with_lookers<'a>(alloc: Global, command: Command<'a>) -> Result<Command<'a>, AllocError>
-    ensures app { IfOk result (λ c. app_of c ≡ looking (app_of command.entry)) }
-    ensures local { (out-Command command.entry).has_globals ≡ false → IfOk result (λ c. (out-Command c).has_globals ≡ false) }
+fn with_lookers<'a>(
+    alloc: Global,
+    command: Result<Command<'a>, AllocError>,
+) -> Result<Command<'a>, AllocError>
+    ensures app { (before : App) → IfOk command.entry (λ c. app_of c ≡ before) → IfOk result (λ c. app_of c ≡ looking before) }
+    ensures local { IfOk command.entry (λ c. (out-Command c).has_globals ≡ false) → IfOk result (λ c. (out-Command c).has_globals ≡ false) }
 {
-    command
-        .subcommand(check_command(alloc)?)?
-        .subcommand(diff_command(alloc)?)
+    let command = with_command(command, check_command(alloc));
+    with_command(command, diff_command(alloc))
 }
 
 /// Adds the commands that make an image of another one.
-fn with_makers<'a>(alloc: Global, command: Command<'a>) -> Result<Command<'a>, AllocError>
-    ensures app { IfOk result (λ c. app_of c ≡ making (app_of command.entry)) }
-    ensures local { (out-Command command.entry).has_globals ≡ false → IfOk result (λ c. (out-Command c).has_globals ≡ false) }
+fn with_makers<'a>(
+    alloc: Global,
+    command: Result<Command<'a>, AllocError>,
+) -> Result<Command<'a>, AllocError>
+    ensures app { (before : App) → IfOk command.entry (λ c. app_of c ≡ before) → IfOk result (λ c. app_of c ≡ making before) }
+    ensures local { IfOk command.entry (λ c. (out-Command c).has_globals ≡ false) → IfOk result (λ c. (out-Command c).has_globals ≡ false) }
 {
-    let command = with_command(command, upgrade_command(alloc))?;
-    let command = with_command(command, copy_command(alloc))?;
+    let command = with_command(command, upgrade_command(alloc));
+    let command = with_command(command, copy_command(alloc));
     with_command(command, salvage_command(alloc))
 }
 
@@ -766,10 +618,9 @@ fn forth83<'a>(alloc: Global) -> Result<Command<'a>, AllocError>
     ensures app { IfOk result (λ c. app_of c ≡ forth83) }
     ensures local { IfOk result (λ c. (out-Command c).has_globals ≡ false) }
 {
-    let command = program(alloc)
-        .subcommand(new_command(alloc)?)?
-        .subcommand(run_command(alloc)?)?;
-    let command = with_lookers(alloc, with_blocks(alloc, command)?)?;
+    let command = with_command(Ok(program(alloc)), new_command(alloc));
+    let command = with_command(command, run_command(alloc));
+    let command = with_lookers(alloc, with_blocks(alloc, command));
     with_makers(alloc, command)
 }
 

@@ -1,21 +1,15 @@
-use Rattle.std.proofs.Common.{◌∙◌, ap}
-use Rattle.std.proofs.lemmas.Result.{IfOk-weaker}
-use Rattle.clap.specs.Simple.{app_of_fields}
-use Rattle.command_line.proofs.Building.{no_globals, with_argument}
 use Rattle.command_line.proofs.reading.export_command.Goals as goal
 
 pub returns-clause-app : goal.returns-clause-app
 returns-clause-app c =
-    let begun = ap app_of_fields c.about.ensures ∙ c.new.ensures.app in
-    let one = with_argument c.in_ok-arg.ensures c.image_argument.ensures.rule c.image_argument.ensures.local begun in
-    let two = with_argument c.in_ok-arg-2.ensures c.first_argument.ensures.rule c.first_argument.ensures.local one in
-    let three = with_argument c.in_ok-arg-3.ensures c.last_argument.ensures.rule c.last_argument.ensures.local two in
-    IfOk-weaker c.arg-4.result _ _ (λ command adds. with_argument adds c.raw_option.ensures.rule c.raw_option.ensures.local three) c.arg-4.ensures
+    let one = c.command_with-command.ensures.app _ c.image_argument.ensures.rule c.image_argument.ensures.local in
+    let two = c.with_argument-command.ensures.app _ _ one c.first_argument.ensures.rule c.first_argument.ensures.local in
+    let three = c.with_argument-command-2.ensures.app _ _ two c.last_argument.ensures.rule c.last_argument.ensures.local in
+    c.with_argument.ensures.app _ _ three c.raw_option.ensures.rule c.raw_option.ensures.local
 
 pub returns-clause-local : goal.returns-clause-local
 returns-clause-local c =
-    let begun = ap (λ f. f.has_globals) c.about.ensures ∙ c.new.ensures.local in
-    let one = no_globals c.in_ok-arg.ensures c.image_argument.ensures.local begun in
-    let two = no_globals c.in_ok-arg-2.ensures c.first_argument.ensures.local one in
-    let three = no_globals c.in_ok-arg-3.ensures c.last_argument.ensures.local two in
-    IfOk-weaker c.arg-4.result _ _ (λ command adds. no_globals adds c.raw_option.ensures.local three) c.arg-4.ensures
+    let one = c.command_with-command.ensures.local c.image_argument.ensures.local in
+    let two = c.with_argument-command.ensures.local one c.first_argument.ensures.local in
+    let three = c.with_argument-command-2.ensures.local two c.last_argument.ensures.local in
+    c.with_argument.ensures.local three c.raw_option.ensures.local

@@ -1,19 +1,13 @@
-use Rattle.std.proofs.Common.{◌∙◌, ap}
-use Rattle.std.proofs.lemmas.Result.{IfOk-weaker}
-use Rattle.clap.specs.Simple.{app_of_fields}
-use Rattle.command_line.proofs.Building.{no_globals, with_argument}
 use Rattle.command_line.proofs.reading.salvage_command.Goals as goal
 
 pub returns-clause-app : goal.returns-clause-app
 returns-clause-app c =
-    let begun = ap app_of_fields c.about.ensures ∙ c.new.ensures.app in
-    let one = with_argument c.in_ok-arg.ensures c.source_image_argument.ensures.rule c.source_image_argument.ensures.local begun in
-    let two = with_argument c.in_ok-arg-2.ensures c.new_argument.ensures.rule c.new_argument.ensures.local one in
-    IfOk-weaker c.arg-3.result _ _ (λ command adds. with_argument adds c.asked_blocks_option.ensures.rule c.asked_blocks_option.ensures.local two) c.arg-3.ensures
+    let one = c.command_with-command.ensures.app _ c.source_image_argument.ensures.rule c.source_image_argument.ensures.local in
+    let two = c.with_argument-command.ensures.app _ _ one c.new_argument.ensures.rule c.new_argument.ensures.local in
+    c.with_argument.ensures.app _ _ two c.asked_blocks_option.ensures.rule c.asked_blocks_option.ensures.local
 
 pub returns-clause-local : goal.returns-clause-local
 returns-clause-local c =
-    let begun = ap (λ f. f.has_globals) c.about.ensures ∙ c.new.ensures.local in
-    let one = no_globals c.in_ok-arg.ensures c.source_image_argument.ensures.local begun in
-    let two = no_globals c.in_ok-arg-2.ensures c.new_argument.ensures.local one in
-    IfOk-weaker c.arg-3.result _ _ (λ command adds. no_globals adds c.asked_blocks_option.ensures.local two) c.arg-3.ensures
+    let one = c.command_with-command.ensures.local c.source_image_argument.ensures.local in
+    let two = c.with_argument-command.ensures.local one c.new_argument.ensures.local in
+    c.with_argument.ensures.local two c.asked_blocks_option.ensures.local

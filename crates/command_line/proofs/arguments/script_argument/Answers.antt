@@ -1,7 +1,7 @@
 use Rattle.std.proofs.Common.{◌∙◌, ap}
 use Rattle.clap.specs.Words.{rule_of}
 use Rattle.command_line.specs.Commands.{many}
-use Rattle.command_line.proofs.reading.script_argument.Goals as goal
+use Rattle.command_line.proofs.arguments.script_argument.Goals as goal
 
 pub returns-clause-rule : goal.returns-clause-rule
 returns-clause-rule c = ap rule_of c.help.ensures ∙ c.many.ensures.rule ∙ ap many c.asked_file_argument.ensures.rule
