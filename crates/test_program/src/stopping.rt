@@ -470,7 +470,6 @@ pub(crate) fn copying_is_stopped(
     let told = told_of_making(k, making.named).as_bytes();
     assert_same!(rt; left.errors.as_slice(), told, "at {k}");
     new.restart(fate);
-    old.restart(fate);
     is_none_or(rt, &files, SEVENS, k, fate)
 }
 
