@@ -1,4 +1,4 @@
 #!/bin/sh
 # Proves the program and all that it stands on, from a fresh clone, as the processors and the memory allow, and tells how far it is: see .ci/prove. It
-# leaves the program as crates/forth83/out/forth83, and the library for C as crates/embed/out/libembed.a. What is built already is taken as it is.
+# leaves the program as crates/forth83/out/forth83; `build.sh embed` the library for C as crates/embed/out/libembed.a. What is built already is taken as it is.
 exec "$(dirname "$0")/.ci/prove" "$@"
