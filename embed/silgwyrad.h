@@ -52,8 +52,8 @@ enum silgwyrad_answer {
     SILGWYRAD_NO_LABEL = 2,      /* the image has no label: it was never formatted, or a format was stopped */
     SILGWYRAD_OTHER_VERSION = 3, /* the label has another version than that of images of this size */
     SILGWYRAD_WRONG_COUNT = 4,   /* the label counts other blocks than the sectors do */
-    SILGWYRAD_DEVICE = 5,        /* a call of the device failed: open the image again by any call, as after a loss of power */
-    SILGWYRAD_DAMAGED = 6,       /* the bytes of a save that is under way, or by layout 3 of a block, aren't those that were saved */
+    SILGWYRAD_DEVICE = 5,        /* a call of the device failed: open the image again by any call that takes a device, as after a loss of power */
+    SILGWYRAD_DAMAGED = 6,       /* the bytes of a save that is under way, or by layout 3 of a block or of the record, aren't those that were saved */
     SILGWYRAD_NO_BLOCK = 7,      /* the image has no such block; the device wasn't called */
     SILGWYRAD_BAD_LENGTH = 8,    /* not 1024 bytes for each block; the device wasn't called */
     SILGWYRAD_NO_STEPS = 9,      /* a line may take no step; nothing was called */
