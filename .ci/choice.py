@@ -1,7 +1,8 @@
 """What a run of the gate tries: each edit of must-fail/, all of a crate that changed since a run that passed tried all, and of the rest a fifth, which
-goes round. Of the crates of tests it has a fifth proved, which goes round too; all of them are run each time.
+goes round. Of the crates of tests it has a fifth proved, with what only they stand on, and tries the wrong bodies of these; all tests are run each time. The
+tools' own trials come where a tool, or the kit, changed since, and else each fifth time.
 
-What the crates were in that run stands in docs/GATE.md, in a block that is read and written here: a sum of each crate's files. Where there is no
+What the crates were in that run stands in docs/GATE.md, in a block that is read and written here: a sum of each crate's files, and of the tools'. Where there is no
 such block, or it can't be read, all counts as changed. Which fifth it is goes by the number of commits, so that five commits after each other try all; where
 that isn't known, by a sum of all files.
 """
@@ -11,13 +12,16 @@ import os
 import re
 import subprocess
 
-from judging import FOLDERS, ROOT, files_below, text_of
+from crates import all_crates
+from judging import FOLDERS, ROOT, files_below, kit, text_of
 
 PAGE = f"{ROOT}/docs/GATE.md"
 FIFTHS = 5
 # what of a crate's folder its sum is of, beside its line of crates.txt
 KINDS = ("src", "specs", "proofs", *FOLDERS, "data", "pages", "stdin", "stdout", "args", "status")
 BLOCK = re.compile(r"(?<=^```record\n).*?(?=^```$)", re.M | re.S)
+# the name of the tools' sum
+TOOLS = "tools"
 # what a record says beside the sums, in this order
 HEAD = ("commit", "kit", "passed", "minutes of processor", "minutes by the clock", "processors")
 
@@ -29,6 +33,16 @@ def short_sum(*parts):
 def turn(name):
     """The fifth that a body belongs to, with its control."""
     return int(hashlib.sha256(name.encode()).hexdigest(), 16) % FIFTHS
+
+
+def is_of_tests(name):
+    """Whether a crate is there for tests alone."""
+    return name.startswith("test_")
+
+
+def name_of_kit():
+    """What the kit calls itself."""
+    return " ".join(text_of(f"{kit()}/KIT-ID").split())
 
 
 def lines_of_crates():
@@ -48,6 +62,12 @@ def sum_of_crate(name, line):
     return short_sum(line, texts)
 
 
+def sums_of(crates):
+    """The sums of crates, by their lines, and that of the tools, with the kit that they call."""
+    tools = [(os.path.basename(it), text_of(it)) for it in sorted(glob.glob(f"{ROOT}/.ci/*")) if os.path.isfile(it)]
+    return {**{name: sum_of_crate(name, line) for name, line in crates.items()}, TOOLS: short_sum(name_of_kit(), tools)}
+
+
 def git(*words):
     """What git says of this repository, or "" where this is the top of none."""
     def said(*words):
@@ -61,7 +81,7 @@ def git(*words):
 
 
 class Record:
-    """The last run that tried all wrong bodies, and passed: what the page says of it, and the sum of each crate then."""
+    """The last run that tried all wrong bodies, and passed: what the page says of it, and the sums then."""
 
     def __init__(self, head, sums):
         self.head, self.sums = head, sums
@@ -98,34 +118,42 @@ class Choice:
 
     def __init__(self, is_whole):
         crates = lines_of_crates()
-        self.is_whole, self.record = is_whole, Record.of_page()
-        self.sums = {name: sum_of_crate(name, line) for name, line in crates.items()}
+        self.is_whole, self.record, self.sums = is_whole, Record.of_page(), sums_of(crates)
         before = self.record.sums if self.record else {}
         self.changed = [it for it in crates if before.get(it) != self.sums[it]]
         self.fifth = self.number() % FIFTHS
+        self.tries_tools = is_whole or before.get(TOOLS) != self.sums[TOOLS] or not self.fifth
+        self.tests = [it for it in crates if is_of_tests(it)]
+        self.left_out = [] if is_whole else self.not_in_turn(crates)
         self.folders = {}
         for name in crates:
             for folder in FOLDERS:
                 for it in sorted(glob.glob(f"{ROOT}/crates/{name}/{folder}/*.edit")):
                     self.folders.setdefault(f"{name}/{os.path.basename(it).removesuffix('.edit')}", []).append(folder)
         self.names = [it for it in self.folders if self.tries(it)]
-        uses = {it for line in crates.values() for it in line.partition(":")[2].split()}
-        # (a static library is proved always, with what tests it has)
-        self.tests = [it for it in crates if it not in uses and "staticlib" not in crates[it].partition(":")[0] and self.holds_tests(it)]
-        self.left_out = [it for at, it in enumerate(self.tests) if not is_whole and at % FIFTHS != self.fifth]
 
     def number(self):
         """What goes up by one with each commit; or a sum of all files."""
         count = git("rev-list", "--count", "HEAD") if git("rev-parse", "--is-shallow-repository") == "false" else ""
         return int(count or git("rev-parse", "HEAD^{tree}") or short_sum(self.sums), 10 if count else 16)
 
-    def tries(self, name):
-        """Whether a body is tried, with its control."""
-        return self.is_whole or "must-fail" in self.folders[name] or name.partition("/")[0] in self.changed or turn(name) == self.fifth
+    def not_in_turn(self, crates):
+        """The crates of tests that aren't proved this time, and what only these stand on. One that nothing runs is proved each time: its proof is the test."""
+        users = {low: {it for it, line in crates.items() if low in line.partition(":")[2].split()} for low in self.tests}
+        known = all_crates()
+        are_run = [it for it in self.tests if not users[it] and (known[it].holds_tests() or known[it].is_program())]
+        left_out = {it for at, it in enumerate(are_run) if at % FIFTHS != self.fifth}
+        for it in reversed(self.tests):
+            if users[it] and users[it] <= left_out:
+                left_out.add(it)
+        return [it for it in self.tests if it in left_out]
 
-    @staticmethod
-    def holds_tests(name):
-        return any("#[test]" in text_of(it) for it in glob.glob(f"{ROOT}/crates/{name}/src/**/*.rt", recursive=True))
+    def tries(self, name):
+        """Whether a body is tried, with its control. Those of a crate of tests are tried where it is proved, so that nothing is built for them alone."""
+        crate = name.partition("/")[0]
+        if self.is_whole or crate in self.changed:
+            return True
+        return crate not in self.left_out if crate in self.tests else "must-fail" in self.folders[name] or turn(name) == self.fifth
 
     def count(self, names):
         return sum(len(self.folders[it]) for it in names)
@@ -137,21 +165,23 @@ class Choice:
             return said
         fixed = [it for it in self.names if "must-fail" in self.folders[it]]
         changed = [it for it in self.names if it not in fixed and it.partition("/")[0] in self.changed]
-        rest = len(self.names) - len(fixed) - len(changed)
+        rest = [it for it in self.names if it not in fixed and it not in changed]
         since = "the last run that tried all wrong bodies, and passed" if self.record else "one of which docs/GATE.md has no record that can be read"
         said[0] += f": {self.count(fixed)} of must-fail/, {self.count(changed)} of crates that changed, and part {self.fifth + 1} of {FIFTHS} of the rest"
         if not rest:
             said[0] = said[0].replace("the rest", "the rest, which is none")
-        said.append(f"changed since {since}: {len(self.changed)} of {len(self.sums)} crates{': ' if self.changed else ''}{' '.join(self.changed)}")
+        said.append(f"changed since {since}: {len(self.changed)} of {len(self.sums) - 1} crates{': ' if self.changed else ''}{' '.join(self.changed)}")
         proved = [it for it in self.tests if it not in self.left_out]
         said.append(f"crates of tests proved: {' '.join(proved) or 'none'}; not this time: {' '.join(self.left_out) or 'none'}")
-        if len(self.names) < len(self.folders) or self.left_out:
+        if not self.tries_tools:
+            said.append("not this time: the trials of the tools, which are as they were")
+        if len(self.names) < len(self.folders) or self.left_out or not self.tries_tools:
             said.append("`.ci/run --all` tries the rest too")
         return said
 
     def keep(self, head):
         """Writes a record of this run, unless a crate was changed meanwhile; answers whether it did."""
-        if {name: sum_of_crate(name, line) for name, line in lines_of_crates().items()} != self.sums:
+        if sums_of(lines_of_crates()) != self.sums:
             return False
         is_as_committed = not [it for it in git("status", "--porcelain").splitlines() if not it.endswith(os.path.relpath(PAGE, ROOT))]
         commit = git("rev-parse", "HEAD") or "none"
