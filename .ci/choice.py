@@ -2,8 +2,8 @@
 goes round. Of the crates of tests it has a fifth proved, with what only they stand on, and tries the wrong bodies of these; all tests are run each time. The
 tools' own trials come where a tool, or the kit, changed since, and else each fifth time.
 
-What the crates were in that run stands in docs/GATE.md, in a block that is read and written here: a sum of each crate's files, and of the tools'. Where there is no
-such block, or it can't be read, all counts as changed. Which fifth it is goes by the number of commits, so that five commits after each other try all; where
+What the crates were in that run stands in docs/GATE.md, in a block that is read and written here: a sum of each crate's files, and of the tools'. Where there
+is no such block, or it can't be read, all counts as changed. Which fifth it is goes by the number of commits, so that five commits after each other try all; where
 that isn't known, by a sum of all files.
 """
 import glob
@@ -149,11 +149,11 @@ class Choice:
         return [it for it in self.tests if it in left_out]
 
     def tries(self, name):
-        """Whether a body is tried, with its control. Those of a crate of tests are tried where it is proved, so that nothing is built for them alone."""
+        """Whether a body is tried, with its control. Those of wrong/ of a crate of tests are tried where it is proved, so that nothing is built for them alone."""
         crate = name.partition("/")[0]
-        if self.is_whole or crate in self.changed:
+        if self.is_whole or crate in self.changed or "must-fail" in self.folders[name]:
             return True
-        return crate not in self.left_out if crate in self.tests else "must-fail" in self.folders[name] or turn(name) == self.fifth
+        return crate not in self.left_out if crate in self.tests else turn(name) == self.fifth
 
     def count(self, names):
         return sum(len(self.folders[it]) for it in names)
