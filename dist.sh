@@ -25,13 +25,15 @@ grep -q "^\.TH FORTH83 1 .* \"forth83 $version\"" share/man/man1/forth83.1 ||
     { echo "dist.sh: share/man/man1/forth83.1 is of another version than $version" >&2; exit 1; }
 tree=$(mktemp -d)
 trap 'rm -rf "$tree"' EXIT
+trap 'exit 1' HUP INT TERM
 
 # A gzipped archive of what is in a folder, in which times, owners, rights and the order of names are those of no machine.
 packed() {
     find "$1" -type d -exec chmod 755 {} +
     find "$1" -type f -exec chmod 644 {} +
     find "$1" -type f \( -path '*/bin/forth83' -o -name install.sh \) -exec chmod 755 {} +
-    (cd "$1" && tar --sort=name --format=ustar --mtime=@0 --owner=0 --group=0 --numeric-owner -cf - "$2") | gzip -n -9
+    tar -C "$1" --sort=name --format=ustar --mtime=@0 --owner=0 --group=0 --numeric-owner -cf "$tree/packed" "$2"
+    gzip -n -9 < "$tree/packed"
 }
 
 # A member of an archive of ar, in which a package is: its head, what it has, and a byte where that is odd.
@@ -63,8 +65,11 @@ make_package() {
     cp share/completions/forth83.bash "$data/share/bash-completion/completions/forth83"
     cp -R README.md docs "$data/share/doc/forth83/"
     cp -R examples library share/vim share/capitals.awk "$data/share/forth83/"
+    # (where the pages' links look for them)
+    for it in examples library; do ln -s "../../forth83/$it" "$data/share/doc/forth83/$it"; done
     # (the newest version of the C library whose names it asks for)
     needed=$(grep -ao 'GLIBC_[0-9][0-9.]*' "$program" | sort -u -V | tail -n 1)
+    [ -n "$needed" ] || { echo "dist.sh: $program asks for no C library" >&2; exit 1; }
     cat > "$tree/control/control" <<END
 Package: forth83
 Version: $version

@@ -10,7 +10,7 @@ _forth83() {
     elif [ "${word:0:1}" = - ]; then
         offered=$("$program" "$command" --help 2>/dev/null | sed -n -e "$options")
     else
-        COMPREPLY=($(compgen -f -- "$word"))
+        mapfile -t COMPREPLY < <(compgen -f -- "$word")
         return
     fi
     COMPREPLY=($(compgen -W "$offered" -- "$word"))

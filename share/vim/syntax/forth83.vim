@@ -14,7 +14,7 @@ syntax keyword forth83Word , ALLOT STATE
 syntax keyword forth83Control IF ELSE THEN BEGIN UNTIL WHILE REPEAT DO LOOP +LOOP LEAVE EXIT
 syntax keyword forth83Define : ; CREATE VARIABLE CONSTANT VOCABULARY DOES> IMMEDIATE COMPILE LITERAL
 syntax keyword forth83Define ' FORGET DEFINITIONS
-syntax match forth83Define '\(^\|\s\)\@1<=\(\[\|\]\|\[COMPILE\]\|\[''\]\)\ze\(\s\|$\)'
+syntax match forth83Define +\(^\|\s\)\@1<=\(\[\|\]\|\[COMPILE\]\|\['\]\)\ze\(\s\|$\)+
 syntax match forth83Number '\(^\|\s\)\@1<=-\?\d\+\.\?\ze\(\s\|$\)'
 syntax match forth83Name '\(\(^\|\s\):\s\+\)\@<=\S\+'
 syntax region forth83Comment start='\(^\|\s\)\@1<=(\ze\(\s\|$\)' end=')'
