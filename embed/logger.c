@@ -6,6 +6,7 @@
  * new number are saved together: so at any moment the number says how many readings there are, and each of them is whole. */
 #define _DEFAULT_SOURCE
 #include <fcntl.h>
+#include <libgen.h>
 #include <stdio.h>
 #include <stdlib.h>
 #include <sys/file.h>
@@ -86,10 +87,13 @@ static uint8_t begin(void) {
     return answer;
 }
 
-/* Opens the image, or makes an empty file. The lock tells other programs that it is in use: `forth83` then runs nothing over it, and copies no half save. */
-static int open_image(const char *name) {
+/* Opens the image, or makes an empty file, whose name a loss of power may take as long as its folder wasn't synced. The lock tells other programs that it is
+ * in use: `forth83` then runs nothing over it, and copies no half save. */
+static int open_image(char *name) {
     file = open(name, O_RDWR | O_CREAT | O_CLOEXEC, 0666);
-    return file < 0 || flock(file, LOCK_EX | LOCK_NB);
+    if (file < 0 || flock(file, LOCK_EX | LOCK_NB)) return -1;
+    int folder = open(dirname(name), O_RDONLY | O_DIRECTORY | O_CLOEXEC);
+    return folder < 0 || fsync(folder) || close(folder);
 }
 
 int main(int argc, char **argv) {

@@ -26,14 +26,15 @@
  *   passed to be filled overlaps with nothing else.
  * - The host's functions write to nothing of the library's but the bytes that they were given to fill, keep no pointer, and
  *   call no function of this header. The calls come from one thread, one after another. A call that is left by longjmp is as
- *   one that a loss of power ended; one of silgwyrad_run leaves its memory taken.
+ *   one that a loss of power ended: a store that was open in it is open no more, whatever its memory says, until silgwyrad_open
+ *   opens it again. One of silgwyrad_run leaves its memory taken.
  * - A device has the sectors that the call says, of 512 bytes each, and nothing else writes to them. To keep the disk model: a
  *   read gives what was last written. A write changes no other sector; until a sync has succeeded, a loss of power may leave
  *   any bytes in it (with an image of layout 3, in each of the eight sectors of its page), and so may a write that failed. A
  *   sync that answers 0 makes all stay that was written before it, also where an earlier sync failed.
  * - A console gives each byte of its input once, in order, and then its end; where it fails, none was lost. Bytes that it answered 0 for stay
  *   written, in order; of those that it refused some may have come through.
- * - An open store is what silgwyrad_open or a later call left in its memory, or zeros, and its number is that of the same device.
+ * - An open store is what silgwyrad_open or a later call that returned left in its memory, or zeros, and its number is that of the same device.
  * - The heap of silgwyrad_run gives blocks aligned to 16 bytes. The stack has what docs/EMBEDDING.md measures: no call looks at its end. */
 #ifndef SILGWYRAD_H
 #define SILGWYRAD_H
@@ -48,7 +49,8 @@ extern "C" {
 /* What a call answers. */
 enum silgwyrad_answer {
     SILGWYRAD_DONE = 0,
-    SILGWYRAD_BAD_SIZE = 1,      /* no image has so many sectors: 3 + 4 * blocks, or by layout 3 32 + 16 * blocks, of 32 to 3840; no device call */
+    SILGWYRAD_BAD_SIZE = 1,      /* no image has so many sectors (3 + 4 * blocks, or by layout 3 32 + 16 * blocks, of 32 to 3840), or, of
+                                    silgwyrad_format, none of so many blocks; no device call */
     SILGWYRAD_NO_LABEL = 2,      /* the image has no label: it was never formatted, or a format was stopped */
     SILGWYRAD_OTHER_VERSION = 3, /* the label has another version than that of images of this size */
     SILGWYRAD_WRONG_COUNT = 4,   /* the label counts other blocks than the sectors do */
