@@ -3,9 +3,11 @@
 set -eu
 here=$(cd "$(dirname "$0")" && pwd)
 root=$(dirname "$here")
-kit=$(dirname "$(rt doc)")
+kit=$(rt doc)
+kit=${kit%/*}
 work=$(mktemp -d)
 trap 'rm -rf "$work"' EXIT
+trap 'exit 1' HUP INT TERM
 
 mkdir -p "$work/crates/bench_find/src"
 for crate in system_words dictionary; do

@@ -1,5 +1,6 @@
 #!/bin/sh
-# Measures programs by the whole program beside what else is installed: whole/, which the table of arms was chosen by, untuned/ and ported/, which it wasn't.
+# Measures programs by the whole program beside what else is installed: whole/, which the table of arms was chosen by, and untuned/ and ported/, of which one
+# half was never looked at (halves.sh).
 # Arguments: rounds of times (10 where not given; 0: instructions alone), the program (else the one that `rt run` built in crates/forth83), and the names of
 # the programs (all where none is given). Instructions are callgrind's, of each system, and exact for forth83; they want `valgrind`.
 set -eu
@@ -11,6 +12,7 @@ if [ $# -gt 2 ]; then shift 2; else set --; fi
 wanted=" $* "
 work=$(mktemp -d)
 trap 'rm -rf "$work"' EXIT
+trap 'exit 1' HUP INT TERM
 cd "$work"
 . "$here/systems.sh"
 all=$others

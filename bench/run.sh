@@ -6,9 +6,11 @@ rounds=${1:-6}
 bodies=${2:-2000}
 here=$(cd "$(dirname "$0")" && pwd)
 root=$(dirname "$here")
-kit=$(dirname "$(rt doc)")
+kit=$(rt doc)
+kit=${kit%/*}
 work=$(mktemp -d)
 trap 'rm -rf "$work"' EXIT
+trap 'exit 1' HUP INT TERM
 
 # The proved machine and the lexicon, in a repository of their own: the crates that they stand on, and a static library
 # over each. What their checks left in out/ is taken along, so that little is checked anew.

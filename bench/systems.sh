@@ -35,9 +35,11 @@ compared() {
             echo "$system $(once "$system" "$2") $(once "$system" "$3")"
         done
     done | awk -v units="$4" '
+        NF != 3 { print "no time was had of " $1 > "/dev/stderr"; lacks = 1; exit }
         !($1 in long) || $2 < long[$1] { long[$1] = $2 }
         !($1 in short) || $3 < short[$1] { short[$1] = $3 }
         END {
+            if (lacks) exit 1
             for (s in long) each[s] = (long[s] - short[s]) / units
             for (s in long) {
                 over = each["gforth-fast"] > 0 ? sprintf(", %.2f of gforth-fast", each[s] / each["gforth-fast"]) : ""

@@ -6,9 +6,10 @@ set -eu
 rounds=${1:-10}
 here=$(cd "$(dirname "$0")" && pwd)
 root=$(dirname "$here")
-program=${2:-$root/crates/forth83/out/forth83}
-work=$(mktemp -d ${3:+-p "$3"})
+program=$(realpath "${2:-$root/crates/forth83/out/forth83}")
+work=$(mktemp -d ${3:+-p "$(realpath "$3")"})
 trap 'rm -rf "$work"' EXIT
+trap 'exit 1' HUP INT TERM
 cd "$work"
 . "$here/systems.sh"
 cp image plain

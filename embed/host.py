@@ -2,6 +2,9 @@
 """Runs a Forth session, and answers what its words ask by host.scr: the time, a delay, and a lamp, which is a text here.
 
     host.py COMMAND .. < LINES          the command is a session on its standard input and output, as `forth83 run IMAGE`
+
+The reply to a line ends in ` ok` or in a fault: so a definition stands in one line, and no line runs `QUIT`, `ABORT` or `ABORT"`, whose reply has no such end.
+It ends in the session's own status.
 """
 import re
 import subprocess
@@ -46,9 +49,10 @@ def reply(session):
 def main():
     with subprocess.Popen(sys.argv[1:], stdin=subprocess.PIPE, stdout=subprocess.PIPE, bufsize=0) as session:
         for line in sys.stdin.buffer:
-            session.stdin.write(line)
+            session.stdin.write(line.rstrip(b"\n") + b"\n")
             reply(session)
         session.stdin.close()
+        sys.exit(session.wait())
 
 
 main()

@@ -5,6 +5,8 @@
 """
 import sys
 
+sys.dont_write_bytecode = True
+
 from counts import MODEL
 
 

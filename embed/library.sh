@@ -7,10 +7,11 @@ set -euo pipefail
 mkdir -p "$1"
 folder=$(cd "$1" && pwd)
 target=${2:-}
-toolchain=${TOOLCHAIN:-$(dirname "$(rt doc)")/toolchain}
+kit=$(rt doc)
+kit=${kit%/*}
+toolchain=${TOOLCHAIN:-$kit/toolchain}
 cd "$(dirname "$0")/.."
 root=$PWD
-kit=$(dirname "$(rt doc)")
 
 # The libraries that a crate of the repository names.
 named_by() { sed -n "s/^$1\( staticlib\)\{0,1\}: *//p" crates.txt; }

@@ -7,7 +7,8 @@ set -euo pipefail
 mkdir -p "$1"
 folder=$(cd "$1" && pwd)
 cd "$(dirname "$0")"
-kit=$(dirname "$(rt doc)")
+kit=$(rt doc)
+kit=${kit%/*}
 shim=$(mktemp -d)
 trap 'rm -rf "$shim"' EXIT
 
@@ -20,7 +21,7 @@ cat > "$shim/bin/clang" <<END
 #!/bin/bash
 for word in "\$@"; do
     case \$word in
-        module.bc) '$kit/toolchain/bin/clang' --no-default-config -x ir module.bc -S -emit-llvm -Xclang -disable-llvm-passes -O3 -o '$folder/module.ll' ;;
+        module.bc) '$kit/toolchain/bin/clang' --no-default-config -x ir module.bc -S -emit-llvm -Xclang -disable-llvm-passes -O3 -o '$folder/module.ll' || exit ;;
     esac
 done
 exec '$kit/toolchain/bin/clang' "\$@"

@@ -8,6 +8,8 @@ It shares no code with the library. The disk, the store and the block words are 
 import itertools
 import sys
 
+sys.dont_write_bytecode = True
+
 from counts import BLOCKS, MODEL, NEW, OLD, OPENED_TEXT, PAIR, SESSIONS_TEXT, torn
 
 # every how many calls an opening is stopped

@@ -3,7 +3,7 @@
 # compiler and an emulator for it are installed. It looks at what the calls take of stack and memory (measure.sh). It says what isn't
 # installed. Firmware on boards is tried by boards/try.sh. Its last line is `N passed, N failed`.
 # usage: try.sh [FOLDER]          what is built goes to FOLDER, else to a folder that is removed again
-set -u
+set -uo pipefail
 cd "$(dirname "$0")" || exit 1
 warnings='-std=c11 -Wall -Wextra -Wpedantic -Wshadow -Wconversion -Wstrict-prototypes -Wmissing-prototypes -Wcast-qual -Wundef -Werror'
 sanitizers='-g -fsanitize=address,undefined -fno-sanitize-recover=all'
@@ -71,12 +71,13 @@ run_hosts() {
     cmp "$in/forth.out" ../crates/forth83/stdout
     told $? "$what: the replies of forth are those of the program"
     rm -f "$in/log"
-    [ "$($emulator "$in/logger" "$in/log" 5 60 700 | tr '\n' ' ')" = '0: 5 1: 60 2: 700 ' ]
+    $emulator "$in/logger" "$in/log" 5 60 700 | diff <(printf '0: 5\n1: 60\n2: 700\n') -
     told $? "$what: logger"
-    [ "$(printf '0 BLOCK @ . 1 BLOCK 8 + @ .\n' | $emulator "$in/forth" "$in/log")" = '3 700  ok' ]
+    printf '0 BLOCK @ . 1 BLOCK 8 + @ .\n' | $emulator "$in/forth" "$in/log" | diff <(echo '3 700  ok') -
     told $? "$what: forth reads the log"
-    printf '1 BLOCK 8 + 9 SWAP ! UPDATE FLUSH\n' | $emulator "$in/forth" "$in/log" > "$in/edited.out"
-    [ "$($emulator "$in/logger" "$in/log" | tail -n 1)" = '2: 9' ]
+    printf '1 BLOCK 8 + 9 SWAP ! UPDATE FLUSH\n' | $emulator "$in/forth" "$in/log" | diff <(echo ' ok') -
+    told $? "$what: forth saves into the log"
+    $emulator "$in/logger" "$in/log" | diff <(printf '0: 5\n1: 60\n2: 9\n') -
     told $? "$what: logger reads what forth saved"
     $emulator "$in/shared" | cmp - expected/shared
     told $? "$what: C and Forth share blocks"

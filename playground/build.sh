@@ -6,7 +6,8 @@
 # usage: build.sh
 set -euo pipefail
 cd "$(dirname "$0")"
-kit=$(dirname "$(rt doc)")
+kit=$(rt doc)
+kit=${kit%/*}
 folder=$(mktemp -d)
 trap 'rm -rf "$folder"' EXIT
 

@@ -37,7 +37,8 @@ linked='-nostdlib -Wl,--gc-sections -Wl,--no-warn-rwx-segments -Wl,-z,noexecstac
 # The library's module as an object of the board's processor, with the names that host.c has for the host's two functions.
 make_library() {
     local folder=$1 kit
-    kit=$(dirname "$(rt doc)")
+    kit=$(rt doc)
+    kit=${kit%/*}
     [ -f "$folder/module.ll" ] || "$here/../module.sh" "$folder" >&2
     mkdir -p "$folder/$processor"
     [ "$folder/$processor/library.o" -ot "$folder/module.ll" ] || return 0

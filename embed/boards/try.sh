@@ -115,8 +115,11 @@ try_board() {
     try_resets "$board" 2
     try_resets "$board" 3
     [ "$board" = lm3s ] || { try_forth "$board"; try_host_words "$board"; }
+    return 0
 }
 
+passed=0
+failed=0
 skipped=0
 boards=()
 for board in virt mps2 lm3s; do
@@ -127,16 +130,21 @@ for board in virt mps2 lm3s; do
     else
         boards+=("$board")
         # (one after another, since two boards have one processor)
-        ./board.sh library $board "$folder" > "$folder/library.log" 2>&1 || { tail -n 20 "$folder/library.log"; told 1 "$board: the library is built"; }
+        if ! ./board.sh library $board "$folder" > "$folder/library.log" 2>&1; then
+            tail -n 20 "$folder/library.log"
+            told 1 "$board: the library is built"
+            failed=$((failed + 1))
+        fi
     fi
 done
+trials=()
 for board in "${boards[@]}"; do
     try_board "$board" > "$folder/$board.log" 2>&1 &
+    trials+=($!)
 done
-wait
-passed=0
-failed=0
-for board in "${boards[@]}"; do
+for i in "${!boards[@]}"; do
+    board=${boards[$i]}
+    wait "${trials[$i]}" || told 1 "$board: its trial came to its end" >> "$folder/$board.log"
     cat "$folder/$board.log"
     passed=$((passed + $(grep -c ': well$' "$folder/$board.log")))
     failed=$((failed + $(grep -c ': FAILED$' "$folder/$board.log")))
