@@ -125,6 +125,9 @@ class Choice:
         self.tries_tools = is_whole or before.get(TOOLS) != self.sums[TOOLS] or not self.fifth
         self.tests = [it for it in crates if is_of_tests(it)]
         self.left_out = [] if is_whole else self.not_in_turn(crates)
+        # libraries of which it isn't the turn of their own tests to be proved
+        self.untested = [it.name for it in all_crates().values() if it.name not in self.tests and it.has_own_tests()
+                         and not (is_whole or it.name in self.changed or turn(it.name) == self.fifth)]
         self.folders = {}
         for name in crates:
             for folder in FOLDERS:
@@ -173,9 +176,11 @@ class Choice:
         said.append(f"changed since {since}: {len(self.changed)} of {len(self.sums) - 1} crates{': ' if self.changed else ''}{' '.join(self.changed)}")
         proved = [it for it in self.tests if it not in self.left_out]
         said.append(f"crates of tests proved: {' '.join(proved) or 'none'}; not this time: {' '.join(self.left_out) or 'none'}")
+        if self.untested:
+            said.append(f"not this time: the proofs of the own tests of {' '.join(self.untested)}")
         if not self.tries_tools:
             said.append("not this time: the trials of the tools, which are as they were")
-        if len(self.names) < len(self.folders) or self.left_out or not self.tries_tools:
+        if len(self.names) < len(self.folders) or self.left_out or self.untested or not self.tries_tools:
             said.append("`.ci/run --all` tries the rest too")
         return said
 

@@ -11,6 +11,8 @@ import threading
 from concurrent.futures import FIRST_COMPLETED, ThreadPoolExecutor, wait
 
 ROOT = os.path.dirname(os.path.dirname(os.path.abspath(__file__)))
+# a module of a library that its tests alone have
+OWN_TESTS = re.compile(r"^#\[cfg\(test\)\]\nmod (\w+);\n", re.M)
 
 
 class Crate:
@@ -45,6 +47,19 @@ class Crate:
 
     def holds_tests(self):
         return any("#[test]" in text_of(it) for it in self.files("src/**/*.rt"))
+
+    def has_own_tests(self):
+        """Whether it is a library that has tests beside what it is for."""
+        return os.path.isfile(f"{self.home}/src/lib.rt") and bool(OWN_TESTS.search(text_of(f"{self.home}/src/lib.rt")))
+
+    def leave_own_tests_out(self, home):
+        """Takes these out of a copy of it, with what is proved of them."""
+        text = text_of(f"{home}/src/lib.rt")
+        for it in OWN_TESTS.findall(text):
+            os.remove(f"{home}/src/{it}.rt")
+            shutil.rmtree(f"{home}/proofs/{it}", ignore_errors=True)
+        with open(f"{home}/src/lib.rt", "w", encoding="utf-8") as file:
+            file.write(OWN_TESTS.sub("", text))
 
     def size(self, *kinds):
         return sum(map(os.path.getsize, self.files(*kinds)))
