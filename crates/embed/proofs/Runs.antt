@@ -74,6 +74,7 @@ module _ {D A : Type 0} (G : Ghosts D) (device : D) (steps : ℕ) (left left' wr
       let completed = λ (keeps : IsTrue (suits G device)). on_ok outcome done _ well (ends keeps).4 in
       subst (RunsSession G steps left left' written written' device) (sym is) (record {
         begun = device_of store;
+        well = opens.well;
         goes = opens.goes;
         runs_on = goes;
         stops = opens.stops;
@@ -97,6 +98,7 @@ module _ {D A : Type 0} (G : Ghosts D) (device : D) (steps : ℕ) (left left' wr
       let cut = if_err outcome fault _ broken ended.5 in
       subst (λ d. BreaksSession G told steps left left' written written' device d) (sym at) (subst (λ it. BreaksSession G it steps left left' written written' device (device_of end)) is (record {
         begun = device_of store;
+        well = opens.well;
         goes = opens.goes;
         runs_on = goes;
         closing = ended.0;

@@ -61,12 +61,13 @@ module _ {D : Type 0} (G : Ghosts D) where
   AllOrNone device blocks bytes image =
       KeepsBlocks device image ⊎ MeansOn device (with_blocks (meant_by device) blocks bytes) image
 
-  -- The store was opened on the device: it has the blocks that the image there meant, nothing is pending, and it isn't closed.
+  -- The store was opened on the device: it has the blocks that the image there meant, nothing is pending, it isn't closed, and no call failed.
   pub record OpensOn (device : D) (store : Store D G) : Type 0 where
     pub size : blocks_of store ≡ blocks_on device
     pub sectors : G.sector_count (device_of store) ≡ G.sector_count device
     pub stands : IsTrue (suits G device) → StandsFor store (fresh (meant_by device))
     pub pending : (b : ℕ) → is_pending store b ≡ false
     pub closed : closed_of store ≡ false
+    pub well : G.failures (device_of store) ≡ G.failures device
     pub goes : Becomes G device (device_of store)
     pub stops : IsTrue (suits G device) → StopsLeave G device (device_of store) (MayRecover device)

@@ -46,9 +46,10 @@ module _ {D : Type 0} (G : Ghosts D) where
     pub keeps : Keeps G opening closing old new made
     pub saved : closing.world.maps.closed ≡ false → LeavesBlocks G new closing.world.maps.saved
 
-  -- A recovery of the image on the device, and then a session over its blocks.
+  -- A recovery of the image on the device, of which no call failed, and then a session over its blocks.
   pub record RunsSession (steps : ℕ) (left left' written written' : Option (List ℕ)) (device after : D) : Type 0 where
     pub begun : D
+    pub well : G.failures begun ≡ G.failures device
     pub goes : Becomes G device begun
     pub runs_on : Becomes G begun after
     pub stops : IsTrue (suits G device) → StopsLeave G device begun (MayRecover G device)
@@ -58,6 +59,7 @@ module _ {D : Type 0} (G : Ghosts D) where
   -- The same, where input or output failed: the session broke off there.
   pub record BreaksSession (fault : RunFault) (steps : ℕ) (left left' written written' : Option (List ℕ)) (device after : D) : Type 0 where
     pub begun : D
+    pub well : G.failures begun ≡ G.failures device
     pub goes : Becomes G device begun
     pub runs_on : Becomes G begun after
     pub closing : Forth

@@ -2,7 +2,7 @@
 //! Rule: EMBEDDING, What is proved.
 ghost use Rattle.std.specs.Prelude.{◌≡◌, ◌≢◌, ◌≤◌, ◌↔◌, None, length, IfSome, MatchBool};
 ghost use Rattle.shadow.specs.Label.{is_known_size};
-ghost use Rattle.embed.specs.Keeping.{gate_in, not_open};
+ghost use Rattle.embed.specs.Keeping.{SamePlace, gate_in, not_open};
 ghost use Rattle.embed.specs.Making.{fits_image};
 ghost use Rattle.embed.specs.Refusals.{code_of, read_refusal, save_refusal};
 
@@ -67,6 +67,7 @@ pub extern "C" fn silgwyrad_save(device: i32, sectors: u32, blocks: &[u16], byte
 pub extern "C" fn silgwyrad_open(device: i32, sectors: u32, store: &mut OpenStore) -> u8
     ensures listed { result ≤ 12 }
     ensures size { MatchBool (is_known_size sectors) (result ≢ code_of Refusal.BadSize) (result ≡ code_of Refusal.BadSize) }
+    ensures stays { result ≡ 0 → gate_in store.new ≢ None }
     ensures refused { result ≢ 0 → gate_in store.new ≡ None }
     ensures device { store.new.device ≡ device }
     ensures sectors { store.new.sectors ≡ sectors }
@@ -87,7 +88,10 @@ pub extern "C" fn silgwyrad_read_open(store: &mut OpenStore, block: u16, out: &m
         → IfSome (read_refusal store.old.sectors block (length out.old)) (λ e. result ≡ code_of e) }
     ensures fits { result ≡ 0 → read_refusal store.old.sectors block (length out.old) ≡ None }
     ensures kept { result ≢ 0 → out.new ≡ out.old }
+    ensures stays { result ≡ 0 → gate_in store.new ≢ None }
     ensures same { result ≢ 0 → result ≢ code_of Refusal.Device → store.new ≡ store.old }
+    ensures closed { result ≡ code_of Refusal.Device → gate_in store.new ≡ None }
+    ensures place { SamePlace store.old store.new }
 {
     read_open_over(disk(store.device, store.sectors), store, block, out).0
 }
@@ -102,7 +106,10 @@ pub extern "C" fn silgwyrad_save_open(store: &mut OpenStore, blocks: &[u16], byt
     ensures arguments { gate_in store.old ≢ None
         → IfSome (save_refusal store.old.sectors blocks.now (length bytes.now)) (λ e. result ≡ code_of e) }
     ensures fits { result ≡ 0 → save_refusal store.old.sectors blocks.now (length bytes.now) ≡ None }
+    ensures stays { result ≡ 0 → gate_in store.new ≢ None }
     ensures same { result ≢ 0 → result ≢ code_of Refusal.Device → store.new ≡ store.old }
+    ensures closed { result ≡ code_of Refusal.Device → gate_in store.new ≡ None }
+    ensures place { SamePlace store.old store.new }
 {
     save_open_over(disk(store.device, store.sectors), store, blocks, bytes).0
 }

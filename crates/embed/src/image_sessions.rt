@@ -107,7 +107,6 @@ fn opened<D: SectorDevice>(device: D) -> Result<Store<D>, (Refusal, D)>
     ensures exact { IsTrue (suits D.SectorDevice device) → MatchResult result
         (λ _. refusal_of (D.sector_count device) (D.disk device).content ≡ None)
         (λ e. (e.0 ≡ Refusal.Device) ⊎ (refusal_of (D.sector_count device) (D.disk device).content ≡ Some e.0)) }
-    ensures well { IfOk result (λ store. D.failures (device_of store) ≡ D.failures device) }
     ensures failed { IfErr result (λ e. e.0 ≡ Refusal.Device → D.failures e.1 ≡ count_up (D.failures device)) }
     ensures unfailed { IfErr result (λ e. e.0 ≢ Refusal.Device → D.failures e.1 ≡ D.failures device) }
     ensures content { IsTrue (suits D.SectorDevice device)

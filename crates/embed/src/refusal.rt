@@ -7,34 +7,34 @@ ghost use Rattle.embed.specs.Refusals.{code_of, of_image, of_run, answer_of};
 use recovery::OpenFault;
 use sessions::RunFault;
 
-/// Why a call didn't do what it was asked for. The numbers are those that C is told; 0 is a call that was done.
+/// Why a call didn't do what it was asked for. C is told its number (`code`), and 0 of a call that was done.
 #[derive(Clone, Copy, Debug, PartialEq, Eq, Drop)]
 pub enum Refusal {
-    /// No image has so many sectors.
-    BadSize = 1,
+    /// No image has so many sectors, or none of so many blocks.
+    BadSize,
     /// The image has no label.
-    NoLabel = 2,
+    NoLabel,
     /// The label has another version.
-    OtherVersion = 3,
+    OtherVersion,
     /// The label counts other blocks.
-    WrongCount = 4,
+    WrongCount,
     /// A call of the device failed.
-    Device = 5,
+    Device,
     /// By layout 2 an open gate stands over a record that isn't that of its slots; by layout 3 a block doesn't fit its
     /// tag, or the sum of the record isn't that of the tags.
-    Damaged = 6,
+    Damaged,
     /// The image has no such block.
-    NoBlock = 7,
+    NoBlock,
     /// There aren't 1,024 bytes for each block.
-    BadLength = 8,
+    BadLength,
     /// A line may take no step.
-    NoSteps = 9,
+    NoSteps,
     /// The input failed.
-    Input = 10,
+    Input,
     /// The output failed.
-    Output = 11,
+    Output,
     /// There is not enough memory.
-    NoMemory = 12,
+    NoMemory,
 }
 
 impl Refusal {

@@ -31,7 +31,7 @@ returns-in-Ok-clause-failed g c =
 
 pub returns-in-Ok-clause-unfailed : goal.returns-in-Ok-clause-unfailed
 returns-in-Ok-clause-unfailed g c =
-    map_err c.begun_over.result _ _ (λ e told other. ap g.D.SectorDevice.failures told ∙ c.in-Ok.ensures.well) c.begun_over.ensures.device
+    map_err c.begun_over.result _ _ (λ e told other. ap g.D.SectorDevice.failures told ∙ c.in-Ok.ensures.ok.well) c.begun_over.ensures.device
 
 pub returns-in-Ok-clause-begins : goal.returns-in-Ok-clause-begins
 returns-in-Ok-clause-begins g c = λ keeps.

@@ -20,12 +20,10 @@ returns-in-Ok-clause-ok g c =
       stands = λ keeps. let holds = kept.holds keeps in store.state holds.store holds.rests (fresh (meant_by D old)) holds.stands;
       pending = store.pending;
       closed = store.closed;
+      well = ap D.failures store.device ∙ kept.well;
       goes = subst (Becomes D old) (sym store.device) kept.goes;
       stops = λ keeps. subst (λ d. StopsLeave D old d (MayRecover D old)) (sym store.device) (kept.stops keeps);
     }
-
-pub returns-in-Ok-clause-well : goal.returns-in-Ok-clause-well
-returns-in-Ok-clause-well g c = ap g.D.SectorDevice.failures c.resume.ensures.device ∙ c.in-Ok.ensures.well
 
 pub returns-in-Ok-clause-begins : goal.returns-in-Ok-clause-begins
 returns-in-Ok-clause-begins g c = λ keeps.
