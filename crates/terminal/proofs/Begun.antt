@@ -1,17 +1,17 @@
 -- A file that was opened, or made and not finished, and the commands that were to make an image on it.
-use Rattle.std.proofs.Common.{◌≡◌, ◌⊎◌, ◌∙◌, IsTrue, Option, None, Some, Result, Ok, Err, ap, inl, inr, refl}
-use Rattle.std.specs.Prelude.{IfOk, IfSome, MatchOption}
+use Rattle.std.proofs.Common.{◌≡◌, ◌⊎◌, ◌∙◌, Bool, true, false, IsTrue, Option, None, Some, Result, Ok, Err, ap, inl, inr, refl, subst, sym}
+use Rattle.std.specs.Prelude.{IfOk, IfSome, MatchBool, MatchOption}
 use Rattle.sector_disk.specs.Opening.{WentOn, sectors_in}
 use Rattle.sector_disk.specs.SectorFile.{file_of, sectors_of}
 use Rattle.sector_disk.specs.declared.sector_file.SectorFile.{SectorFile}
 use Rattle.sector_disk.specs.declared.host_file.HostFile.{Ghosts}
 use Rattle.sector_disk.specs.declared.host_files.FileFault.{FileFault}
 use Rattle.sector_disk.specs.declared.host_files.FileFault.TheVariants as file
-use Rattle.terminal.specs.Failed.{IsUnmade, IsUnopened}
+use Rattle.terminal.specs.Failed.{IsUnmade, IsUnopened, IsUntouched}
 use Rattle.terminal.specs.Failures.{of_file}
 use Rattle.terminal.specs.Files.{IsOpened, IsUnfinished}
 use Rattle.terminal.specs.declared.failure.Failure.{Failure}
-use Rattle.terminal.specs.declared.failure.Failure.TheVariants.{CannotOpen}
+use Rattle.terminal.specs.declared.failure.Failure.TheVariants.{BadSize, CannotOpen}
 use Rattle.terminal.specs.declared.left.Left.{Left}
 use Rattle.terminal.specs.declared.left.Left.TheVariants.{Made, Nothing, Opened, Upgraded}
 
@@ -34,6 +34,14 @@ pub told_cannot : {D : Type 0} (o : Option D) (fault : FileFault) (failure : Fai
 told_cannot (Some d) fault failure is cannot = is ∙ ap of_file cannot
 told_cannot None fault failure is cannot = tt
 
+-- The old device fits, and the new file wasn't made.
+pub unmade_beside : {D : Type 0} (fits : D → Bool) (device : D) (failure : Failure) → fits device ≡ true → IsUnmade failure → IsUntouched fits failure device device
+unmade_beside fits device failure well unmade = record { same = refl; told = subst (λ b. MatchBool b (IsUnmade failure) (failure ≡ BadSize)) (sym well) unmade }
+
+-- It doesn't fit.
+pub unfit : {D : Type 0} (fits : D → Bool) (device : D) → fits device ≡ false → IsUntouched fits BadSize device device
+unfit fits device not = record { same = refl; told = subst (λ b. MatchBool b (IsUnmade BadSize) (BadSize ≡ BadSize)) (sym not) refl }
+
 -- The clauses `NotFinished` and `NotUpgraded`, over no model of the device.
 pub not_finished : {D E : Type 0} (unfinished : Option D) (left : Left D E) (failure : Failure) (begun : D → Type 0)
     → MatchOption unfinished (left ≡ Nothing) (λ device. left ≡ Made device) → IsUnmade failure → IfSome unfinished begun
@@ -42,13 +50,13 @@ pub not_finished : {D E : Type 0} (unfinished : Option D) (left : Left D E) (fai
 not_finished None left failure begun at unmade is told = inl (at, unmade)
 not_finished (Some device) left failure begun at unmade is told = inr (told, device, is, at)
 
-pub not_upgraded : {D E : Type 0} (unfinished : Option D) (left : Left D E) (failure : Failure) (opened begun : D → Type 0) (source : D) → opened source
+pub not_upgraded : {D E : Type 0} (unfinished : Option D) (left : Left D E) (failure : Failure) (opened begun : D → Type 0) (fits : D → Bool) (source : D) → opened source
     → MatchOption unfinished (left ≡ Opened source) (λ device. left ≡ Upgraded source device) → IfSome unfinished begun
-    → IfSome unfinished (λ _. failure ≡ CannotOpen)
-    → (((left ≡ Nothing) × IsUnopened failure) ⊎ ((after : D) × (left ≡ Opened after) × ((device : D) × opened device × (after ≡ device))))
+    → IfSome unfinished (λ _. failure ≡ CannotOpen) → fits source ≡ true → IsUnmade failure
+    → (((left ≡ Nothing) × IsUnopened failure) ⊎ ((after : D) × (left ≡ Opened after) × ((device : D) × opened device × IsUntouched fits failure device after)))
     ⊎ ((failure ≡ CannotOpen) × (source : D) × opened source × (device : D) × begun device × (left ≡ Upgraded source device))
-not_upgraded None left failure opened begun source is at made told = inl (inr (source, at, (source, is, refl)))
-not_upgraded (Some device) left failure opened begun source is at made told = inr (told, source, is, device, made, at)
+not_upgraded None left failure opened begun fits source is at made told well unmade = inl (inr (source, at, (source, is, unmade_beside fits source failure well unmade)))
+not_upgraded (Some device) left failure opened begun fits source is at made told well unmade = inr (told, source, is, device, made, at)
 
 -- No image was made on it, and of the old one no call was made.
 pub begun_in_part : {A B : Type 0} (unfinished : Option B) (failure : Failure) (begun P : B → Type 0) (source : A)

@@ -1,8 +1,8 @@
 -- An image that was copied or salvaged, and the file that was made for it.
-use Rattle.std.proofs.Common.{◌≡◌, ◌⊎◌, ◌∙◌, Option, None, Some, Result, Ok, Err, ap, inl, inr, refl}
+use Rattle.std.proofs.Common.{◌≡◌, ◌⊎◌, ◌∙◌, Bool, Option, None, Some, Result, Ok, Err, ap, inl, inr, refl}
 use Rattle.std.specs.Prelude.{IfErr, IfSome, MatchOption, OnOk, unwrap_or}
 use Rattle.terminal.specs.Done.{IsGiven}
-use Rattle.terminal.specs.Failed.{IsUnopened}
+use Rattle.terminal.specs.Failed.{IsUnopened, IsUntouched}
 use Rattle.terminal.specs.declared.failure.Failure.{Failure}
 use Rattle.terminal.specs.declared.left.Left.{Left}
 use Rattle.terminal.specs.declared.left.Left.TheVariants.{Copied, Looked, Nothing}
@@ -21,10 +21,11 @@ module _ {A B T : Type 0} where
   -- It wasn't made, or in part (`FailsToMake`, over no model of the devices).
   pub some_left : (target : Option B) (r : Result T Failure) (left : Left B A) (looked : A → Type 0) (P : Failure → A → A → B → Type 0)
       (source source' : A) → looked source → MatchOption target (left ≡ Looked source') (λ made. left ≡ Copied source' made)
-      → (target ≡ None → source' ≡ source) → IfErr r (λ failure. IfSome target (λ after. P failure source source' after))
+      → (fits : A → Bool) → IfErr r (λ failure. target ≡ None → IsUntouched fits failure source source')
+      → IfErr r (λ failure. IfSome target (λ after. P failure source source' after))
       → IfErr r (λ failure. (((left ≡ Nothing) × IsUnopened failure)
-      ⊎ ((after : A) × (left ≡ Looked after) × ((source : A) × looked source × (after ≡ source))))
+      ⊎ ((after : A) × (left ≡ Looked after) × ((source : A) × looked source × IsUntouched fits failure source after)))
       ⊎ ((source : A) × looked source × (source' : A) × (after : B) × (left ≡ Copied source' after) × P failure source source' after))
-  some_left target (Ok t) left looked P source source' is at unmade some = tt
-  some_left None (Err e) left looked P source source' is at unmade some = inl (inr (source', at, (source, is, unmade refl)))
-  some_left (Some b) (Err e) left looked P source source' is at unmade some = inr (source, is, source', b, at, some)
+  some_left target (Ok t) left looked P source source' is at fits unmade some = tt
+  some_left None (Err e) left looked P source source' is at fits unmade some = inl (inr (source', at, (source, is, unmade refl)))
+  some_left (Some b) (Err e) left looked P source source' is at fits unmade some = inr (source, is, source', b, at, some)

@@ -1,16 +1,18 @@
 -- How a command ended, by its exit status; and what isn't a session can't be stopped.
-use Rattle.std.proofs.Common.{◌≡◌, ◌≢◌, ◌∙◌, ◌⊎◌, ℕ, List, [], true, false, Option, Result, Ok, Err, ap, inl, inr, refl, subst, sym}
+use Rattle.std.proofs.Common.{◌≡◌, ◌≢◌, ◌∙◌, ◌⊎◌, ℕ, List, [], true, false, Option, None, Result, Ok, Err, ap, inl, inr, refl, subst, sym}
 use Rattle.std.specs.Prelude.{IfErr, IsErrOf, IsOk, MatchResult, OnOk}
-use Rattle.clap.specs.Words.{HasKind, IsAmong, Kinds, kind_of}
+use Rattle.clap.specs.Words.{HasKind, IsAmong, Kinds, Row, Text, kind_of, subcommand_of}
 use Rattle.clap.specs.declared.error.kind.ErrorKind.{ErrorKind}
 use Rattle.clap.specs.declared.error.kind.ErrorKind.TheVariants.{DisplayHelp, DisplayVersion, OutOfMemory}
 use Rattle.clap.specs.declared.error.Error.{Error}
-use Rattle.terminal.specs.InMemory.{AsksForHelp, EndsHelp, IsHelp}
+use Rattle.terminal.specs.InMemory.{AsksForHelp, EndsHelp, IsForMemory, IsHelp}
 use Rattle.terminal.specs.Failures.{status_of}
 use Rattle.terminal.specs.OrderDone.{KeepsStreams, PrintsNothing, prints, reads_input}
 use Rattle.terminal.specs.declared.failure.Failure.{Failure}
 use Rattle.terminal.specs.declared.failure.Failure.TheVariants.{CannotWrite, Stopped}
+use Rattle.command_line.specs.Commands.{IsOrderOf, Orders, forth83}
 use Rattle.command_line.specs.declared.orders.Order.{Order}
+use Rattle.command_line.specs.declared.orders.Order.TheVariants.{Check, CheckImport, Copy, Diff, Digests, Export, Import, List as ListBlock, Memory, New, Put, Run, Salvage, Upgrade}
 
 module _ {T : Type 0} where
   pub never : {P : Type 0} (r : Result T Failure) → IfErr r (λ e. e ≢ Stopped) → IsErrOf r Stopped → P
@@ -41,6 +43,22 @@ module _ {T : Type 0} where
       → status ≢ 0 → IfErr r P → (failure : Failure) × (status ≡ status_of failure) × P failure
   failed_so (Ok t) status P is other failed = absurd (other is)
   failed_so (Err e) status P is other failed = (e, is, failed)
+
+alone : (order : Order) → Orders None order → IsForMemory order
+alone Memory is = tt
+alone (New path n layout) is = is
+alone (Run path n script) is = is
+alone (ListBlock path b) is = is
+alone (Put path b text) is = is
+alone (Export path first last form) is = is
+alone (Import path first sources form) is = is
+alone (CheckImport path first sources form) is = is
+alone (Check path) is = is
+alone (Digests path) is = is
+alone (Diff old new) is = is
+alone (Upgrade old new layout) is = is
+alone (Copy old new asked) is = is
+alone (Salvage old new asked) is = is
 
 -- ---- the input and the output of an order
 
@@ -81,6 +99,10 @@ prints_none_but_two contents old new one two (Ok t) same = tt
 prints_none_but_two contents old new one two (Err e) same = λ but nor other. ap contents (same but nor other)
 
 -- ---- words that give no order
+
+-- Words without a command give that of blocks in memory.
+pub for_memory : (words : List Text) (order : Order) → subcommand_of forth83 words ≡ None → IsOrderOf words order → IsForMemory order
+for_memory words order none is = alone order (subst (λ (given : Option (Text × List Row)). Orders given order) none is)
 
 -- Of words that are refused nothing it is memory that wasn't there.
 pub no_memory : {kinds : Kinds} (e : Error) → HasKind kinds e → kinds ≡ [] → kind_of e ≡ OutOfMemory

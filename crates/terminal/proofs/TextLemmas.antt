@@ -2,18 +2,18 @@
 use Rattle.std.proofs.Common.{◌≡◌, ◌∙◌, ◌-◌, ◌≤◌, ◌⊎◌, ⊎_elim, ℕ, List, [], ◌∷◌, ◌++◌, length, take, drop, Option, None, Some, Result, Ok, Err, ap, append-nil, arith, get_or, inl, inr, refl, subst, sym}
 use Rattle.std.proofs.lemmas.List.{take_all}
 use Rattle.std.specs.Borrow.{Bor}
-use Rattle.std.specs.Prelude.{IfErr, IfSome}
+use Rattle.std.specs.Prelude.{Bool, IfErr, IfSome, MatchBool}
 use Rattle.std.specs.Io.KnownBytes.{Consumes, IsAtEnd}
 use Rattle.sector_disk.specs.declared.device.SectorDevice.{Ghosts}
 use Rattle.journal.specs.declared.store.Store.{Store}
 use Rattle.command_line.specs.declared.orders.Form.{Form}
-use Rattle.terminal.specs.Failed.{LooksInVain}
+use Rattle.terminal.specs.Failed.{IsOfTexts, LooksInVain}
 use Rattle.terminal.specs.Findings.{refusal, said, told}
 use Rattle.terminal.specs.Putting.{LeavesSome, PutsSome}
 use Rattle.terminal.specs.Scripts.{lined}
 use Rattle.terminal.specs.Texts.{IsTextOf, IsUnread, OneIsUnread}
 use Rattle.terminal.specs.declared.failure.Failure.{Failure}
-use Rattle.terminal.specs.declared.failure.Failure.TheVariants.{CannotRead, NoMemory}
+use Rattle.terminal.specs.declared.failure.Failure.TheVariants.{BadSize, CannotRead, NoMemory}
 
 -- What was read, where nothing is left, is all that was left before.
 pub read_whole : (before after : Option (List ℕ)) (text : List ℕ) → Consumes before after text → IsAtEnd after → IfSome before (λ left. text ≡ left)
@@ -73,10 +73,11 @@ others_unread is_unread paths (path ∷ rest) some so_far unread =
     so_far (inr (subst (λ (l : List (Bor (List ℕ))). OneIsUnread is_unread l) (take_all (length (path ∷ rest) - 1) rest (omega arith)) unread))
 
 -- What it is told as where nothing was done but that.
-pub looked_in_vain : {D T : Type 0} (unread : Type 0) (r : Result T Failure) (device : D) → IfErr r (λ e. e ≡ CannotRead → unread)
-    → IfErr r (λ failure. LooksInVain unread failure device device)
-looked_in_vain unread (Ok t) device cannot = tt
-looked_in_vain unread (Err e) device cannot = record { same = refl; cannot = cannot }
+pub looked_in_vain : {D T : Type 0} (fits : D → Bool) (unread : Type 0) (r : Result T Failure) (device : D)
+    → IfErr r (λ e. MatchBool (fits device) (IsOfTexts e) (e ≡ BadSize)) → IfErr r (λ e. e ≡ CannotRead → unread)
+    → IfErr r (λ failure. LooksInVain fits unread failure device device)
+looked_in_vain fits unread (Ok t) device told cannot = tt
+looked_in_vain fits unread (Err e) device told cannot = record { same = refl; told = told; cannot = cannot }
 
 -- ---- a text that was put
 

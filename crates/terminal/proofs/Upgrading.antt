@@ -1,6 +1,6 @@
 -- An image that was upgraded, of which the old one is one that was opened.
 use Rattle.std.proofs.Common.{◌≡◌, ◌∙◌, ℕ, Result, Ok, Err, IsTrue, inl, inr, subst, sym}
-use Rattle.std.specs.Prelude.{IfErr, OnOk}
+use Rattle.std.specs.Prelude.{Bool, IfErr, OnOk}
 use Rattle.sector_disk.specs.declared.device.SectorDevice.{Ghosts}
 use Rattle.journal.specs.Calls.{Proceeds, StopsLeave}
 use Rattle.journal.specs.Images.{meaning}
@@ -17,11 +17,11 @@ use Rattle.terminal.specs.declared.left.Left.{Left}
 use Rattle.terminal.proofs.Becoming.{proceeded}
 
 module _ {D E : Type 0} (G : Ghosts D) where
-  same_source : (failure : Failure) (left : Left D E) (source : D) (opened begun : D → Type 0) → opened source
-      → NotUpgraded G (λ device. device ≡ source) begun failure left → NotUpgraded G opened begun failure left
-  same_source failure left source opened begun is (inl (inl none)) = inl (inl none)
-  same_source failure left source opened begun is (inl (inr one)) = inl (inr (one.0, one.1, (one.2.0, subst opened (sym one.2.1) is, one.2.2)))
-  same_source failure left source opened begun is (inr beside) =
+  same_source : (fits : D → Bool) (failure : Failure) (left : Left D E) (source : D) (opened begun : D → Type 0) → opened source
+      → NotUpgraded G fits (λ device. device ≡ source) begun failure left → NotUpgraded G fits opened begun failure left
+  same_source fits failure left source opened begun is (inl (inl none)) = inl (inl none)
+  same_source fits failure left source opened begun is (inl (inr one)) = inl (inr (one.0, one.1, (one.2.0, subst opened (sym one.2.1) is, one.2.2)))
+  same_source fits failure left source opened begun is (inr beside) =
       inr (beside.0, beside.1, subst opened (sym beside.2) is, beside.3, beside.4, beside.5)
 
 module _ {D E T : Type 0} (G : Ghosts D) where
@@ -37,10 +37,10 @@ module _ {D E T : Type 0} (G : Ghosts D) where
       → opened source → IfErr r (λ failure. UpgradeFailed G (λ device. device ≡ source) made begun layout failure left)
       → IfErr r (λ failure. UpgradeFailed G opened made begun layout failure left)
   upgrade_failed layout (Ok t) left source opened made begun is failed = tt
-  upgrade_failed Two (Err e) left source opened made begun is (inl not) = inl (same_source G e left source opened begun is not)
+  upgrade_failed Two (Err e) left source opened made begun is (inl not) = inl (same_source G _ e left source opened begun is not)
   upgrade_failed Two (Err e) left source opened made begun is (inr both) =
       inr (both.0, subst opened (sym both.1) is, both.2, both.3, both.4, both.5, both.6, both.7)
-  upgrade_failed Three (Err e) left source opened made begun is (inl not) = inl (same_source G e left source opened begun is not)
+  upgrade_failed Three (Err e) left source opened made begun is (inl not) = inl (same_source G _ e left source opened begun is not)
   upgrade_failed Three (Err e) left source opened made begun is (inr both) =
       inr (both.0, subst opened (sym both.1) is, both.2, both.3, both.4, both.5, both.6, both.7)
 

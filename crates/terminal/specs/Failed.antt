@@ -1,12 +1,14 @@
 -- What a command over images leaves where it failed, on any device: from the device that it opened or made to what that has become.
-use Rattle.std.specs.Prelude.{◌≡◌, ◌≢◌, ◌⊎◌, ℕ, Bool, true, false, ◌+◌, ◌-◌, ◌*◌, ◌≤◌, ◌<◌, IsTrue, List, [], Option, None, Some, option_map}
+use Rattle.std.specs.Prelude.{◌≡◌, ◌≢◌, ◌⊎◌, ℕ, Bool, true, false, ◌+◌, ◌-◌, ◌*◌, ◌≤◌, ◌<◌, IsTrue, List, [], MatchBool, Option, None, Some, is_some, option_map}
 use Rattle.std.specs.Io.KnownBytes.{Appends}
 use Rattle.sector_disk.specs.Counting.{count_up}
 use Rattle.sector_disk.specs.declared.device.SectorDevice.{Ghosts}
 use Rattle.journal.specs.Calls.{BeginsAtMost, ReadsAtMost, StopsLeave}
 use Rattle.journal.specs.Layout as older_layout
 use Rattle.journal.specs.Maps.{latest, spilled}
+use Rattle.journal.specs.Layout.{most_blocks_1}
 use Rattle.journal.specs.PageLayout as newer_layout
+use Rattle.journal.specs.Sizes.{is_size_within}
 use Rattle.journal.specs.Suits.{suits}
 use Rattle.interpreter.specs.Lines.{new_forth}
 use Rattle.recovery.specs.Formatted as older_making
@@ -15,6 +17,7 @@ use Rattle.recovery.specs.Upgraded as older_upgrade
 use Rattle.recovery.specs.Upgraded.{OldLeaves}
 use Rattle.recovery.specs.declared.fault.UpgradeFault.{UpgradeFault}
 use Rattle.shadow.specs.Formatted as newer_making
+use Rattle.shadow.specs.Label.{is_known_size}
 use Rattle.shadow.specs.Upgraded as newer_upgrade
 use Rattle.sector_disk.specs.Disk.{Image, MayLeave}
 use Rattle.stores.specs.Opened.{image_refusal}
@@ -46,7 +49,7 @@ use Rattle.terminal.specs.Texts.{OneIsUnread}
 use Rattle.terminal.specs.Through.{TellsUnread}
 use Rattle.terminal.specs.Transfer.{as_blocks, spilled_from}
 use Rattle.terminal.specs.declared.failure.Failure.{Failure}
-use Rattle.terminal.specs.declared.failure.Failure.TheVariants.{BadSize, CannotOpen, CannotRead, CannotWrite, Damaged, Device, Exists, InUse, NoBlock, NoMemory, Stopped}
+use Rattle.terminal.specs.declared.failure.Failure.TheVariants.{BadSize, CannotOpen, CannotRead, CannotWrite, Damaged, Device, Exists, InUse, NoBlock, NoMemory, NotAScreen, Stopped}
 use Rattle.terminal.specs.declared.left.Left.{Left}
 use Rattle.terminal.specs.declared.left.Left.TheVariants as files
 
@@ -60,13 +63,19 @@ IsUnopened failure = (failure ≡ CannotOpen) ⊎ (failure ≡ InUse)
 abbrev pub IsUnmade : Failure → Type 0
 IsUnmade failure = (failure ≡ Exists) ⊎ IsUnopened failure
 
--- The device is as it was opened or made: no call of it was made.
-abbrev pub IsUntouched : {D : Type 0} (failure : Failure) (device after : D) → Type 0
-IsUntouched failure device after = after ≡ device
+-- The device is as it was opened: no call of it was made. Its size doesn't fit, and that is told; else the new file wasn't made.
+pub record IsUntouched {D : Type 0} (fits : D → Bool) (failure : Failure) (device after : D) : Type 0 where
+  pub same : after ≡ device
+  pub told : MatchBool (fits device) (IsUnmade failure) (failure ≡ BadSize)
+
+-- the texts are refused, or can't be had, or the block that the first of them is to fill isn't there
+abbrev pub IsOfTexts : Failure → Type 0
+IsOfTexts failure = (failure ≡ NoBlock) ⊎ ((failure ≡ NotAScreen) ⊎ ((failure ≡ CannotRead) ⊎ (failure ≡ NoMemory)))
 
 -- `import --check`: the same, and that a file can't be read is told only where its text wasn't had.
-pub record LooksInVain {D : Type 0} (unread : Type 0) (failure : Failure) (device after : D) : Type 0 where
+pub record LooksInVain {D : Type 0} (fits : D → Bool) (unread : Type 0) (failure : Failure) (device after : D) : Type 0 where
   pub same : after ≡ device
+  pub told : MatchBool (fits device) (IsOfTexts failure) (failure ≡ BadSize)
   pub cannot : failure ≡ CannotRead → unread
 
 -- ---- what is told
@@ -363,18 +372,19 @@ module _ {D : Type 0} (G : Ghosts D) where
     pub tells : TellsRefusal G G (G.keeps_sectors source)
         (older_upgrade.upgrade_refusal (G.sector_count source) (G.sector_count device) ((G.disk source).content 0)) failure source source' device after
 
-  -- The old file wasn't opened; or the new one wasn't made, or not finished, and no call of the old one was made.
-  abbrev pub NotUpgraded : {E : Type 0} (opened begun : D → Type 0) → Failure → Left D E → Type 0
-  NotUpgraded opened begun failure left = FailsOn files.Opened opened IsUntouched failure left
+  -- The old file wasn't opened, or doesn't fit; or the new one wasn't made, or not finished, and no call of the old one was made.
+  abbrev pub NotUpgraded : {E : Type 0} (fits : D → Bool) (opened begun : D → Type 0) → Failure → Left D E → Type 0
+  NotUpgraded fits opened begun failure left = FailsOn files.Opened opened (IsUntouched fits) failure left
       ⊎ ((failure ≡ CannotOpen) × (source : D) × opened source × (device : D) × begun device × (left ≡ files.Upgraded source device))
 
   -- The same, or the image was upgraded in part.
   abbrev pub UpgradeFailed : {E : Type 0} (opened : D → Type 0) (made : ℕ → D → Type 0) (begun : D → Type 0) → Layout → Failure
       → Left D E → Type 0
-  UpgradeFailed opened made begun Two failure left = NotUpgraded opened begun failure left
+  UpgradeFailed opened made begun Two failure left =
+      NotUpgraded (λ source. is_size_within most_blocks_1 (G.sector_count source)) opened begun failure left
       ⊎ ((source : D) × opened source × (device : D) × made (G.sector_count source) device × (source' : D) × (after : D)
       × (left ≡ files.Upgraded source' after) × UpgradeFails failure source source' device after)
-  UpgradeFailed opened made begun Three failure left = NotUpgraded opened begun failure left
+  UpgradeFailed opened made begun Three failure left = NotUpgraded (λ source. is_known_size (G.sector_count source)) opened begun failure left
       ⊎ ((source : D) × opened source × (device : D) × made (newer_layout.sectors_for (blocks_on G source)) device × (source' : D)
       × (after : D) × (left ≡ files.Upgraded source' after) × NewerUpgradeFails G G failure source source' device after)
 
@@ -495,13 +505,15 @@ module _ {A B : Type 0} (G : Ghosts A) (H : Ghosts B) where
   MakesSalvageInPart made begun asked failure source source' after =
       MakesSome begun (MadeOf G H made (sectors_for_salvage (G.sector_count source) asked) (SalvageThroughFails failure)) failure source source' after
 
-  -- The old file wasn't opened; or the new one wasn't made, and no call of the old one was made; or P says what was made.
-  abbrev pub FailsToMake : (P : A → A → B → Type 0) (looked : A → Type 0) → Failure → Left B A → Type 0
-  FailsToMake P looked failure left = FailsOn G files.Looked looked IsUntouched failure left
+  -- The old file wasn't opened, or doesn't fit; or the new one wasn't made, and no call of the old one was made; or P says what was made.
+  abbrev pub FailsToMake : (fits : A → Bool) (P : A → A → B → Type 0) (looked : A → Type 0) → Failure → Left B A → Type 0
+  FailsToMake fits P looked failure left = FailsOn G files.Looked looked (IsUntouched fits) failure left
       ⊎ ((source : A) × looked source × (source' : A) × (after : B) × (left ≡ files.Copied source' after) × P source source' after)
 
   abbrev pub CopyFailed : (looked : A → Type 0) (made : ℕ → B → Type 0) (begun : B → Type 0) (asked : Option ℕ) → Failure → Left B A → Type 0
-  CopyFailed looked made begun asked failure left = FailsToMake (MakesCopyInPart made begun asked failure) looked failure left
+  CopyFailed looked made begun asked failure left =
+      FailsToMake (λ source. is_some (sectors_for_copy (G.sector_count source) asked)) (MakesCopyInPart made begun asked failure) looked failure left
 
   abbrev pub SalvageFailed : (looked : A → Type 0) (made : ℕ → B → Type 0) (begun : B → Type 0) (asked : Option ℕ) → Failure → Left B A → Type 0
-  SalvageFailed looked made begun asked failure left = FailsToMake (MakesSalvageInPart made begun asked failure) looked failure left
+  SalvageFailed looked made begun asked failure left =
+      FailsToMake (λ source. is_some (sectors_for_salvage (G.sector_count source) asked)) (MakesSalvageInPart made begun asked failure) looked failure left

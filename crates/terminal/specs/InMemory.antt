@@ -14,6 +14,9 @@ use Rattle.command_line.specs.declared.orders.Order.TheVariants.{Memory}
 use Rattle.sessions.specs.declared.run_fault.RunFault.{RunFault}
 use Rattle.command_line.specs.Commands.{forth83}
 use Rattle.sessions.specs.Sessions.{Completes, BreaksOff}
+use Rattle.terminal.specs.Failures.{of_run, status_of}
+use Rattle.terminal.specs.declared.failure.Failure.{Failure}
+use Rattle.terminal.specs.declared.failure.Failure.TheVariants.{NoMemory}
 
 -- the words are no command, and nothing in them is refused
 abbrev pub AsksForNothing : List Text → Type 0
@@ -34,11 +37,22 @@ CompletesInMemory {D} G left left' written written' =
     (closing : Forth) × (made : List Save) × (old : D) × (new : D) × (G.failures old ≡ 0) × (G.failures new ≡ 0)
     × Completes G blank_forth closing left left' written written' old new made
 
--- The same up to where the reader or the writer failed.
-abbrev pub BreaksInMemory : {D : Type 0} → Ghosts D → (left left' written written' : Option (List ℕ)) → Type 0
-BreaksInMemory {D} G left left' written written' =
-    (fault : RunFault) × (closing : Forth) × (made : List Save) × (old : D) × (new : D) × (G.failures old ≡ 0) × (G.failures new ≡ 0)
+-- The same up to where the reader or the writer failed, as this fault says.
+abbrev pub BreaksInMemory : {D : Type 0} → Ghosts D → RunFault → (left left' written written' : Option (List ℕ)) → Type 0
+BreaksInMemory {D} G fault left left' written written' =
+    (closing : Forth) × (made : List Save) × (old : D) × (new : D) × (G.failures old ≡ 0) × (G.failures new ≡ 0)
     × BreaksOff G fault blank_forth closing left left' written written' old new made
+
+-- What is told where it failed: there was no memory, and nothing was read or written; or the reader or the writer failed.
+abbrev pub FailsInMemory : {D : Type 0} → Ghosts D → Failure → (left left' written written' : Option (List ℕ)) → Type 0
+FailsInMemory G failure left left' written written' =
+    ((failure ≡ NoMemory) × (left' ≡ left) × (written' ≡ written))
+    ⊎ ((fault : RunFault) × (failure ≡ of_run fault) × BreaksInMemory G fault left left' written written')
+
+-- The exit status tells such a failure.
+abbrev pub EndsInMemory : {D : Type 0} → Ghosts D → (status : ℕ) → (left left' written written' : Option (List ℕ)) → Type 0
+EndsInMemory G status left left' written written' =
+    (failure : Failure) × (status ≡ status_of failure) × FailsInMemory G failure left left' written written'
 
 -- help was asked for
 abbrev pub IsHelp : ErrorKind → Type 0

@@ -9,6 +9,7 @@ use Rattle.terminal.specs.Care.{CopyDone, ExportDone, ListDone, SalvageDone}
 use Rattle.terminal.specs.Checked.{ChecksImage}
 use Rattle.terminal.specs.Compared.{DiffDone, TellsEach}
 use Rattle.terminal.specs.Done.{DoneOn, ImportsBlocks, LooksAt, PutsBlock}
+use Rattle.shadow.specs.Label.{is_known_size}
 use Rattle.terminal.specs.Failed.{CheckFails, CopyFailed, DiffFailed, ExportFailed, FailsAfter, FailsOn, ImportFails, ListFailed, LookingFails, LooksInVain, NewFailed, PutFails, SalvageFailed, ScriptFailed, UpgradeFailed}
 use Rattle.terminal.specs.Failures.{status_of}
 use Rattle.terminal.specs.Layout3.{NewDone, UpgradeDone}
@@ -109,7 +110,7 @@ module _ {D E : Type 0} (G : Ghosts D) (L : Ghosts E) where
       FailsOn G Opened (opened path.now)
       (FailsAfter G (ImportFails G form first (AreTexts is_text sources.items) (OneIsUnread is_unread sources.items))) failure ends
   IsFailed opened made begun looked alone is_text is_unread (CheckImport path first sources form) left left' written written' failure ends =
-      FailsOn G Opened (opened path.now) (LooksInVain (OneIsUnread is_unread sources.items)) failure ends
+      FailsOn G Opened (opened path.now) (LooksInVain (λ device. is_known_size (G.sector_count device)) (OneIsUnread is_unread sources.items)) failure ends
   IsFailed opened made begun looked alone is_text is_unread (Check path) left left' written written' failure ends =
       FailsOn L Looked (looked path.now) (CheckFails L written written') failure ends
       × (failure ≢ Damaged → failure ≢ Device → PrintsNothing failure written written')

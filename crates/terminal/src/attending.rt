@@ -2,6 +2,7 @@
 //! standard error, and only where that is a terminal, so a script reads nothing of it.
 ghost use Rattle.std.specs.Prelude.{◌<◌, IfSome};
 
+use super::failure::Failure;
 use super::importing::MOST_BYTES;
 use command_line::order;
 use command_line::orders::{Order, Script};
@@ -113,10 +114,10 @@ fn advise_on<E: Write>(
     status: u8,
     errors: &mut E,
 ) {
-    match status {
-        3 => tell_of_images(rt, asked, was_there, errors),
-        4 => tell_of_texts(rt, asked, errors),
-        _ => {}
+    if status == Failure::CannotOpen.status() {
+        tell_of_images(rt, asked, was_there, errors);
+    } else if status == Failure::CannotRead.status() {
+        tell_of_texts(rt, asked, errors);
     }
 }
 

@@ -1,6 +1,6 @@
 //! An image is copied into a new file. The old one is opened for reading alone.
 //! Rule: MANUAL, forth83 copy OLD NEW [--blocks N].
-ghost use Rattle.std.specs.Prelude.{◌≡◌, ◌≢◌, ◌⊎◌, Some, None, IsTrue, IfErr, IfOk, IfSome, MatchOption, MatchResult, OnOk, option_map};
+ghost use Rattle.std.specs.Prelude.{◌≡◌, ◌≢◌, ◌⊎◌, Some, None, IsTrue, IfErr, IfOk, IfSome, MatchOption, MatchResult, OnOk, is_some, option_map};
 ghost use Rattle.sector_disk.specs.Counting.{count_up};
 ghost use Rattle.journal.specs.Calls.{StopsLeave};
 ghost use Rattle.journal.specs.Suits.{suits};
@@ -11,7 +11,7 @@ ghost use Rattle.image_care.specs.Made.{MakingLeaves};
 ghost use Rattle.terminal.specs.Care.{CopyDone};
 ghost use Rattle.terminal.specs.Copying.{Copies, MakesCopy, copied_count, sectors_for_copy};
 ghost use Rattle.terminal.specs.Done.{EachLeft, IsGiven};
-ghost use Rattle.terminal.specs.Failed.{CopyFailed, CopyFails, MakesCopyInPart};
+ghost use Rattle.terminal.specs.Failed.{CopyFailed, CopyFails, IsUnmade, IsUntouched, MakesCopyInPart};
 ghost use Rattle.terminal.specs.Failures.{of_upgrade};
 ghost use Rattle.terminal.specs.Files.{IsMade, IsOpened, IsUnfinished};
 
@@ -81,7 +81,8 @@ fn copy_into<A: SectorDevice, H: HostFile, O: HostFiles<H>>(
     ensures failed { IfErr result.1 (λ failure. IfSome result.0 (λ target. MakesCopyInPart A.SectorDevice ⟦<SectorFile<H> as SectorDevice>⟧
         (IsMade H.HostFile (O.makes files.now new.now)) (IsUnfinished H.HostFile (O.makes files.now new.now)) asked failure
         source.old source.new target)) }
-    ensures unmade { result.0 ≡ None → source.new ≡ source.old }
+    ensures unmade { IfErr result.1 (λ failure. result.0 ≡ None
+        → IsUntouched (λ device. is_some (sectors_for_copy (A.sector_count device) asked)) failure source.old source.new) }
     ensures unstopped { IfErr result.1 (λ e. e ≢ Failure.Stopped) }
 {
     let Some(sectors) = sectors_for_copy(source.sectors(), asked) else {
@@ -106,6 +107,7 @@ pub(super) fn make_file<H: HostFile, O: HostFiles<H>>(
     ensures well { IfOk result (λ disk. ⟦<SectorFile<H> as SectorDevice>⟧.failures disk ≡ 0) }
     ensures unfinished { IfErr result (λ e. IfSome e.1 (IsUnfinished H.HostFile (O.makes files.now path.now))) }
     ensures refused { IfErr result (λ e. IfSome e.1 (λ _. e.0 ≡ Failure.CannotOpen)) }
+    ensures unmade { IfErr result (λ e. IsUnmade e.0) }
     ensures unstopped { IfErr result (λ e. e.0 ≢ Failure.Stopped) }
 {
     match create_disk(files, path, sectors) {

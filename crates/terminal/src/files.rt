@@ -1,12 +1,13 @@
 //! The commands over images that are files of a system: each gives back what it has opened or made.
 //! Rule: MANUAL, Commands.
-ghost use Rattle.std.specs.Prelude.{◌≡◌, ◌≢◌, ◌⊎◌, ℕ, ◌<◌, ◌≤◌, ◌+◌, ◌*◌, ◌↔◌, true, ⊤, Err, IsOk, OnOk, IfOk, IfErr, IfSome, MatchOption, IsErrOf};
+ghost use Rattle.std.specs.Prelude.{◌≡◌, ◌≢◌, ◌⊎◌, ℕ, ◌<◌, ◌≤◌, ◌+◌, ◌*◌, ◌↔◌, true, ⊤, Err, IsOk, OnOk, IfOk, IfErr, IfSome, MatchBool, MatchOption, IsErrOf};
 ghost use Rattle.journal.specs.Layout.{sectors_for};
 ghost use Rattle.journal.specs.PageLayout as newer_layout;
 ghost use Rattle.journal.specs.Store.{Continues, DeviceBegins, DeviceFailed, DeviceReads, blocks_of, closed_of, device_of, pending_count};
+ghost use Rattle.shadow.specs.Label.{is_known_size};
 ghost use Rattle.terminal.specs.Done.{DoneOn, EachLeft, ImportsBlocks, LooksAt, MakesBlank, PutsBlock, Upgrades};
 ghost use Rattle.recovery.specs.Steps.{WentWell};
-ghost use Rattle.terminal.specs.Failed.{FailsAfter, FailsOn, ImportFails, IsUnmade, LooksInVain, NewFailed, PutFails, UpgradeFailed, UpgradeFails};
+ghost use Rattle.terminal.specs.Failed.{FailsAfter, FailsOn, ImportFails, IsOfTexts, IsUnmade, LooksInVain, NewFailed, PutFails, UpgradeFailed, UpgradeFails};
 ghost use Rattle.terminal.specs.Files.{IsMade, IsOpened, IsUnfinished};
 ghost use Rattle.terminal.specs.Layout3.{MakesNewer, UpgradeDone};
 ghost use Rattle.terminal.specs.Putting.{LeavesSome, PutsSome};
@@ -224,6 +225,7 @@ pub fn check_import<H: HostFile, O: HostFiles<H>, B: Read + Drop, Q: TextFiles<B
     // Whatever is told of the files, no call of the image's device is made.
     ensures failed { IfErr result.1 (λ failure. FailsOn ⟦<SectorFile<H> as SectorDevice>⟧ Left.Opened
         (IsOpened H.HostFile (O.opens files.now path.now)) (LooksInVain
+        (λ device. is_known_size (⟦<SectorFile<H> as SectorDevice>⟧.sector_count device))
         (OneIsUnread (λ path. IsUnread (Q.opens texts.now path) (Q.refuses texts.now path)) sources.now)) failure result.0) }
     ensures unstopped { IfErr result.1 (λ e. e ≢ Failure.Stopped) }
 {
@@ -250,6 +252,7 @@ fn check_files<D: SectorDevice, B: Read + Drop, Q: TextFiles<B>, W: Write>(
         (AreTexts (λ path. IsTextOf B.remaining (Q.opens texts.now path)) sources.now) device.now device.now) }
     ensures cannot { IfErr result (λ e. e ≡ Failure.CannotRead
         → OneIsUnread (λ path. IsUnread (Q.opens texts.now path) (Q.refuses texts.now path)) sources.now) }
+    ensures told { IfErr result (λ e. MatchBool (is_known_size (D.sector_count device.now)) (IsOfTexts e) (e ≡ Failure.BadSize)) }
     ensures unstopped { IfErr result (λ e. e ≢ Failure.Stopped) }
 {
     let Some(blocks) = known_blocks(device.sectors()) else {

@@ -22,6 +22,7 @@ ghost use Rattle.terminal.specs.Layout3.{MakesNewer};
 ghost use Rattle.terminal.specs.Putting.{PutsSome, LeavesSome};
 ghost use Rattle.terminal.specs.Screen.{screen_of, listing};
 
+use super::checking::print;
 use super::failure::Failure;
 use super::screen::{BLOCK, listing, screen_of};
 use arrayvec::ArrayVec;
@@ -29,7 +30,7 @@ use interpreter::IoFault;
 use journal::StoreFault;
 use recovery::format;
 use sector_disk::SectorDevice;
-use sessions::streams::{flush, read_byte, write_bytes};
+use sessions::streams::read_byte;
 use std::io::{Read, Write};
 use stores::{Store, open};
 
@@ -143,15 +144,6 @@ pub fn list_block<D: SectorDevice, W: Write>(
         Ok(()) => print(listing(&bytes).as_slice(), output),
         Err(_) => Err(Failure::Device),
     }
-}
-
-/// Writes all bytes, and passes them on.
-fn print<W: Write>(bytes: &[u8], output: &mut W) -> Result<(), Failure>
-    ensures ok { OnOk result (Appends (W.contents output.old) (W.contents output.new) bytes.now) }
-    ensures err { IfErr result (λ e. e ≡ Failure.CannotWrite) }
-{
-    write_bytes(output, bytes).map_err(|_| Failure::CannotWrite)?;
-    flush(output).map_err(|_| Failure::CannotWrite)
 }
 
 /// Makes the lines of a text a block, which is there, in one save. `CannotRead` where the text can't be read,

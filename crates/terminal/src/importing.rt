@@ -6,6 +6,7 @@ ghost use Rattle.journal.specs.Calls.{StopsLeave};
 ghost use Rattle.journal.specs.Maps.{Maps, latest};
 ghost use Rattle.journal.specs.Costs.{spill_reads, spill_writes};
 ghost use Rattle.journal.specs.Store.{Continues, DeviceBegins, DeviceFailed, DeviceReads, DeviceWentWell, KeepsSaved, MeansBy, StandsFor, blocks_of, by_older, closed_of, device_of, pending_count};
+ghost use Rattle.terminal.specs.Failed.{IsOfTexts};
 ghost use Rattle.terminal.specs.Findings.{AreSound, blocks_for, in_blocks, refusal, said, said_all, told};
 ghost use Rattle.terminal.specs.Imported.{Imports, ImportsSome, LeavesImported, Spills, SpillsNext};
 ghost use Rattle.terminal.specs.Texts.{AreTexts, IsTextOf, IsUnread, OneIsUnread};
@@ -90,7 +91,7 @@ pub fn read_blocks<B: Read + Drop, Q: TextFiles<B>, E: Write>(
         → OneIsUnread (λ path. IsUnread (Q.opens texts.now path) (Q.refuses texts.now path)) paths.now) }
     ensures below { OnOk result (first < blocks) }
     ensures there { IfOk result (λ bytes. first + blocks_for (length bytes.items) ≤ blocks) }
-    ensures only { IfErr result (λ e. e ≢ Failure.Device) }
+    ensures only { IfErr result (λ e. IsOfTexts e) }
     ensures unstopped { IfErr result (λ e. e ≢ Failure.Stopped) }
 {
     if first >= blocks {
@@ -127,7 +128,7 @@ fn add_files<B: Read + Drop, Q: TextFiles<B>, E: Write>(
         × AreSound form room files × (bytes.new.items ≡ bytes.old.items ++ said_all form files)) }
     ensures cannot { IfErr result (λ e. e ≡ Failure.CannotRead
         → OneIsUnread (λ path. IsUnread (Q.opens texts.now path) (Q.refuses texts.now path)) paths.now) }
-    ensures only { IfErr result (λ e. e ≢ Failure.Device) }
+    ensures only { IfErr result (λ e. IsOfTexts e) }
     ensures unstopped { IfErr result (λ e. e ≢ Failure.Stopped) }
 {
     let mut left = room;
@@ -157,7 +158,7 @@ fn add_file<B: Read + Drop, Q: TextFiles<B>, E: Write>(
         × (refusal (told form room file) ≡ None) × (left ≡ room - blocks_for (length (said form file))) × (bytes.new.items ≡ bytes.old.items ++ in_blocks (said form file))) }
     ensures cannot { IfErr result (λ e. e ≡ Failure.CannotRead
         → IsUnread (Q.opens texts.now path.now) (Q.refuses texts.now path.now)) }
-    ensures only { IfErr result (λ e. e ≢ Failure.Device) }
+    ensures only { IfErr result (λ e. IsOfTexts e) }
     ensures unstopped { IfErr result (λ e. e ≢ Failure.Stopped) }
 {
     let said = read_file(alloc, texts, room, path, form, all, errors)?;
@@ -191,7 +192,7 @@ fn read_file<B: Read + Drop, Q: TextFiles<B>, E: Write>(
     ensures cannot { IfErr result (λ e. e ≡ Failure.CannotRead
         → IsUnread (Q.opens texts.now path.now) (Q.refuses texts.now path.now)) }
     ensures there { IfOk result (λ bytes. blocks_for (length bytes.items) ≤ room) }
-    ensures only { IfErr result (λ e. e ≢ Failure.Device) }
+    ensures only { IfErr result (λ e. IsOfTexts e) }
     ensures unstopped { IfErr result (λ e. e ≢ Failure.Stopped) }
 {
     match open_text(texts, path) {
@@ -213,7 +214,7 @@ fn read_said<R: Read, E: Write>(
     ensures said { IfOk result (λ bytes. (file : List ℕ) × IfSome (R.remaining reader.old) (λ left. file ≡ left)
         × (refusal (told form room file) ≡ None) × (bytes.items ≡ said form file)) }
     ensures there { IfOk result (λ bytes. blocks_for (length bytes.items) ≤ room) }
-    ensures only { IfErr result (λ e. e ≢ Failure.Device) }
+    ensures only { IfErr result (λ e. IsOfTexts e) }
     ensures unstopped { IfErr result (λ e. e ≢ Failure.Stopped) }
 {
     let file = read_all(alloc, reader)?;
@@ -239,7 +240,7 @@ fn take_said<E: Write>(
     ensures sound { OnOk result (refusal (told form room file.now) ≡ None) }
     ensures said { IfOk result (λ bytes. bytes.items ≡ said form file.now) }
     ensures there { IfOk result (λ bytes. blocks_for (length bytes.items) ≤ room) }
-    ensures only { IfErr result (λ e. e ≢ Failure.Device) }
+    ensures only { IfErr result (λ e. IsOfTexts e) }
     ensures unstopped { IfErr result (λ e. e ≢ Failure.Stopped) }
 {
     let Ok(screens) = read_screens(alloc, form, room, file) else {

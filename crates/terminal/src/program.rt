@@ -13,12 +13,12 @@ ghost use Rattle.terminal.specs.OrderDone.{IsDone, IsFailed, IsStopped, KeepsStr
 ghost use Rattle.terminal.specs.Done.{DoneOn, RunsFrom};
 ghost use Rattle.terminal.specs.Failed.{NewFailed, ScriptFailed, UpgradeFailed};
 ghost use Rattle.sessions.specs.Devices.{Becomes};
-ghost use Rattle.terminal.specs.Failures.{status_of};
+ghost use Rattle.terminal.specs.Failures.{of_run, status_of};
 ghost use Rattle.terminal.specs.Files.{IsMade, IsOpened, IsUnfinished};
 ghost use Rattle.terminal.specs.Layout3.{NewDone, UpgradeDone};
 ghost use Rattle.terminal.specs.Scripts.{RunsScript, StopsScript, is_plain};
 ghost use Rattle.terminal.specs.Texts.{IsTextOf, IsUnread};
-ghost use Rattle.terminal.specs.InMemory.{AsksForHelp, AsksForNothing, BreaksInMemory, CompletesInMemory, EndsHelp, IsForMemory, IsHelp};
+ghost use Rattle.terminal.specs.InMemory.{AsksForHelp, AsksForNothing, CompletesInMemory, EndsHelp, EndsInMemory, FailsInMemory, IsForMemory, IsHelp};
 ghost use Rattle.sessions.specs.Sessions.{BreaksOff};
 
 use super::checking::check_image;
@@ -75,8 +75,14 @@ pub fn command<F: Lines<FileDisk>, M: Lines<MemoryDisk>, S: AsStr, R: Input, W: 
     // Without a command the input is a session over blank blocks in memory, and the output is that session's.
     ensures well { AsksForNothing (map S.text words.now) → result ≡ 0 → CompletesInMemory ⟦<MemoryDisk as SectorDevice>⟧
         (R.remaining input.old) (R.remaining input.new) (W.contents output.old) (W.contents output.new) }
-    ensures broken { AsksForNothing (map S.text words.now) → result ≡ 4 → BreaksInMemory ⟦<MemoryDisk as SectorDevice>⟧
+    ensures broken { AsksForNothing (map S.text words.now) → result ≢ 0 → EndsInMemory ⟦<MemoryDisk as SectorDevice>⟧ result
         (R.remaining input.old) (R.remaining input.new) (W.contents output.old) (W.contents output.new) }
+    // Words that are refused end in 2, or in 5 where there was no memory; or help was asked for, and it was shown or couldn't be.
+    ensures refused { fault_of forth83 (map S.text words.now) ≢ [] → (result ≡ 2) ⊎ (result ≡ 5)
+        ⊎ (AsksForHelp (fault_of forth83 (map S.text words.now)) × EndsHelp result) }
+    ensures unread { fault_of forth83 (map S.text words.now) ≢ [] → R.remaining input.new ≡ R.remaining input.old }
+    ensures unwritten { fault_of forth83 (map S.text words.now) ≢ []
+        → AsksForHelp (fault_of forth83 (map S.text words.now)) ⊎ (W.contents output.new ≡ W.contents output.old) }
 {
     let files = StdFiles::with_rights_of(rt, old_image(rt.alloc(), words));
     let looking = ReadingFiles::with_copies(rt);
@@ -130,7 +136,7 @@ pub fn command_over<
 ) -> (Left<SectorFile<H>, SectorFile<K>>, u8)
     ensures well { AsksForNothing (map S.text words.now) → result.1 ≡ 0 → CompletesInMemory ⟦<MemoryDisk as SectorDevice>⟧
         (R.remaining input.old) (R.remaining input.new) (W.contents output.old) (W.contents output.new) }
-    ensures broken { AsksForNothing (map S.text words.now) → result.1 ≡ 4 → BreaksInMemory ⟦<MemoryDisk as SectorDevice>⟧
+    ensures broken { AsksForNothing (map S.text words.now) → result.1 ≢ 0 → EndsInMemory ⟦<MemoryDisk as SectorDevice>⟧ result.1
         (R.remaining input.old) (R.remaining input.new) (W.contents output.old) (W.contents output.new) }
     // Of words that are refused nothing, status 0 comes only where what they order was done: what is given back are the files
     // that the system opened, or made, under those names, and what was done is told of them as they are. What was read of a
@@ -204,8 +210,7 @@ fn perform<
     requires { IsInRange asked }
     ensures well { IsForMemory asked.entry → OnOk result.1 (CompletesInMemory ⟦<MemoryDisk as SectorDevice>⟧
         (R.remaining input.old) (R.remaining input.new) (W.contents output.old) (W.contents output.new)) }
-    ensures broken { IsForMemory asked.entry
-        → IfErr result.1 (λ e. e ≢ Failure.NoMemory → BreaksInMemory ⟦<MemoryDisk as SectorDevice>⟧
+    ensures broken { IsForMemory asked.entry → IfErr result.1 (λ e. FailsInMemory ⟦<MemoryDisk as SectorDevice>⟧ e
         (R.remaining input.old) (R.remaining input.new) (W.contents output.old) (W.contents output.new)) }
     ensures done { OnOk result.1 (IsDone ⟦<SectorFile<H> as SectorDevice>⟧ ⟦<SectorFile<K> as SectorDevice>⟧
         (λ path. IsOpened H.HostFile (O.opens files.now path)) (λ path. IsMade H.HostFile (O.makes files.now path))
@@ -406,7 +411,7 @@ pub(super) fn traced_in_memory<M: Lines<MemoryDisk>, R: Read, W: Write, E: Write
 ) -> u8
     ensures well { result ≡ 0 → CompletesInMemory ⟦<MemoryDisk as SectorDevice>⟧
         (R.remaining input.old) (R.remaining input.new) (W.contents output.old) (W.contents output.new) }
-    ensures broken { result ≡ 4 → BreaksInMemory ⟦<MemoryDisk as SectorDevice>⟧
+    ensures broken { result ≢ 0 → EndsInMemory ⟦<MemoryDisk as SectorDevice>⟧ result
         (R.remaining input.old) (R.remaining input.new) (W.contents output.old) (W.contents output.new) }
 {
     let end = run_in_memory::<M, R, W, Traces<'_, E>>(rt, input, output, &mut Traces::new(errors));
@@ -422,7 +427,7 @@ fn run_in_memory<M: Lines<MemoryDisk>, R: Read, W: Write, T: Tracer>(
 ) -> Result<(), Failure>
     ensures well { OnOk result (CompletesInMemory ⟦<MemoryDisk as SectorDevice>⟧
         (R.remaining input.old) (R.remaining input.new) (W.contents output.old) (W.contents output.new)) }
-    ensures broken { IfErr result (λ e. e ≢ Failure.NoMemory → BreaksInMemory ⟦<MemoryDisk as SectorDevice>⟧
+    ensures broken { IfErr result (λ e. FailsInMemory ⟦<MemoryDisk as SectorDevice>⟧ e
         (R.remaining input.old) (R.remaining input.new) (W.contents output.old) (W.contents output.new)) }
     ensures unstopped { IfErr result (λ e. e ≢ Failure.Stopped) }
 {
@@ -456,10 +461,10 @@ pub(crate) fn run_session<D: SectorDevice + Drop, F: Lines<D>, R: Read, W: Write
         RunsFrom D.SectorDevice (new_forth steps m) (R.remaining input.old) (R.remaining input.new)
         (W.contents output.old) (W.contents output.new) (device_of store) (device_of end)) }
     ensures goes { IfOk result (λ end. Becomes D.SectorDevice (device_of store) (device_of end)) }
-    ensures broken { (m : Maps) → StandsFor store m → IfErr result (λ e. e ≢ Failure.NoMemory
-        → (fault : AbstractFault) × (closing : Abstract) × (made : List Save) × (after : D)
+    ensures broken { (m : Maps) → StandsFor store m → IfErr result (λ e. (e ≡ Failure.NoMemory)
+        ⊎ ((fault : AbstractFault) × (e ≡ of_run fault) × (closing : Abstract) × (made : List Save) × (after : D)
         × BreaksOff D.SectorDevice fault (new_forth steps m) closing (R.remaining input.old) (R.remaining input.new)
-        (W.contents output.old) (W.contents output.new) (device_of store) after made) }
+        (W.contents output.old) (W.contents output.new) (device_of store) after made)) }
     // Memory is refused before the session begins.
     ensures unread { IsErrOf result Failure.NoMemory → input.new ≡ input.old }
     ensures unwritten { IsErrOf result Failure.NoMemory → output.new ≡ output.old }
@@ -478,7 +483,7 @@ pub(crate) fn run_session<D: SectorDevice + Drop, F: Lines<D>, R: Read, W: Write
 }
 
 /// The exit status. A failure is told in a line.
-fn told<E: Write>(outcome: Result<(), Failure>, errors: &mut E) -> u8
+pub(super) fn told<E: Write>(outcome: Result<(), Failure>, errors: &mut E) -> u8
     ensures well { result ≡ 0 → IsOk outcome }
     ensures broken { result ≡ 4 → IsErr outcome }
     ensures not_memory { result ≡ 4 → IfErr outcome (λ e. e ≢ Failure.NoMemory) }

@@ -1,6 +1,6 @@
 //! What can be had of a damaged image is put into a new file, and told of. The old one is opened for reading alone.
 //! Rule: MANUAL, forth83 salvage OLD NEW [--blocks N]; IMAGE, Layout 3, What can be had of a damaged image.
-ghost use Rattle.std.specs.Prelude.{◌≡◌, ◌≢◌, ◌⊎◌, ◌<◌, ◌++◌, true, ⊤, Some, None, string_bytes, IsTrue, IfErr, IfOk, IfSome, MatchResult, OnOk, option_map};
+ghost use Rattle.std.specs.Prelude.{◌≡◌, ◌≢◌, ◌⊎◌, ◌<◌, ◌++◌, true, ⊤, Some, None, string_bytes, IsTrue, IfErr, IfOk, IfSome, MatchResult, OnOk, is_some, option_map};
 ghost use Rattle.std.specs.Io.KnownBytes.{Appends};
 ghost use Rattle.sector_disk.specs.Counting.{count_up};
 ghost use Rattle.journal.specs.Calls.{StopsLeave};
@@ -14,7 +14,7 @@ ghost use Rattle.terminal.specs.Care.{SalvageDone};
 ghost use Rattle.terminal.specs.Copying.{Salvages, no_recovery, pages_no_recovery, salvage_told, salvaged_count, sectors_for_salvage, standing_by};
 ghost use Rattle.terminal.specs.Damage.{damage_told};
 ghost use Rattle.terminal.specs.Done.{EachLeft, IsGiven, LeavesBlocks};
-ghost use Rattle.terminal.specs.Failed.{MakesSalvageInPart, SalvageFailed, SalvageFails};
+ghost use Rattle.terminal.specs.Failed.{IsUntouched, MakesSalvageInPart, SalvageFailed, SalvageFails};
 ghost use Rattle.terminal.specs.Failures.{of_upgrade};
 ghost use Rattle.terminal.specs.Files.{IsMade, IsOpened, IsUnfinished};
 ghost use Rattle.terminal.specs.Through.{MakesSalvage};
@@ -93,7 +93,8 @@ fn salvage_into<A: SectorDevice, H: HostFile, O: HostFiles<H>, W: Write>(
     ensures failed { IfErr result.1 (λ failure. IfSome result.0 (λ target. MakesSalvageInPart A.SectorDevice ⟦<SectorFile<H> as SectorDevice>⟧
         (IsMade H.HostFile (O.makes files.now new.now)) (IsUnfinished H.HostFile (O.makes files.now new.now)) asked failure
         source.old source.new target)) }
-    ensures unmade { result.0 ≡ None → source.new ≡ source.old }
+    ensures unmade { IfErr result.1 (λ failure. result.0 ≡ None
+        → IsUntouched (λ device. is_some (sectors_for_salvage (A.sector_count device) asked)) failure source.old source.new) }
     ensures unprinted { IfErr result.1 (λ e. e ≢ Failure.CannotWrite → output.new ≡ output.old) }
     ensures unstopped { IfErr result.1 (λ e. e ≢ Failure.Stopped) }
 {

@@ -3,9 +3,10 @@
 ghost use Rattle.std.specs.Prelude.{◌↔◌, ◌≤ℤ◌, pos, IsTrue};
 
 use super::attending::{advise, greet, is_target_there};
+use super::failure::Failure;
 use super::hints::hint;
 use super::input::{Input, Led};
-use super::program::{command, traced_in_memory};
+use super::program::{command, told, traced_in_memory};
 use interpreter::promise::Lines;
 use sector_disk::{FileDisk, MemoryDisk};
 use sessions::ByteReader;
@@ -32,10 +33,10 @@ pub fn start<
 >(rt: &(impl Files<File = File> + Env + AllocGlobal), input: R, output: W, errors: &mut E) -> u8 {
     match call_program::<F, M, R, W, E>(rt, input, output, errors) {
         Ok(status) => status,
-        Err(error) if error.kind() == ErrorKind::OutOfMemory => {
-            let _ = writeln!(errors, "forth83: no memory");
-            5
-        }
+        Err(error) if error.kind() == ErrorKind::OutOfMemory => told(
+            Err(Failure::NoMemory),
+            errors,
+        ),
         Err(error) if error.kind() == ErrorKind::InvalidData => {
             let _ = writeln!(errors, "error: a word of the command line is not UTF-8");
             2

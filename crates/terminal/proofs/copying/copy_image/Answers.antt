@@ -13,7 +13,7 @@ pub returns-in-Ok-clause-failed : goal.returns-in-Ok-clause-failed
 returns-in-Ok-clause-failed g c =
     let ended = c.copy_into-target in
     some_left ended.result.0 ended.result.1 c.copied.result _ _ c.in-Ok.source ended.new.source
-    (record { file = c.in-Ok.ensures.file; sectors = c.in-Ok.ensures.sectors; counts = c.in-Ok.ensures.counts; failures = c.in-Ok.ensures.failures }) c.copied.ensures ended.ensures.unmade ended.ensures.failed
+    (record { file = c.in-Ok.ensures.file; sectors = c.in-Ok.ensures.sectors; counts = c.in-Ok.ensures.counts; failures = c.in-Ok.ensures.failures }) c.copied.ensures _ ended.ensures.unmade ended.ensures.failed
 
 pub returns-in-Err-clause-failed : goal.returns-in-Err-clause-failed
 returns-in-Err-clause-failed g c = inl (inl (refl, unopened c.in-Err.fault c.from.result c.in-Err.ensures.refusal c.from.ensures))

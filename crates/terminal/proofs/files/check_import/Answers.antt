@@ -13,7 +13,7 @@ pub returns-in-Ok-clause-failed : goal.returns-in-Ok-clause-failed
 returns-in-Ok-clause-failed g c =
     failed_on (λ d. Opened d) _ _ c.in-Ok.disk c.in-Ok.disk c.check_files-outcome.result c.check_files-outcome.result _
     (record { file = c.in-Ok.ensures.file; sectors = c.in-Ok.ensures.sectors; counts = c.in-Ok.ensures.counts; failures = c.in-Ok.ensures.failures }) refl refl
-    (looked_in_vain _ c.check_files-outcome.result c.in-Ok.disk c.check_files-outcome.ensures.cannot)
+    (looked_in_vain _ _ c.check_files-outcome.result c.in-Ok.disk c.check_files-outcome.ensures.told c.check_files-outcome.ensures.cannot)
 
 pub returns-in-Err-clause-failed : goal.returns-in-Err-clause-failed
 returns-in-Err-clause-failed g c = inl (refl, unopened c.in-Err.fault c.from.result c.in-Err.ensures.refusal c.from.ensures)

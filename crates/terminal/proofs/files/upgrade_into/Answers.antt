@@ -1,9 +1,11 @@
-use Rattle.std.proofs.Common.{◌≡◌, ◌∙◌, ℕ, inl, inr, refl, subst, sym}
+use Rattle.std.proofs.Common.{◌≡◌, ◌∙◌, ℕ, ap, inl, inr, refl, subst, sym}
 use Rattle.std.proofs.lemmas.Result.{IfErr-weaker, on_ok_weaker}
-use Rattle.journal.specs.Layout.{sectors_for}
+use Rattle.journal.specs.Layout.{most_blocks_1, sectors_for}
+use Rattle.journal.specs.Sizes.{is_size_within}
 use Rattle.sector_disk.specs.Opening.{AreZeros}
 use Rattle.terminal.specs.Files.{IsMade, IsUnfinished}
-use Rattle.terminal.proofs.Begun.{not_upgraded, told_cannot, unfinished_are}
+use Rattle.terminal.proofs.Begun.{not_upgraded, told_cannot, unfinished_are, unfit}
+use Rattle.terminal.proofs.Ended.{unmade}
 use Rattle.terminal.proofs.files.upgrade_into.Goals as goal
 
 pub returns-in-Ok-clause-made : goal.returns-in-Ok-clause-made
@@ -44,11 +46,21 @@ returns-in-Ok-clause-failed g c =
     (done.ensures.failed c.in-Some.field-0 size same)
 
 pub returns-in_default-clause-failed : goal.returns-in_default-clause-failed
-returns-in_default-clause-failed g c = inl (inl (inr (c.args.source, refl, (c.args.source, refl, refl))))
+returns-in_default-clause-failed g c =
+    inl (inl (inr (
+      c.args.source,
+      refl,
+      (
+        c.args.source,
+        refl,
+        unfit (λ d. is_size_within most_blocks_1 d.sectors) c.args.source (ap (is_size_within most_blocks_1) (sym c.sectors-sectors.ensures) ∙ c.in_default.ensures.none),
+      ),
+    )))
 
 pub returns-in-Err-clause-failed : goal.returns-in-Err-clause-failed
 returns-in-Err-clause-failed g c =
     let e = c.in-Err.ensures in
     inl (not_upgraded c.in-Err.unfinished c.begun_beside.result c.from.result (λ device. device ≡ c.args.source)
-    (IsUnfinished g.H.HostFile (g.O.HostFiles.makes c.args.files.now c.args.new.now)) c.args.source refl c.begun_beside.ensures
-    (unfinished_are g.H.HostFile _ c.in-Err.unfinished e.unfinished e.empty e.uncounted e.unfailed) (told_cannot c.in-Err.unfinished c.in-Err.fault c.from.result c.from.ensures e.refused))
+    (IsUnfinished g.H.HostFile (g.O.HostFiles.makes c.args.files.now c.args.new.now)) (λ d. is_size_within most_blocks_1 d.sectors) c.args.source refl c.begun_beside.ensures
+    (unfinished_are g.H.HostFile _ c.in-Err.unfinished e.unfinished e.empty e.uncounted e.unfailed) (told_cannot c.in-Err.unfinished c.in-Err.fault c.from.result c.from.ensures e.refused)
+    (ap (is_size_within most_blocks_1) (sym c.sectors-sectors.ensures) ∙ c.in-Some.ensures.some) (unmade c.in-Err.fault c.from.result c.from.ensures))

@@ -1,9 +1,10 @@
-use Rattle.std.proofs.Common.{◌≡◌, ◌∙◌, ℕ, ap, inl, inr, refl, subst}
+use Rattle.std.proofs.Common.{◌≡◌, ◌∙◌, ℕ, ap, inl, inr, refl, subst, sym}
 use Rattle.std.proofs.lemmas.Result.{IfErr-weaker, on_ok_weaker}
 use Rattle.journal.specs.PageLayout.{sectors_for}
+use Rattle.shadow.specs.Label.{is_known_size}
 use Rattle.shadow.specs.Upgraded.{known_blocks}
 use Rattle.terminal.specs.Files.{IsMade}
-use Rattle.terminal.proofs.Begun.{not_upgraded}
+use Rattle.terminal.proofs.Begun.{not_upgraded, unfit}
 use Rattle.terminal.proofs.layout_3_upgrading.upgrade_newer_into.Goals as goal
 
 pub returns-in-Ok-clause-made : goal.returns-in-Ok-clause-made
@@ -23,9 +24,11 @@ returns-in-Ok-clause-failed g c =
     IfErr-weaker done.result _ _ (λ e did. inr (c.args.source, refl, target, is, done.new.old, done.new.new, refl, did)) (done.ensures.failed is.sectors_are)
 
 pub returns-in_default-clause-failed : goal.returns-in_default-clause-failed
-returns-in_default-clause-failed g c = inl (inl (inr (c.args.source, refl, (c.args.source, refl, refl))))
+returns-in_default-clause-failed g c =
+    inl (inl (inr (c.args.source, refl, (c.args.source, refl, unfit (λ d. is_known_size d.sectors) c.args.source (ap is_known_size (sym c.sectors.ensures) ∙ c.in_default.ensures.none)))))
 
 pub returns-in-Err-clause-failed : goal.returns-in-Err-clause-failed
 returns-in-Err-clause-failed g c =
     let e = c.in-Err.ensures in
-    inl (not_upgraded c.in-Err.unfinished c.begun_beside.result c.in-Err.failure _ _ c.args.source refl c.begun_beside.ensures e.unfinished e.refused)
+    inl (not_upgraded c.in-Err.unfinished c.begun_beside.result c.in-Err.failure _ _ (λ d. is_known_size d.sectors) c.args.source refl c.begun_beside.ensures e.unfinished e.refused
+    (ap is_known_size (sym c.sectors.ensures) ∙ c.in-Some.ensures.some) e.unmade)

@@ -1,6 +1,7 @@
 use Rattle.std.proofs.Common.{◌≡◌, ◌∙◌, Some, ap, inr, refl, sym}
+use Rattle.std.specs.Prelude.{is_some}
 use Rattle.std.proofs.lemmas.Result.{IfErr-weaker, on_ok_weaker}
-use Rattle.terminal.proofs.Begun.{begun_in_part}
+use Rattle.terminal.proofs.Begun.{begun_in_part, unfit, unmade_beside}
 use Rattle.terminal.specs.Copying.{sectors_for_salvage}
 use Rattle.terminal.proofs.salvaging.salvage_into.Goals as goal
 
@@ -30,3 +31,13 @@ returns-in-Ok-clause-failed g c =
 pub returns-in-Err-clause-failed : goal.returns-in-Err-clause-failed
 returns-in-Err-clause-failed g c =
     begun_in_part c.in-Err.unfinished c.in-Err.failure _ _ c.args.source.now c.in-Err.ensures.unfinished c.in-Err.ensures.refused
+
+pub returns-in-Err-clause-unmade : goal.returns-in-Err-clause-unmade
+returns-in-Err-clause-unmade g c = λ none.
+    unmade_beside (λ source. is_some (sectors_for_salvage (g.A.SectorDevice.sector_count source) c.args.asked)) c.args.source.now c.in-Err.failure
+    (ap is_some (sym (c.in-Some.ensures ∙ ap (λ s. sectors_for_salvage s c.args.asked) c.sectors.ensures))) c.in-Err.ensures.unmade
+
+pub returns-in_default-clause-unmade : goal.returns-in_default-clause-unmade
+returns-in_default-clause-unmade g c = λ none.
+    unfit (λ source. is_some (sectors_for_salvage (g.A.SectorDevice.sector_count source) c.args.asked)) c.args.source.now
+    (ap is_some (sym (c.in_default.ensures ∙ ap (λ s. sectors_for_salvage s c.args.asked) c.sectors.ensures)))
