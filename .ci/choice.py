@@ -1,10 +1,10 @@
 """What a run of the gate tries: each edit of must-fail/, all of a crate that changed since a run that passed tried all, and of the rest a fifth, which
-goes round. Of the crates of tests it has a fifth proved, with what only they stand on, and tries the wrong bodies of these; all tests are run each time. The
-tools' own trials come where a tool, or the kit, changed since, and else each fifth time.
+goes round. A crate of tests is proved in one of five runs, with what only it stands on, and the wrong bodies of these are tried; where there are none, in one
+of ten. All tests are run each time. The tools' own trials come where a tool, or the kit, changed since, and else each fifth time.
 
 What the crates were in that run stands in docs/GATE.md, in a block that is read and written here: a sum of each crate's files, and of the tools'. Where there
-is no such block, or it can't be read, all counts as changed. Which fifth it is goes by the number of commits, so that five commits after each other try all; where
-that isn't known, by a sum of all files.
+is no such block, or it can't be read, all counts as changed. Whose turn it is goes by the number of commits, so that five commits after each other try all wrong
+bodies, and ten prove all tests; where that isn't known, by a sum of all files.
 """
 import glob
 import hashlib
@@ -17,6 +17,8 @@ from judging import FOLDERS, ROOT, files_below, kit, text_of
 
 PAGE = f"{ROOT}/docs/GATE.md"
 FIFTHS = 5
+# in one of how many runs a crate of tests is proved with which no wrong bodies are tried
+TENTHS = 10
 # what of a crate's folder its sum is of, beside its line of crates.txt
 KINDS = ("src", "specs", "proofs", *FOLDERS, "data", "pages", "stdin", "stdout", "args", "status")
 BLOCK = re.compile(r"(?<=^```record\n).*?(?=^```$)", re.M | re.S)
@@ -121,18 +123,20 @@ class Choice:
         self.is_whole, self.record, self.sums = is_whole, Record.of_page(), sums_of(crates)
         before = self.record.sums if self.record else {}
         self.changed = [it for it in crates if before.get(it) != self.sums[it]]
-        self.fifth = self.number() % FIFTHS
+        number = self.number()
+        self.fifth = number % FIFTHS
         self.tries_tools = is_whole or before.get(TOOLS) != self.sums[TOOLS] or not self.fifth
-        self.tests = [it for it in crates if is_of_tests(it)]
-        self.left_out = [] if is_whole else self.not_in_turn(crates)
-        # libraries of which it isn't the turn of their own tests to be proved
-        self.untested = [it.name for it in all_crates().values() if it.name not in self.tests and it.has_own_tests()
-                         and not (is_whole or it.name in self.changed or turn(it.name) == self.fifth)]
         self.folders = {}
         for name in crates:
             for folder in FOLDERS:
                 for it in sorted(glob.glob(f"{ROOT}/crates/{name}/{folder}/*.edit")):
                     self.folders.setdefault(f"{name}/{os.path.basename(it).removesuffix('.edit')}", []).append(folder)
+        self.tests = [it for it in crates if is_of_tests(it)]
+        self.by_turns, left_out = self.turns(crates, number)
+        self.left_out = [] if is_whole else left_out
+        # libraries of which it isn't the turn of their own tests to be proved
+        self.untested = [it.name for it in all_crates().values() if it.name not in self.tests and it.has_own_tests()
+                         and not (is_whole or it.name in self.changed or turn(it.name) == self.fifth)]
         self.names = [it for it in self.folders if self.tries(it)]
 
     def number(self):
@@ -140,23 +144,30 @@ class Choice:
         count = git("rev-list", "--count", "HEAD") if git("rev-parse", "--is-shallow-repository") == "false" else ""
         return int(count or git("rev-parse", "HEAD^{tree}") or short_sum(self.sums), 10 if count else 16)
 
-    def not_in_turn(self, crates):
-        """The crates of tests that aren't proved this time, and what only these stand on. One that nothing runs is proved each time: its proof is the test."""
+    def turns(self, crates, number):
+        """The crates of tests that are proved by turns, and those whose turn it isn't. One that nothing runs is proved each time: its proof is the test."""
         users = {low: {it for it, line in crates.items() if low in line.partition(":")[2].split()} for low in self.tests}
         known = all_crates()
+
+        def with_their_own(chosen):
+            """These crates, and those that they alone stand on."""
+            found = {*chosen}
+            for it in reversed(self.tests):
+                if users[it] and users[it] <= found:
+                    found.add(it)
+            return [it for it in self.tests if it in found]
+
         are_run = [it for it in self.tests if not users[it] and (known[it].holds_tests() or known[it].is_program())]
-        left_out = {it for at, it in enumerate(are_run) if at % FIFTHS != self.fifth}
-        for it in reversed(self.tests):
-            if users[it] and users[it] <= left_out:
-                left_out.add(it)
-        return [it for it in self.tests if it in left_out]
+        have_bodies = {it.partition("/")[0] for it in self.folders}
+        rounds = {it: FIFTHS if have_bodies & {it, *(low for low in self.tests if it in users[low])} else TENTHS for it in are_run}
+        return with_their_own(are_run), with_their_own(it for at, it in enumerate(are_run) if (number - at) % rounds[it])
 
     def tries(self, name):
-        """Whether a body is tried, with its control. Those of wrong/ of a crate of tests are tried where it is proved, so that nothing is built for them alone."""
+        """Whether a body is tried, with its control. Those of wrong/ of a crate that is proved by turns are tried then, so that nothing is built for them alone."""
         crate = name.partition("/")[0]
         if self.is_whole or crate in self.changed or "must-fail" in self.folders[name]:
             return True
-        return crate not in self.left_out if crate in self.tests else turn(name) == self.fifth
+        return crate not in self.left_out if crate in self.by_turns else turn(name) == self.fifth
 
     def count(self, names):
         return sum(len(self.folders[it]) for it in names)
