@@ -24,17 +24,18 @@
  * What the host owes, which nothing checks:
  * - Each pointer that is passed to a call is to as many elements as the length after it says, aligned for its type. What is
  *   passed to be filled overlaps with nothing else.
- * - The host's functions write to nothing of the library's but the bytes that they were given to fill, keep no pointer, and
- *   call no function of this header. The calls come from one thread, one after another. A call that is left by longjmp is as
- *   one that a loss of power ended: a store that was open in it is open no more, whatever its memory says, until silgwyrad_open
- *   opens it again. One of silgwyrad_run leaves its memory taken.
+ * - The host's functions write to nothing of the library's but the bytes that they were given to fill, keep no pointer, and call no
+ *   function of this header. The calls come from one thread, one after another, and none from the handler of an interrupt or a
+ *   signal. A call that is left by longjmp is as one that a loss of power ended: a store that was open in it is open no more,
+ *   whatever its memory says, until silgwyrad_open opens it again. One of silgwyrad_run leaves its memory taken.
  * - A device has the sectors that the call says, of 512 bytes each, and nothing else writes to them. To keep the disk model: a
- *   read gives what was last written. A write changes no other sector; until a sync has succeeded, a loss of power may leave
- *   any bytes in it (with an image of layout 3, in each of the eight sectors of its page), and so may a write that failed. A
- *   sync that answers 0 makes all stay that was written before it, also where an earlier sync failed.
+ *   read gives what was last written. A write changes no other sector; one that failed may leave any bytes in its own. Until a
+ *   sync has succeeded, a loss of power may leave any bytes in a sector that was written (with an image of layout 3, in each of
+ *   the eight sectors of its page, which begins at a multiple of eight). A sync that answers 0 makes all stay that was written
+ *   before it, also where an earlier sync failed, of this program or of one before it since the machine was started.
  * - A console gives each byte of its input once, in order, and then its end; where it fails, none was lost. Bytes that it answered 0 for stay
  *   written, in order; of those that it refused some may have come through.
- * - An open store is what silgwyrad_open or a later call that returned left in its memory, or zeros, and its number is that of the same device.
+ * - An open store is what the last call over it that returned left in its memory, and no older copy, or zeros; its number is that of the same device.
  * - The heap of silgwyrad_run gives blocks aligned to 16 bytes. The stack has what docs/EMBEDDING.md measures: no call looks at its end. */
 #ifndef SILGWYRAD_H
 #define SILGWYRAD_H
@@ -54,12 +55,13 @@ enum silgwyrad_answer {
     SILGWYRAD_NO_LABEL = 2,      /* the image has no label: it was never formatted, or a format was stopped */
     SILGWYRAD_OTHER_VERSION = 3, /* the label has another version than that of images of this size */
     SILGWYRAD_WRONG_COUNT = 4,   /* the label counts other blocks than the sectors do */
-    SILGWYRAD_DEVICE = 5,        /* a call of the device failed: open the image again by any call that takes a device, as after a loss of power */
+    SILGWYRAD_DEVICE = 5,        /* a call of the device failed: open the image again by any call that takes a device, as after a loss of power; over a file
+                                    whose sync failed only after the machine was restarted */
     SILGWYRAD_DAMAGED = 6,       /* the bytes of a save that is under way, or by layout 3 of a block or of the record, aren't those that were saved */
     SILGWYRAD_NO_BLOCK = 7,      /* the image has no such block; the device wasn't called */
     SILGWYRAD_BAD_LENGTH = 8,    /* not 1024 bytes for each block; the device wasn't called */
     SILGWYRAD_NO_STEPS = 9,      /* a line may take no step; nothing was called */
-    SILGWYRAD_INPUT = 10,        /* the input failed */
+    SILGWYRAD_INPUT = 10,        /* the input failed, or has given 2^64 - 1 bytes */
     SILGWYRAD_OUTPUT = 11,       /* the output failed */
     SILGWYRAD_NO_MEMORY = 12,    /* there is no memory for a session; nothing of the input was read */
     SILGWYRAD_NOT_OPEN = 13      /* no store is open there; no device was called */
@@ -68,7 +70,8 @@ enum silgwyrad_answer {
 /* The numbers of a call have the same bits on each target: a length has 64 also where a pointer has 32. */
 
 /* Makes an image of so many blank blocks: of layout 2 on a device of 3 + 4 * blocks sectors, of layout 3 on one of 32 + 16 * blocks. A stop
- * leaves the blank image, the old one, or one without a label. The calls below take images of either layout. */
+ * leaves the blank image, the old one, or none: then no label, or one of another version or count over blocks that are lost. The calls below take
+ * images of either layout. */
 uint8_t silgwyrad_format(int32_t device, uint32_t sectors, uint16_t blocks);
 
 /* Finishes a save that a stop left half done. silgwyrad_read, silgwyrad_save, silgwyrad_open and silgwyrad_run do so first. */
@@ -93,10 +96,10 @@ struct silgwyrad_store {
  * image, and no silgwyrad_run uses it. Where the answer isn't 0 the store isn't open. */
 uint8_t silgwyrad_open(int32_t device, uint32_t sectors, struct silgwyrad_store *store);
 
-/* silgwyrad_read of an open store: 2 reads of the device. After SILGWYRAD_DEVICE the store isn't open any more; after another refusal it is. */
+/* silgwyrad_read of an open store: 2 reads of the device. After SILGWYRAD_DEVICE the store isn't open any more; after another refusal it is as it was. */
 uint8_t silgwyrad_read_open(struct silgwyrad_store *store, uint16_t block, uint8_t *out, uint64_t n);
 
-/* silgwyrad_save to an open store. After SILGWYRAD_DEVICE the store isn't open any more; after another refusal it is. */
+/* silgwyrad_save to an open store. After SILGWYRAD_DEVICE the store isn't open any more; after another refusal it is as it was. */
 uint8_t silgwyrad_save_open(struct silgwyrad_store *store, const uint16_t *blocks, uint64_t count, const uint8_t *bytes, uint64_t n);
 
 /* Closes it. Nothing is left to be done, and no device is called: a store that is just left is as good. */
