@@ -1,6 +1,6 @@
 # Edits a block of an image at this terminal, key by key: sh examples/visual/edit.sh IMAGE BLOCK
 # The image has the editor's three screens in blocks 1 to 3. ^X ends it, and the terminal is as before.
-was=$(stty -g) && trap 'stty "$was"' EXIT && stty -icanon -echo -ixon || exit
+was=$(stty -g) && trap 'stty "$was"' EXIT && trap 'exit 130' INT HUP TERM && stty -icanon -echo -ixon || exit
 end=$(printf '\030')
 keys() {
     echo "1 LOAD 2 LOAD 3 LOAD $1 EDIT"
