@@ -73,15 +73,24 @@ static uint8_t print_all(void) {
     return 0;
 }
 
-/* Reads how many readings there are. A device without a label is formatted, since it is new, or a stop ended its first format; its
- * blocks are blanks, and no reading is there yet. */
+/* Whether no label was ever written: the first sector is zeros. (A stop that tears the first label leaves one that is refused.) */
+static int is_new(void) {
+    uint8_t label[SECTOR_BYTES];
+    if (read_sector(NULL, 0, label)) return 0;
+    for (int i = 0; i < SECTOR_BYTES; i++)
+        if (label[i]) return 0;
+    return 1;
+}
+
+/* Reads how many readings there are. A new device is formatted, or one of which a stop ended the first format; its blocks are blanks, and
+ * no reading is there yet. One of which the label has changed is refused, since its readings may be there. */
 static uint8_t begin(void) {
     struct stat about;
     if (fstat(file, &about)) return SILGWYRAD_DEVICE;
     if (about.st_size == 0 && ftruncate(file, IMAGE_BYTES)) return SILGWYRAD_DEVICE;
     if (about.st_size != 0 && about.st_size != IMAGE_BYTES) return SILGWYRAD_BAD_SIZE;
     uint8_t answer = silgwyrad_read(DEVICE, SECTORS, 0, bytes[0], BLOCK_BYTES);
-    if (answer == SILGWYRAD_NO_LABEL) answer = silgwyrad_format(DEVICE, SECTORS, BLOCKS);
+    if (answer == SILGWYRAD_NO_LABEL && is_new()) answer = silgwyrad_format(DEVICE, SECTORS, BLOCKS);
     if (!answer) answer = silgwyrad_read(DEVICE, SECTORS, 0, bytes[0], BLOCK_BYTES);
     if (number_at(bytes[0]) == BLANKS) put_number(bytes[0], 0);
     return answer;
@@ -104,6 +113,7 @@ int main(int argc, char **argv) {
     uint8_t answer = begin();
     for (int i = 2; i < argc && !answer; i++) answer = add((uint32_t)strtoul(argv[i], NULL, 10));
     if (!answer) answer = print_all();
+    if (!answer && (fflush(stdout) || ferror(stdout))) answer = SILGWYRAD_OUTPUT;
     if (answer) fprintf(stderr, "logger: answer %d\n", answer);
     return answer;
 }

@@ -44,7 +44,7 @@ shown() {
         $1 == "steps:" { printf "%s: %.0f million steps of a loop a second\n", what, $2 / $4 / 1000; next }
         { print what ", " $0 }
         / answer / { failed = 1 }
-        match($0, /stack [0-9]+ heap [0-9]+/) { split(substr($0, RSTART), it, " "); calls++; if (it[2] > (/^session/ ? session : blocks) || it[4] > heap) failed = 1 }
+        match($0, /stack [0-9]+ heap [0-9]+/) { split(substr($0, RSTART), it, " "); calls++; if (it[2] > (/^session/ ? session : blocks) || it[4] > (/^session/ ? heap : 0)) failed = 1 }
         END {
             if (failed || calls != 17) print what ": NOT WELL, at most " blocks " bytes of stack, " session " of a session, and " heap " of heap are promised"
             exit failed || calls != 17
