@@ -21,10 +21,12 @@ const struct silgwyrad_device board_disk = {NULL, read_sector, write_sector, syn
 
 uint32_t sectors_for(uint16_t blocks) { return 3 + 4 * (uint32_t)blocks; }
 
+enum { OF_NO_IMAGE = 1 };
+
 uint32_t image_sectors(void) {
     static const uint8_t name[8] = {'F', '8', '3', 'B', 'L', 'O', 'C', 'K'};
     uint8_t label[SECTOR_BYTES];
-    if (board_read(0, label)) return 0;
+    if (board_read(0, label)) return OF_NO_IMAGE;
     for (unsigned i = 0; i < sizeof name; i++)
         if (label[i] != name[i]) return 0;
     const uint16_t blocks = (uint16_t)(label[10] | label[11] << 8);

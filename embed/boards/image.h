@@ -7,7 +7,7 @@
 /* The board's disk as a device of the library's. */
 extern const struct silgwyrad_device board_disk;
 
-/* How many sectors the image has, by its label; 0 where there is no label, or it can't be read. */
+/* How many sectors the image has, by its label; 0 where there is no label, and as many as no image has where it can't be read. */
 uint32_t image_sectors(void);
 
 /* How many sectors an image of layout 2 has. */

@@ -39,6 +39,7 @@ enum {
 enum {
     GO_IDLE = 0,
     SEND_CONDITION = 8,
+    SEND_STATUS = 13,
     READ_BLOCK = 17,
     WRITE_BLOCK = 24,
     BEGIN = 41, /* after BEFORE_OWN */
@@ -54,6 +55,7 @@ enum {
 };
 
 static int counts_sectors; /* a card of more than 2 GB does; others count bytes */
+static int is_awake;
 
 static void select_card(int is_selected) { *word_at(PORT_D_PIN_0) = !is_selected; }
 
@@ -90,18 +92,19 @@ static uint8_t own_command(uint8_t number, uint32_t argument) {
     return command(number, argument, 1);
 }
 
-/* Wakes the card up: it idles, is told that larger cards are known here, and becomes ready. */
+/* Wakes the card up: it idles, is told that larger cards are known here, and becomes ready. Of one that doesn't no sector is had. */
 static void begin_card(void) {
+    select_card(0);
     skip(10);
     for (int i = 0; i < TRIES && command(GO_IDLE, 0, 0x95) != IS_IDLE; i++) {
     }
     if (command(SEND_CONDITION, 0x1AA, 0x87) <= IS_IDLE) skip(4);
-    for (int i = 0; i < TRIES && own_command(BEGIN, 1u << 30) != IS_READY; i++) {
-    }
-    if (command(READ_REGISTER, 0, 1) <= IS_IDLE) {
-        counts_sectors = (swap(NOTHING) & 0x40) != 0;
-        skip(3);
-    }
+    int tries = 0;
+    while (tries < TRIES && own_command(BEGIN, 1u << 30) != IS_READY) tries++;
+    if (tries == TRIES || command(READ_REGISTER, 0, 1) > IS_IDLE) return;
+    counts_sectors = (swap(NOTHING) & 0x40) != 0;
+    skip(3);
+    is_awake = 1;
 }
 
 void board_begin(void) {
@@ -127,25 +130,26 @@ static int waits_for(uint8_t byte) {
 }
 
 int board_read(uint32_t sector, uint8_t out[SECTOR_BYTES]) {
-    if (command(READ_BLOCK, place_of(sector), 1) != IS_READY || !waits_for(TOKEN)) return 1;
+    if (!is_awake || command(READ_BLOCK, place_of(sector), 1) != IS_READY || !waits_for(TOKEN)) return 1;
     for (int i = 0; i < SECTOR_BYTES; i++) out[i] = swap(NOTHING);
     skip(2);
     select_card(0);
     return 0;
 }
 
-/* The card says that it takes the bytes, and is busy until it has written them. */
+/* The card says that it takes the bytes, is busy until it has written them, and tells then whether it could. */
 int board_write(uint32_t sector, const uint8_t bytes[SECTOR_BYTES]) {
-    if (command(WRITE_BLOCK, place_of(sector), 1) != IS_READY) return 1;
+    if (!is_awake || command(WRITE_BLOCK, place_of(sector), 1) != IS_READY) return 1;
     swap(NOTHING);
     swap(TOKEN);
     for (int i = 0; i < SECTOR_BYTES; i++) swap(bytes[i]);
     skip(2);
     uint8_t said = NOTHING;
     for (int i = 0; i < TRIES && (said & 0x11) != 1; i++) said = swap(NOTHING);
-    const int was_busy = waits_for(NOTHING);
+    const int has_ended = waits_for(NOTHING);
+    const int is_written = command(SEND_STATUS, 0, 1) == IS_READY && swap(NOTHING) == 0;
     select_card(0);
-    return (said & 0x1F) != TAKEN || !was_busy;
+    return (said & 0x1F) != TAKEN || !has_ended || !is_written;
 }
 
 /* What the card is no longer busy with, it has written. */

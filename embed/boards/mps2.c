@@ -48,12 +48,13 @@ int board_read(uint32_t sector, uint8_t out[SECTOR_BYTES]) { return move(READ, s
 
 int board_write(uint32_t sector, const uint8_t bytes[SECTOR_BYTES]) { return move(WRITE, sector, bytes); }
 
-/* What the emulator has taken of the file stays, whatever becomes of the board; closing tells whether it has. */
+/* What the emulator has taken of the file stays, whatever becomes of the board; closing tells whether it has. After a sync that failed each later one does. */
 int board_sync(void) {
+    static int has_failed;
     const uint32_t words[1] = {(uint32_t)file};
-    const int failed = ask_emulator(CLOSE, words);
+    if (ask_emulator(CLOSE, words)) has_failed = 1;
     open_disk();
-    return failed || file < 0;
+    return has_failed || file < 0;
 }
 
 uint8_t board_key(void) {

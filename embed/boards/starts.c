@@ -9,18 +9,14 @@ enum { DEVICE = 1, BLOCKS = 32, BLOCK_BYTES = 1024 };
 static uint8_t bytes[2][BLOCK_BYTES];
 static const uint16_t both[2] = {0, 1};
 
-/* An image of blocks with zeros, where the disk has none. */
-static uint8_t make_image(uint32_t sectors) {
-    const uint8_t answer = silgwyrad_format(DEVICE, sectors, BLOCKS);
-    return answer ? answer : silgwyrad_save(DEVICE, sectors, both, 2, bytes[0], sizeof bytes);
-}
-
 int main(void) {
     uint32_t sectors = image_sectors();
     uint8_t answer = SILGWYRAD_DONE;
     silgwyrad_use_device(DEVICE, &board_disk);
-    if (!sectors) answer = make_image(sectors = sectors_for(BLOCKS));
+    if (!sectors) answer = silgwyrad_format(DEVICE, sectors = sectors_for(BLOCKS), BLOCKS);
     for (unsigned i = 0; i < 2 && !answer; i++) answer = silgwyrad_read(DEVICE, sectors, both[i], bytes[i], BLOCK_BYTES);
+    /* Blocks that were never saved are blanks. */
+    if (bytes[0][1] == ' ') bytes[0][0] = bytes[0][1] = bytes[1][0] = 0;
     bytes[0][0]++;
     bytes[1][0]++;
     if (!answer) answer = silgwyrad_save(DEVICE, sectors, both, 2, bytes[0], sizeof bytes);
