@@ -36,7 +36,7 @@ OF_PROCESSOR = re.compile(r'"(probe-stack|stack-probe-size|target-cpu|target-fea
 # A number narrower than a register is handed over as a whole one by C for these processors: an answer of a byte with zeros above it, the number of a
 # device with its sign.
 ANSWER = re.compile(r"^(define (?:\w+ )*)(i8 @silgwyrad_)")
-NUMBER = re.compile(r"^(declare i64 @(?:read|write)\(i32)\b")
+NUMBER = re.compile(r"^(declare (?:\w+ )*i64 @(?:read|write)\(i32)\b")
 
 # A pair that is loaded, a pointer alone on the stack, and a table of constants with pointers.
 PAIR = re.compile(r"\s*(%\S+) = load \{ (i8|ptr), ptr \}, ptr (%\S+), align 8")
