@@ -92,7 +92,7 @@ export class System {
                     device.write(asked, these);
                 } else if (these[0] === SYNC) {
                     if (device.fails("sync")) return never;
-                    await device.sync();
+                    try { await device.sync(); } catch { return 0n; }
                 } else asked = new DataView(this.memory.buffer).getUint32(number(from) + 4, true);
                 return n;
             }),
