@@ -11,6 +11,7 @@ if [ "${1:-}" = --deb ]; then
     shift
 fi
 folder=${1:-.}
+[ $# -le 1 ] || folder=-
 case $folder in
     -*) echo 'usage: ./dist.sh [--deb] [FOLDER]' >&2; exit 2 ;;
 esac
@@ -51,7 +52,8 @@ make_archive() {
     cp "$program" "$top/bin/forth83"
     cp -R README.md docs examples library share install.sh "$top/"
     if [ -f playground/out/silgwyrad.wasm ]; then
-        cp -R playground/out "$top/playground"
+        mkdir "$top/playground"
+        cp playground/out/index.html playground/out/system.js playground/out/silgwyrad.wasm "$top/playground/"
     fi
     packed "$tree/tree" "${made%.tar.gz}" > "$folder/$made"
 }
@@ -70,13 +72,15 @@ make_package() {
     # (the newest version of the C library whose names it asks for)
     needed=$(grep -ao 'GLIBC_[0-9][0-9.]*' "$program" | sort -u -V | tail -n 1)
     [ -n "$needed" ] || { echo "dist.sh: $program asks for no C library" >&2; exit 1; }
+    # (files alone: how much a folder takes is the file system's)
+    installed=$(find "$tree/data" -type f -printf '%s\n' | awk '{ kb += int(($1 + 1023) / 1024) } END { print kb }')
     cat > "$tree/control/control" <<END
 Package: forth83
 Version: $version
 Architecture: amd64
 Maintainer: Silgwyrad
 Depends: libc6 (>= ${needed#GLIBC_})
-Installed-Size: $(du -sk --apparent-size "$tree/data" | cut -f 1)
+Installed-Size: $installed
 Section: devel
 Priority: optional
 Description: Forth-83 system whose blocks a loss of power can't tear

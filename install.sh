@@ -9,6 +9,7 @@ if [ "${1:-}" = --uninstall ]; then
     shift
 fi
 prefix=${1:-/usr/local}
+[ $# -le 1 ] || prefix=-
 case $prefix in
     -*) echo 'usage: ./install.sh [--uninstall] [PREFIX]' >&2; exit 2 ;;
     /*) ;;
