@@ -1,6 +1,7 @@
 #!/bin/sh
 # Counts the instructions of one search of the dictionary, by callgrind, as the difference of 100 searches and none.
 set -eu
+command -v valgrind > /dev/null || { echo 'find.sh: valgrind is missing' >&2; exit 1; }
 here=$(cd "$(dirname "$0")" && pwd)
 root=$(dirname "$here")
 kit=$(rt doc)

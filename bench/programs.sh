@@ -96,7 +96,9 @@ measured() {
         cp took "$name.took"
     fi
     command -v valgrind > /dev/null || return 0
-    for system in forth83 $others; do
+    systems="forth83 $others"
+    if [ -f "$name.base.lua" ] && command -v lua > /dev/null; then systems="$systems lua"; fi
+    for system in $systems; do
         echo "$system $(instructions "$system" "$name.$2") $(instructions "$system" "$name.$3") $a $b" | awk '{ printf "%s %.2f\n", $1, ($3 - $2) / ($5 - $4) }'
     done > "$name.instructions"
     while read -r system count; do row "$name, instructions" "$system" "$count" "a step, of $each a turn"; done < "$name.instructions"

@@ -2,6 +2,7 @@
 # Builds the hand-written machine, the proved one, and the lexicon over it, and prints what a step costs each:
 # instructions by callgrind, and least times. Arguments: rounds (6 where not given), and bodies to compare (2000).
 set -eu
+command -v valgrind > /dev/null || { echo 'run.sh: valgrind is missing' >&2; exit 1; }
 rounds=${1:-6}
 bodies=${2:-2000}
 here=$(cd "$(dirname "$0")" && pwd)

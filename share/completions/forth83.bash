@@ -13,6 +13,8 @@ _forth83() {
         mapfile -t COMPREPLY < <(compgen -f -- "$word")
         return
     fi
+    # (a folder of the name of a command isn't meant)
+    compopt +o filenames 2> /dev/null
     COMPREPLY=($(compgen -W "$offered" -- "$word"))
 }
 complete -o filenames -F _forth83 forth83
