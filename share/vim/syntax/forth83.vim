@@ -17,13 +17,14 @@ syntax keyword forth83Define ' FORGET DEFINITIONS
 syntax match forth83Define +\(^\|\s\)\@1<=\(\[\|\]\|\[COMPILE\]\|\['\]\)\ze\(\s\|$\)+
 syntax match forth83Number '\(^\|\s\)\@1<=-\?\d\+\.\?\ze\(\s\|$\)'
 syntax match forth83Name '\(\(^\|\s\):\s\+\)\@<=\S\+'
-syntax region forth83Comment start='\(^\|\s\)\@1<=(\ze\(\s\|$\)' end=')'
-syntax region forth83Text start='\(^\|\s\)\@1<=\(\."\|ABORT"\)\ze\s' end='"'
-syntax region forth83Text start='\(^\|\s\)\@1<=\.(\ze\s' end=')'
+syntax region forth83Comment start='\(^\|\s\)\@1<=(\ze\(\s\|$\)' end=')' keepend contains=forth83Wrong
+syntax region forth83Text start='\(^\|\s\)\@1<=\(\."\|ABORT"\)\ze\s' end='"' keepend contains=forth83Wrong
+syntax region forth83Text start='\(^\|\s\)\@1<=\.(\ze\s' end=')' keepend contains=forth83Wrong
 " what put refuses, and what runs into the next line
-syntax match forth83Wrong '\%>64v.\+'
+syntax match forth83Wrong '\%>64c.\+'
+syntax match forth83Wrong '\s\S*\%65c\S.*'hs=s+1
 syntax match forth83Wrong '\%17l.*'
-syntax match forth83Wrong '^.\{63}\S\n\S\+' contains=NONE
+syntax match forth83Wrong '\s\S\+\%65c\n\S\+'hs=s+1 contains=NONE
 syntax match forth83Wrong '[^ -~\t]'
 highlight default link forth83Word Statement
 highlight default link forth83Control Conditional
