@@ -2,9 +2,9 @@
 goes round. A crate of tests is proved in one of five runs, with what only it stands on, and the wrong bodies of these are tried; where there are none, in one
 of ten. All tests are run each time. The tools' own trials come where a tool, or the kit, changed since, and else each fifth time.
 
-What the crates were in that run stands in docs/GATE.md, in a block that is read and written here: a sum of each crate's files, and of the tools'. Where there
-is no such block, or it can't be read, all counts as changed. Whose turn it is goes by the number of commits, so that five commits after each other try all wrong
-bodies, and ten prove all tests; where that isn't known, by a sum of all files.
+What the crates were in that run stands in docs/GATE.md, in a block that is read and written here: a sum of each crate's files, and of the tools'. A line of a
+comment counts for nothing in it, since no proof hangs on one. Where there is no such block, or it can't be read, all counts as changed. Whose turn it is goes by
+the number of commits, so that five commits after each other try all wrong bodies, and ten prove all tests; where that isn't known, by a sum of all files.
 """
 import glob
 import hashlib
@@ -21,6 +21,8 @@ FIFTHS = 5
 TENTHS = 10
 # what of a crate's folder its sum is of, beside its line of crates.txt
 KINDS = ("src", "specs", "proofs", *FOLDERS, "data", "pages", "stdin", "stdout", "args", "status")
+# what begins a line that is a comment, by the kind of file
+COMMENTS = {".rt": b"//", ".antt": b"--"}
 BLOCK = re.compile(r"(?<=^```record\n).*?(?=^```$)", re.M | re.S)
 # the name of the tools' sum
 TOOLS = "tools"
@@ -53,15 +55,21 @@ def lines_of_crates():
     return {it.partition(":")[0].split()[0]: it for it in lines if ":" in it}
 
 
+def code_of(path):
+    """The bytes of a file without its lines of comments; all of them where a text in it goes over lines, one of which may begin as a comment does."""
+    with open(path, "rb") as file:
+        lines = file.read().splitlines(True)
+    mark = COMMENTS.get(os.path.splitext(path)[1])
+    code = [it for it in lines if not (mark and it.lstrip().startswith(mark))]
+    is_within_lines = all(re.sub(rb"\\.|'\"'", b"", it).count(b'"') % 2 == 0 for it in code)
+    return b"".join(code if is_within_lines else lines)
+
+
 def sum_of_crate(name, line):
-    """A sum of a crate's files, their names and texts, and of its line of crates.txt."""
+    """A sum of a crate's files, their names and texts without comments, and of its line of crates.txt."""
     top = f"{ROOT}/crates/{name}"
     found = [f"{top}/{it}" for it in KINDS if os.path.isfile(f"{top}/{it}")] + files_below(*(f"{top}/{it}" for it in KINDS))
-    texts = []
-    for it in sorted(found):
-        with open(it, "rb") as file:
-            texts.append((os.path.relpath(it, top), hashlib.sha256(file.read()).hexdigest()))
-    return short_sum(line, texts)
+    return short_sum(line, [(os.path.relpath(it, top), hashlib.sha256(code_of(it)).hexdigest()) for it in sorted(found)])
 
 
 def sums_of(crates):
