@@ -218,36 +218,46 @@ module _ {D : Type 0} (G : Ghosts D) where
     pub begins : BeginsAtMost G begun after 0 0
     pub reads : ReadsAtMost G begun after most
 
-  -- `list`: no block is told just where it isn't there.
+  -- `list`: no block is told just where it isn't there. Else a read failed, or the output.
   pub record ListFails (b : ℕ) (failure : Failure) (device begun after : D) : Type 0 where
     pub reads : OnlyReads 2 device begun after
+    pub only : (failure ≡ NoBlock) ⊎ (failure ≡ Device) ⊎ (failure ≡ CannotWrite)
     pub failed : failure ≡ Device → CallFailed G begun after
     pub no_block : failure ≡ NoBlock → blocks_on G device ≤ b
+    pub missing : blocks_on G device ≤ b → failure ≡ NoBlock
 
-  -- `export`: the same of the last block, or the last comes before the first.
+  -- `export`: the same, but no block is told just where the last one isn't there, or comes before the first.
   pub record ExportFails (first last : ℕ) (failure : Failure) (device begun after : D) : Type 0 where
     pub reads : OnlyReads (2 * (last + 1 - first)) device begun after
+    pub only : (failure ≡ NoBlock) ⊎ (failure ≡ Device) ⊎ (failure ≡ CannotWrite)
     pub failed : failure ≡ Device → CallFailed G begun after
     pub no_block : failure ≡ NoBlock → (last < first) ⊎ (blocks_on G device ≤ last)
+    pub missing : (last < first) ⊎ (blocks_on G device ≤ last) → failure ≡ NoBlock
 
   -- `put`: only a failed save made a call of the device. A stop at any moment of it leaves the blocks as they were, or these with
-  -- the lines of the text in that block. That the text can't be read is told only where it wasn't had.
+  -- the lines of the text in that block. No block is told just where it isn't there, and that the text can't be read only where it wasn't
+  -- had; else there was no memory, the text isn't a screen, or the save failed.
   pub record PutFails (b : ℕ) (is_text : List ℕ → Type 0) (unread : Type 0) (failure : Failure) (device begun after : D) : Type 0 where
     pub unsaved : failure ≢ Device → after ≡ begun
     pub stops : IsTrue (suits G device) → StopsLeave G begun after (λ image. MeansOn G device (meant_by G device) image
         ⊎ ((text : List ℕ) × is_text text × (bytes : List ℕ) × (screen_of text ≡ Some bytes)
         × MeansOn G device (latest (spilled (maps_on G device) b bytes)) image))
+    pub only : (failure ≡ NoBlock) ⊎ (failure ≡ CannotRead) ⊎ (failure ≡ NoMemory) ⊎ (failure ≡ NotAScreen) ⊎ (failure ≡ Device)
     pub faults : TellsFault G failure begun after
+    pub no_block : failure ≡ NoBlock → blocks_on G device ≤ b
+    pub missing : blocks_on G device ≤ b → failure ≡ NoBlock
     pub cannot : failure ≡ CannotRead → unread
     pub begins : BeginsAtMost G begun after 7 4
     pub reads : ReadsAtMost G begun after 4
 
-  -- `import`: the same with the blocks that the files say, of which nothing is refused: all of them, or none.
+  -- `import`: only a failed save made a call of the device. A stop at any moment of it leaves the blocks as they were, or with all those
+  -- that the files say, of which nothing is refused. Else it is told of the texts, and that one can't be read only where it wasn't had.
   pub record ImportFails (form : Form) (first : ℕ) (are_texts : List (List ℕ) → Type 0) (unread : Type 0) (failure : Failure) (device begun after : D) : Type 0 where
     pub unsaved : failure ≢ Device → after ≡ begun
     pub stops : IsTrue (suits G device) → StopsLeave G begun after (λ image. MeansOn G device (meant_by G device) image
         ⊎ ((files : List (List ℕ)) × are_texts files × AreSound form (blocks_on G device - first) files
         × MeansOn G device (latest (spilled_from (maps_on G device) first (as_blocks (said_all form files)))) image))
+    pub only : (failure ≡ Device) ⊎ IsOfTexts failure
     pub faults : TellsFault G failure begun after
     pub cannot : failure ≡ CannotRead → unread
     pub begins : BeginsAtMost G begun after (4 * (blocks_on G device - first) + 3) 4

@@ -33,6 +33,7 @@ pub fn export_blocks<D: SectorDevice, W: Write>(
     ensures no_block { IsErrOf result Failure.NoBlock ↔ ((last < first) ⊎ (blocks_of store.old ≤ last)) }
     ensures ordered { OnOk result (first ≤ last) }
     ensures there { OnOk result (last < blocks_of store.old) }
+    ensures only { IfErr result (λ e. (e ≡ Failure.NoBlock) ⊎ (e ≡ Failure.Device) ⊎ (e ≡ Failure.CannotWrite)) }
     ensures device { IsErrOf result Failure.Device → (closed_of store.old ≡ true) ⊎ DeviceFailed store.old store.new }
     ensures unwritten { IsErrOf result Failure.NoBlock → output.new ≡ output.old }
     ensures unprinted { IfErr result (λ e. e ≢ Failure.Device → e ≢ Failure.CannotWrite → output.new ≡ output.old) }

@@ -344,6 +344,8 @@ pub(super) fn put_file<D: SectorDevice, B: Read + Drop, Q: TextFiles<B>>(
 ) -> Result<(), Failure>
     ensures no_block { IsErrOf result Failure.NoBlock ↔ (blocks_of store.old ≤ block) }
     ensures there { OnOk result (block < blocks_of store.old) }
+    ensures only { IfErr result (λ e. (e ≡ Failure.NoBlock) ⊎ (e ≡ Failure.CannotRead) ⊎ (e ≡ Failure.NoMemory)
+        ⊎ (e ≡ Failure.NotAScreen) ⊎ (e ≡ Failure.Device)) }
     ensures some { OnOk result (PutsSome (IsTextOf B.remaining (Q.opens texts.now path.now)) store.old store.new block) }
     ensures kept { block + 1 ≤ blocks_of store.old
         → LeavesSome (IsTextOf B.remaining (Q.opens texts.now path.now)) store.old store.new block }

@@ -127,6 +127,7 @@ pub fn list_block<D: SectorDevice, W: Write>(
         (W.contents output.old) (W.contents output.new) (listing (contents m block))) }
     ensures no_block { IsErrOf result Failure.NoBlock ↔ (blocks_of store.old ≤ block) }
     ensures there { OnOk result (block < blocks_of store.old) }
+    ensures only { IfErr result (λ e. (e ≡ Failure.NoBlock) ⊎ (e ≡ Failure.Device) ⊎ (e ≡ Failure.CannotWrite)) }
     ensures device { IsErrOf result Failure.Device → (closed_of store.old ≡ true) ⊎ DeviceFailed store.old store.new }
     ensures unwritten { IfErr result (λ e. e ≢ Failure.CannotWrite → output.new ≡ output.old) }
     ensures state { (m : Maps) → StandsFor store.old m → StandsFor store.new m }
@@ -164,6 +165,7 @@ pub fn put_text<D: SectorDevice, R: Read>(
         → R.remaining text.old ≡ Some input → screen_of input ≡ None) }
     ensures unread { IfErr result (λ e. e ≢ Failure.Device → store.new ≡ store.old) }
     ensures others { IfErr result (λ e. e ≢ Failure.NoBlock) }
+    ensures only { IfErr result (λ e. (e ≡ Failure.CannotRead) ⊎ (e ≡ Failure.NotAScreen) ⊎ (e ≡ Failure.Device)) }
     ensures stops { (m : Maps) (input : List ℕ) → StandsFor store.old m → m.closed ≡ false → R.remaining text.old ≡ Some input
         → StopsLeave D.SectorDevice (device_of store.old) (device_of store.new) (λ image. MeansBy store.old m.saved image
         ⊎ ((bytes : List ℕ) × (screen_of input ≡ Some bytes) × MeansBy store.old (latest (spilled m block bytes)) image)) }

@@ -54,6 +54,7 @@ pub fn import_files<D: SectorDevice, B: Read + Drop, Q: TextFiles<B>, E: Write>(
     ensures begins { DeviceBegins store.old store.new (2 * pending_count store.old + 4 * (blocks_of store.old - first) + 3) 4 }
     ensures reads { DeviceReads store.old store.new (4 * pending_count store.old + 4 * (blocks_of store.old - first)) }
     ensures continues { Continues store.old store.new }
+    ensures only { IfErr result (λ e. (e ≡ Failure.Device) ⊎ IsOfTexts e) }
     ensures unstopped { IfErr result (λ e. e ≢ Failure.Stopped) }
 {
     match read_blocks(

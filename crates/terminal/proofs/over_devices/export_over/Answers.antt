@@ -22,7 +22,7 @@ returns-in-Ok-clause-failed g c =
     let done = c.export_blocks-outcome in
     subst (λ d. IfErr done.result (λ failure. FailsToPrint G c.args.first c.args.last (ExportFails G c.args.first c.args.last) failure c.args.device d)) (sym c.into_device.ensures.device)
     (unexported G done.result c.args.device c.in-Ok.store done.new.store c.args.first c.args.last c.in-Ok.ensures.opened c.in-Ok.ensures.same
-    done.ensures.no_block done.ensures.device done.ensures.store)
+    done.ensures.no_block done.ensures.only done.ensures.device done.ensures.store)
 
 pub returns-in-Err-clause-exported : goal.returns-in-Err-clause-exported
 returns-in-Err-clause-exported g c =

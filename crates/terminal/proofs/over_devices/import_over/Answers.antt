@@ -24,7 +24,7 @@ returns-in-Ok-clause-failed g c =
     subst (λ d. IfErr done.result (λ failure. FailsAfter G (ImportFails G c.args.form c.args.first are_texts unread) failure c.args.device d))
     (sym c.into_device.ensures.device)
     (import_failed G done.result c.args.device c.in-Ok.store done.new.store c.args.form c.args.first are_texts unread c.in-Ok.ensures.opened c.in-Ok.ensures.same
-    done.ensures.continues done.ensures.cannot done.ensures.unread done.ensures.device done.ensures.kept done.ensures.begins done.ensures.reads)
+    done.ensures.continues done.ensures.only done.ensures.cannot done.ensures.unread done.ensures.device done.ensures.kept done.ensures.begins done.ensures.reads)
 
 pub returns-in-Err-clause-failed : goal.returns-in-Err-clause-failed
 returns-in-Err-clause-failed g c = inl c.in-Err.ensures.kept

@@ -22,7 +22,7 @@ returns-in-Ok-clause-failed g c =
     let done = c.list_block-outcome in
     subst (λ d. IfErr done.result (λ failure. FailsToPrint G c.args.block c.args.block (ListFails G c.args.block) failure c.args.device d)) (sym c.into_device.ensures.device)
     (unlisted G done.result c.args.device c.in-Ok.store done.new.store c.args.block c.in-Ok.ensures.opened c.in-Ok.ensures.same
-    done.ensures.no_block done.ensures.device done.ensures.continues done.ensures.state done.ensures.stops done.ensures.begins done.ensures.reads)
+    done.ensures.no_block done.ensures.only done.ensures.device done.ensures.continues done.ensures.state done.ensures.stops done.ensures.begins done.ensures.reads)
 
 pub returns-in-Err-clause-listed : goal.returns-in-Err-clause-listed
 returns-in-Err-clause-listed g c =

@@ -23,7 +23,7 @@ returns-in-Ok-clause-failed g c =
     let unread = IsUnread (g.Q.TextFiles.opens c.args.texts.now c.args.text.now) (g.Q.TextFiles.refuses c.args.texts.now c.args.text.now) in
     subst (λ d. IfErr done.result (λ failure. FailsAfter G (PutFails G c.args.block is_text unread) failure c.args.device d)) (sym c.into_device.ensures.device)
     (put_failed G g.met.D.SectorDevice.only_now is_text unread done.result c.args.device c.in-Ok.store done.new.store c.args.block c.in-Ok.ensures.opened c.in-Ok.ensures.same
-    done.ensures.continues done.ensures.cannot done.ensures.no_block done.ensures.unread done.ensures.device done.ensures.kept done.ensures.begins done.ensures.reads)
+    done.ensures.continues done.ensures.only done.ensures.cannot done.ensures.no_block done.ensures.unread done.ensures.device done.ensures.kept done.ensures.begins done.ensures.reads)
 
 pub returns-in-Err-clause-failed : goal.returns-in-Err-clause-failed
 returns-in-Err-clause-failed g c = inl c.in-Err.ensures.kept
