@@ -56,7 +56,7 @@ length-meaning sectors image = long (journal.is_size sectors)
     long true = length-below (journal_images.block_of (journal.blocks_in sectors) image) (journal.blocks_in sectors)
     long false = length-below (pages_images.block_of image) (pages.blocks_in sectors)
 
--- What a view gives, of the blocks that it has and from its last one on.
+-- What a view gives, of the blocks that it has and past its last one.
 module _ (view : View) (image : Image) where
   given_below : (b : ℕ) → b < view.blocks.number → given_by view image b ≡ found_by view image b
   given_below b below =

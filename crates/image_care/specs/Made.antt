@@ -39,7 +39,7 @@ KeepsRest sectors old new =
     MatchBool (is_size sectors) (journal_made.KeepsSlots (blocks_in sectors) old new) (pages_made.KeepsRest old new)
 
 -- A stop while an image of these blocks is made of this disk may leave the image: it has no good label, or means these blocks, or is
--- one of the labelled images that could be left before.
+-- one of the labelled images that could be left before, by layout 3 but for the other sectors in the unit of the label.
 abbrev pub MakingLeaves : (sectors : ℕ) → List (List ℕ) → Disk → Image → Type 0
 MakingLeaves sectors blocks disk image = MatchBool (is_size sectors)
     (journal_made.MakingLeaves (blocks_in sectors) blocks disk image) (pages_made.MakingLeaves (pages_label.blocks_in sectors) blocks disk image)

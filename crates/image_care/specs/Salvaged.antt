@@ -23,8 +23,8 @@ salvage_refusal old new =
     if not (is_known_size old) then Some (Old BadSize) else (if not (new == old) then Some (New BadSize) else None)
 
 -- The bytes of block b of an image of n blocks, of layout 2, as a salvage takes it: its slot where the gate is open over a record that
--- has the digest of its bits and slots, and that lists it; else its home. Of a damaged image these are no blocks of one save: where one
--- was under way, some may be old and some new.
+-- has the digest of its bits and slots, and that lists it; else its home. Of a damaged image these may be no blocks of one save:
+-- where one was under way, some may be old and some new.
 abbrev pub salvaged_block : ℕ → Image → ℕ → List ℕ
 salvaged_block n image b =
     if (gate_open (image 1) && is_true_record n (image 2) image) && listed (image 2) b then slot_of image b else home_of n image b

@@ -46,8 +46,8 @@ standing_of image b = standing_under (record_of image) image b
 abbrev pub salvaged_block : Image → ℕ → List ℕ
 salvaged_block image b = salvaged_under (record_of image) image b
 
--- The blocks that a salvage takes from an image of n blocks. Of a damaged image these are no blocks of one save: what stands in an
--- other place is older than what the record names, or was spilled and not saved.
+-- The blocks that a salvage takes from an image of n blocks. Of a damaged image these may be of several saves: what stands in an
+-- other place is older than what the record names, or was spilled and not saved, where the record is the one that was saved.
 abbrev pub salvaged_blocks : ℕ → Image → List (List ℕ)
 salvaged_blocks n image = blocks_below (salvaged_block image) n
 

@@ -13,7 +13,7 @@ use Rattle.image_care.specs.declared.view.Listing.{Listing}
 use Rattle.image_care.specs.declared.view.Listing.TheVariants.{Journal, Pages}
 use Rattle.image_care.specs.declared.view.View.{View}
 
--- block b as a look has found it, and blanks from the image's last block on
+-- block b as a look has found it, and blanks past the image's last block
 abbrev pub given_by : View → Image → ℕ → List ℕ
 given_by view image b = if nat_le view.blocks.number b then replicate 1024 32 else found_by view image b
 
@@ -40,7 +40,7 @@ abbrev pub reads_under : Listing → Image → ℕ → ℕ
 reads_under (Journal listing) image b = 2
 reads_under (Pages named) image b = if is_damaged_under named.listing image b then 6 else 3
 
--- the same of the blocks that the image has, and blanks from its last one on, which no read takes
+-- the same of the blocks that the image has, and blanks past its last one, which no read takes
 abbrev pub taken_by : View → Image → ℕ → List ℕ
 taken_by view image b = if nat_le view.blocks.number b then replicate 1024 32 else taken_under view.listing view.blocks.number image b
 

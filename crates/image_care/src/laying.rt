@@ -15,7 +15,8 @@ use recovery::{Homes, Source, UpgradeFault, make};
 use sector_disk::SectorDevice;
 use shadow::Places;
 
-// Makes an image of this size. A stop before the end leaves no good label, or what was there.
+// Makes an image of this size. A stop leaves no good label, or what was there, by layout 3 but for the other sectors in the
+// label's unit, or all of the new image.
 pub(crate) fn lay<S: Source, A: SectorDevice, B: SectorDevice>(
     source: &mut S,
     old: &mut A,

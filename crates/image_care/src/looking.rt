@@ -35,8 +35,8 @@ use sector_disk::SectorDevice;
 /// It refuses, in this order, what an opening does: a device of a size that no image has (BadSize, with no device
 /// call), one without the name and zeros of a label (NoLabel), a label of another version than that of images of this
 /// size (OtherVersion) or of another number of blocks (WrongCount), and a damaged image (Damaged): by layout 2 one with
-/// an open gate over a record whose digest isn't that of its bits and slots, by layout 3 one of which a block isn't the
-/// one that was saved, or the record's sum isn't that of the blocks. Device comes where a read failed.
+/// an open gate over a record whose digest isn't that of its bits and slots, by layout 3 one of which a block doesn't
+/// fit the tag beside it, or the record's sum isn't that of the tags. Device comes where a read failed.
 /// Rule: IMAGE, For another writer; IMAGE, Layout 3.
 pub fn look<D: SectorDevice>(device: &mut D) -> Result<View, OpenFault>
     ensures size { IfOk result (λ view. D.sector_count device.old ≡ sectors_of view) }

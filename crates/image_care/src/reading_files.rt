@@ -69,8 +69,8 @@ impl HostFile for ReadOnlyFile {
 
     ghost widens = { λ f s t c le since. since };
 
-    // One place off, those of a file of this system would meet their clauses all the same: what `check` prints of files
-    // sees it, on the pages of `test_transcripts`.
+    // One place off, length and reads of a file of this system would meet their clauses all the same: what `check`
+    // prints of files sees it, on the pages of `test_transcripts`.
     fn len(&self) -> u64 {
         match self {
             ReadOnlyFile::Live { len, .. } => *len,
@@ -94,8 +94,8 @@ impl HostFile for ReadOnlyFile {
     }
 }
 
-/// The files of this system, to be read alone. Each is locked as long as it is open, beside others that only read it:
-/// programs that ask for the lock and would write are kept out. None is made.
+/// The files of this system, to be read alone. Each is locked as long as it is open, beside others that only read it,
+/// but for one of which a copy is given: programs that ask for the lock and would write are kept out. None is made.
 /// Rule: MANUAL, All commands; DECISIONS, Lines and the program.
 #[derive(Drop)]
 pub struct ReadingFiles<'a, R> {
@@ -115,7 +115,8 @@ impl<'a, R: Files<File = File>> ReadingFiles<'a, R> {
     }
 
     /// Those too, but of an image of layout 3 that another program has open for writing a copy in memory is given: the
-    /// blocks of the last save that had returned before, or of a later one. That program waits for nothing.
+    /// blocks of the last save that had returned before, or of a later one. That program waits for nothing. Where 64
+    /// readings gave no whole image it is in use; where there is no memory for the copy it can't be opened.
     /// Rule: IMAGE, Layout 3, A look while it runs.
     pub fn with_copies(rt: &'a R) -> ReadingFiles<'a, R>
         ensures { IsTrue result.takes_copies }

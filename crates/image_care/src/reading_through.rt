@@ -11,7 +11,7 @@ use std::alloc::{AllocError, Global};
 
 /// Reads each sector of a device once, in rising order, whatever the reads answer: nothing is written, and nothing
 /// synced. Gives the bytes, 512 a sector, with blanks in place of each sector that couldn't be read, and the numbers of
-/// those sectors, in rising order. An error where there is no memory for that; then not all were read.
+/// those sectors, in rising order. `AllocError` where there is no memory for that; it ends there.
 /// Rule: IMAGE, A sector that can't be read.
 pub fn read_through<D: SectorDevice>(
     alloc: Global,

@@ -79,7 +79,7 @@ impl Source for TakenBlocks {
     }
 }
 
-// Takes a block, or gives blanks from the image's last one on.
+// Takes a block, or gives blanks past the image's last one.
 fn take<D: SectorDevice>(
     device: &mut D,
     view: &View,

@@ -149,7 +149,8 @@ fn find_named<D: SectorDevice>(device: &mut D, blocks: BlockCount) -> Result<Vie
 ///
 /// This is no recovery. Of an image that an opening takes it makes a copy; but of a save that was under way in a
 /// damaged image of layout 2 some blocks may be old and some new, and by layout 3 a block from its other place is older
-/// than what counted, or was spilled and not saved.
+/// than what counted, or was spilled and not saved, where the record is the one that was saved; where it isn't, each
+/// block may be an older one.
 ///
 /// It refuses an old device of a size that no image has (BadSize), and then a new one of another size (BadSize), both
 /// with no call of either device. Device comes where a call of that device failed.

@@ -42,7 +42,8 @@ impl View {
         }
     }
 
-    /// How many blocks a save has that is under way. None where no save is; by layout 3 none ever is.
+    /// How many blocks a save has that is under way. None where no save is, and by layout 3, where none ever waits to
+    /// be finished.
     pub fn under_way(&self) -> Option<u16>
         ensures { result ≡ save_by self.now.listing self.now.blocks.number }
     {

@@ -51,7 +51,7 @@ module _ {D : Type 0} {G : Ghosts D} where
   abbrev pub text_of : Store D G → List ℕ
   text_of store = store.text
 
-  -- the block whose text that is, as long as nothing was written since
+  -- the block whose text that is, as long as nothing was written since, and no block read but as a text
   abbrev pub kept_of : Store D G → Option ℕ
   kept_of store = store.kept
 

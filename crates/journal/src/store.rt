@@ -31,7 +31,8 @@ pub enum StoreFault {
 }
 
 /// Blocks of 1,024 bytes on a device, by layout 2 or 3. A block is spilled to a place of its own, and a commit makes
-/// all spilled blocks the saved ones at once: a stop of the device at any moment leaves either all of them or none.
+/// all spilled blocks the saved ones at once: over a device that keeps the disk model, for layout 2 by sectors, a stop
+/// at any moment leaves either all of them or none.
 /// Rule: IMAGE, A save; IMAGE, Layout 3, A save.
 #[derive(Drop)]
 pub struct Store<D: SectorDevice> {
@@ -43,7 +44,8 @@ pub struct Store<D: SectorDevice> {
     // by layout 3 the sum of the record that the next save writes
     next_sum: [u8; 32],
     closed: bool,
-    // the block whose text was read last, and its bytes, as long as nothing was written since
+    // the block whose text was read last, as long as nothing was written since and no block read but as a text; and the
+    // bytes that were read last as a text
     kept: Option<u16>,
     text: [u8; 1024],
     ghost size: { D.sector_count device ≡ sectors_for technique blocks.number },
@@ -146,7 +148,8 @@ impl<D: SectorDevice> Store<D> {
         }
     }
 
-    /// How its blocks are saved: by layout 2, or by layout 3 with the record that the gate names.
+    /// How its blocks are saved: by layout 2, or by layout 3 with the record that the gate names. Of a closed store
+    /// gate and record needn't be those of the image: a save that failed may have left another gate there.
     pub fn technique(&self) -> &Technique
         ensures { result.now ≡ technique_of self.now }
     {
@@ -189,9 +192,9 @@ impl<D: SectorDevice> Store<D> {
         device
     }
 
-    /// Reads the 1,024 bytes of block `b`, as it was spilled last, or else as it was saved. `Closed` where the store is
-    /// closed, with no device call, and `Device` where the device failed. At either neither the blocks nor `out`
-    /// change.
+    /// Reads the 1,024 bytes of block `b`, below `blocks()`, as it was spilled last, or else as it was saved. `Closed`
+    /// where the store is closed, with no device call, and `Device` where the device failed. At either neither the
+    /// blocks nor `out` change.
     pub fn read_block(&mut self, b: u16, out: &mut [u8]) -> Result<(), StoreFault>
         requires below { b < blocks_of self.old }
         requires room { length out.old ≡ 1024 }
@@ -286,7 +289,8 @@ impl<D: SectorDevice> Store<D> {
         &self.text
     }
 
-    /// Whether the bytes that `text` lends are those of block `b`.
+    /// Whether the bytes that `text` lends are kept as those of block `b`, so that `read_text` of it makes no device
+    /// call.
     /// Rule: DECISIONS, The device and the image.
     #[inline]
     pub fn keeps_text_of(&self, b: u16) -> bool
@@ -298,8 +302,8 @@ impl<D: SectorDevice> Store<D> {
         }
     }
 
-    /// Writes the 1,024 bytes of block `b` where no save has it; the next commit saves it. `Closed` where the store is
-    /// closed, with no device call. `Device` where the device failed: that closes the store.
+    /// Writes the 1,024 bytes of block `b`, below `blocks()`, where no save has it; the next commit saves it. `Closed`
+    /// where the store is closed, with no device call. `Device` where the device failed: that closes the store.
     pub fn spill(&mut self, b: u16, bytes: &[u8]) -> Result<(), StoreFault>
         requires below { b < blocks_of self.old }
         requires whole { length bytes.now ≡ 1024 }

@@ -42,7 +42,7 @@ pub record IsMade (label : List ℕ) (is_filled : Image → Type 0) (disk : Disk
   pub labelled : disk.content 0 ≡ label
   pub synced : (k : ℕ) → disk.unsynced k ≡ false
 
--- Another label stands, or the image could be left before.
+-- Another label stands, or the image could be left before, but for the other sectors in the unit of the label.
 abbrev pub TakenAway : List ℕ → Disk → Image → Type 0
 TakenAway label disk image = (image 0 ≢ label) ⊎ ((image 0 ≡ label) × MayLeaveAround disk image)
 
@@ -55,7 +55,7 @@ abbrev pub WrittenLeaves : List ℕ → (Image → Type 0) → Image → Type 0
 WrittenLeaves label is_filled image = (image 0 ≢ label) ⊎ ((image 0 ≡ label) × is_filled image)
 
 -- A stop while an image is made of this disk may leave the image: another label stands; or under this one all is filled, or the
--- image could be left before.
+-- image could be left before, but for the other sectors in the unit of the label.
 abbrev pub MakingLeaves : List ℕ → (Image → Type 0) → Disk → Image → Type 0
 MakingLeaves label is_filled disk image = WrittenLeaves label is_filled image ⊎ TakenAway label disk image
 

@@ -18,6 +18,8 @@ pub enum OpenFault {
     WrongCount = 4,
     #[error("the device failed")]
     Device = 5,
+    /// By layout 2 an open gate stands over a record that isn't that of its slots, as the text says; by layout 3 a
+    /// block doesn't fit its tag, or the sum of the record isn't that of the tags, and the text is the same.
     #[error("an open gate stands over a record that isn't that of its slots")]
     Damaged = 6,
 }
@@ -30,7 +32,8 @@ impl From<DeviceFault> for OpenFault {
     }
 }
 
-/// Why an image isn't upgraded: what was refused of the old image, or of the new one.
+/// Why an image isn't made of another one, as by an upgrade: what was refused of the old image, or of the new one, or
+/// whose device failed.
 #[derive(Clone, Copy, Debug, PartialEq, Eq, Error)]
 pub enum UpgradeFault {
     #[error("the old image: {0}")]

@@ -25,7 +25,7 @@ use journal::Store;
 use journal::layout::{BlockCount, MOST_BLOCKS, fits};
 use sector_disk::{DeviceFault, SectorDevice};
 
-// Makes the blank image. A stop before the end leaves no good label, or what was there.
+// Makes the blank image. A stop leaves no good label, or what was there, or all of the blank image.
 fn make_blank<D: SectorDevice>(device: &mut D, blocks: BlockCount) -> Result<(), DeviceFault>
     requires size { D.sector_count device.old ≡ sectors_for blocks.number }
     ensures ok { IsTrue (D.keeps_sectors device.old)

@@ -278,9 +278,9 @@ fn write_image<S: Source, A: SectorDevice, T: Target, B: SectorDevice>(
 
 /// Makes an image of so many blocks: what is there is made to stay, and its label, if it is that of such an image,
 /// taken away; the blocks that the source gives are laid, with what the layout has before and after them, and synced;
-/// the label is written, and synced. So a stop before the end leaves another label, or what was there. The source's
-/// device is only read. `Old(Device)` where a read of the source's device failed, and `New(Device)` where a call of the
-/// other one failed; it ends there.
+/// the label is written, and synced. So a stop leaves another label, or what was there, but for the other sectors in
+/// the label's unit, or all of the new image. The source's device is only read. `Old(Device)` where a read of the
+/// source's device failed, and `New(Device)` where a call of the other one failed; it ends there.
 /// Rule: IMAGE, A format; IMAGE, Layout 3, A format; DECISIONS, The device and the image.
 pub fn make<S: Source, A: SectorDevice, T: Target, B: SectorDevice>(
     source: &mut S,

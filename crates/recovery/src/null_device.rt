@@ -15,7 +15,7 @@ pub struct NullDevice {
 }
 
 impl NullDevice {
-    /// A device of so many sectors, of which nothing has been asked.
+    /// A device of so many sectors.
     pub fn new(sectors: u32) -> NullDevice
         ensures sectors { ⟦<NullDevice as SectorDevice>⟧.sector_count result ≡ sectors }
         ensures model { ⟦<NullDevice as SectorDevice>⟧.keeps_model result ≡ (sectors == 0) }

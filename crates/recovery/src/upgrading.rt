@@ -40,7 +40,7 @@ fn blocks_of_both(old: u32, new: u32) -> Result<BlockCount, UpgradeFault>
     Ok(BlockCount { number })
 }
 
-// Makes an image of the homes of another. A stop before the end leaves no good label, or what was there.
+// Makes an image of the homes of another. A stop leaves no good label, or what was there, or all of the new image.
 fn carry<A: SectorDevice, B: SectorDevice>(
     source: &mut A,
     target: &mut B,

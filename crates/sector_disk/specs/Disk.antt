@@ -6,7 +6,8 @@ use Rattle.std.specs.Prelude.{◌≡◌, ◌⊎◌, ◌==◌, if◌then◌else�
 abbrev pub Image : Type 0
 Image = ℕ → List ℕ
 
--- What a read gives, what each sector held when a sync last succeeded, and which sectors have been written after it.
+-- What a read gives, what each sector held when a sync last succeeded, and which sectors are unsynced: a sector of their
+-- unit has been written after it.
 pub record Disk : Type 0 where
   pub content : Image
   pub synced : Image
@@ -15,8 +16,7 @@ pub record Disk : Type 0 where
   -- its unit.
   pub unit : ℕ → ℕ
 
--- A stop may leave this image: a sector whose last write no sync has followed holds any bytes, each other one what it
--- held at the last sync.
+-- A stop may leave this image: a sector that is unsynced holds any bytes, each other one what it held at the last sync.
 abbrev pub MayLeave : Disk → Image → Type 0
 MayLeave disk image = (k : ℕ) → disk.unsynced k ≡ false → image k ≡ disk.synced k
 

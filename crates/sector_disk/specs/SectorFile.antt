@@ -7,7 +7,7 @@ use Rattle.sector_disk.specs.declared.sector_file.SectorFile.{SectorFile}
 abbrev pub sectors_of : {H : Type 0} {G : Ghosts H} → SectorFile H G → ℕ
 sectors_of f = f.sectors
 
--- whether a sync of it has failed
+-- whether a sync of it has failed, or it was made and not finished: each further sync fails
 abbrev pub has_failed_sync : {H : Type 0} {G : Ghosts H} → SectorFile H G → Bool
 has_failed_sync f = f.sync_failed
 

@@ -11,7 +11,7 @@ ghost use Rattle.sector_disk.specs.Counting.{CountsFailure, with_read, with_writ
 pub struct DeviceFault;
 
 /// How many calls were begun, those that failed included. Each count has 64 bits and stays at its last value.
-/// Rule: IMAGE, The device.
+/// Rule: SEMANTICS, From the definitions to the code.
 #[derive(Clone, Copy, Debug, Default, PartialEq, Eq)]
 pub struct Counts {
     pub reads: u64,
@@ -47,7 +47,7 @@ impl Counts {
 
 /// Counts a failure of a device where the outcome of its call is one, and tells it as `DeviceFault`. The count has 64
 /// bits and stays at its last value.
-/// Rule: IMAGE, The device.
+/// Rule: SEMANTICS, From the definitions to the code.
 pub fn count_failure<E: Drop>(failures: &mut u64, outcome: Result<(), E>) -> Result<(), DeviceFault>
     ensures failures { CountsFailure failures.old failures.new result }
     ensures variant { IsErr result ↔ IsErr outcome }
@@ -75,9 +75,9 @@ pub trait SectorDevice {
     /// How many sectors it has.
     ghost sector_count: { Self → ℕ };
 
-    /// Whether it keeps the disk model, which is known of a disk in memory. Of a file no contract can know it, so a
-    /// file says false and nothing is said of its bytes. A write may spoil its unit, which lies in a page of eight
-    /// sectors.
+    /// Whether it keeps the disk model, which is known of a disk in memory, and of a file whose bytes lie in memory. Of
+    /// a file of a system no contract can know it: such a one says false, and nothing is said of its bytes. A write may
+    /// spoil its unit, which lies in a page of eight sectors.
     ghost keeps_model: { Self → Bool };
 
     /// Whether it keeps the disk model by sectors: a write spoils its own sector alone.

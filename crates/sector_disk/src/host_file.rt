@@ -24,7 +24,7 @@ pub enum HostFault {
 ///
 /// The clauses are what has to be assumed of a system's file. Those without the premise `keeps_model` each file meets:
 /// `count`, by what the system's call promises, and `bytes`, `spoils` and `stops` where nothing is said of what it
-/// holds. No device is asked for anything else.
+/// holds. No file is asked for anything else.
 /// Rule: IMAGE, The file.
 pub trait HostFile {
     /// Whether it keeps the model of a file. A write touches the units in which it writes, and each lies in a page of
@@ -80,8 +80,8 @@ pub trait HostFile {
         ensures time { Elapses time left_since self.old self.new }
         ensures stops { LeavesOnly time left_since self.old self.new (MayLeaveEither (disk_of_file (bytes self.old)) (disk_of_file (bytes self.new))) };
 
-    /// Makes all that was written stay. After an error nothing is settled, and a read may give other bytes of what
-    /// isn't.
+    /// Makes all that was written stay, where `syncs_settle`: once one has failed nothing is said of what a later one
+    /// that answers Ok has done. After an error nothing is settled, and a read may give other bytes of what isn't.
     fn sync(&mut self) -> Result<(), HostFault>
         ensures ok { IsTrue (keeps_model self.old) → IsTrue (syncs_settle self.old) → OnOk result (bytes self.new ≡ settled_file (bytes self.old)) }
         ensures synced { IsTrue (keeps_model self.old) → OnErr result ((bytes self.new).synced ≡ (bytes self.old).synced) }

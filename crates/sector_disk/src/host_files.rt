@@ -8,21 +8,24 @@ use crate::sector_file::SECTOR;
 use crate::whole::write_whole;
 use crate::{DeviceFault, HostFault, HostFile, SectorDevice, SectorFile};
 
-/// How many zeros a call writes into a new file.
+/// How many zeros a call writes into a new file, at most.
 const PIECE: usize = 65_536;
 
 /// Why a file isn't opened or made.
 #[derive(Clone, Copy, Debug, PartialEq, Eq)]
 pub enum FileFault {
-    /// A file that was to be made is there.
+    /// Something has the name of the file that was to be made.
     Exists = 1,
     /// The system refused.
     Cannot = 2,
-    /// Another program has it open, this one has it open already, or it is one of this program's standard streams.
+    /// Another program has it locked, this one has by another opening, or it is one of this program's standard streams.
     InUse = 3,
 }
 
-/// The files of a system by their names. A file that was opened or made is the program's alone until it is closed.
+/// The files of a system by their names. Those of `StdFiles` are for reading and writing, each the program's alone
+/// until it is closed. Those of `ReadingFiles` in `image_care` are for reading: others may read one too, and of one
+/// that another program writes a copy may be given. That a file is the one of its name, that one that was made is new,
+/// and that no other program writes it no clause here says: it is assumed.
 /// Rule: IMAGE, The file; DECISIONS, The device and the image.
 pub trait HostFiles<H: HostFile> {
     /// What `open` gives under a name.
@@ -31,21 +34,21 @@ pub trait HostFiles<H: HostFile> {
     /// What `make` gives under a name.
     ghost makes: { Self → List ℕ → H → Type 0 };
 
-    /// Opens a file that is there, for reading and writing. `InUse` where it isn't to be had alone, and `Cannot` where
-    /// the system refuses. Nothing of it is read before it is the program's alone.
+    /// Opens a file that is there. `InUse` where it isn't given since another has it, or since it is one of this
+    /// program's standard streams, and `Cannot` where the system refuses.
     fn open(&self, path: &str) -> Result<H, FileFault>
         ensures refusal { IfErr result (λ fault. fault ≢ FileFault.Exists) }
         ensures settle { IfOk result (λ file. IsTrue (H.syncs_settle file)) }
         ensures opens { IfOk result (λ file. opens self.now path.now file) };
 
     /// Makes a file, without bytes, for reading and writing. `Exists` where something has that name, `InUse` where the
-    /// file isn't to be had alone, and `Cannot` where the system refuses.
+    /// file isn't to be had alone, and `Cannot` where the system refuses. After `InUse` and `Cannot` a file may stay.
     fn make(&self, path: &str) -> Result<H, FileFault>
         ensures settle { IfOk result (λ file. IsTrue (H.syncs_settle file)) }
         ensures makes { IfOk result (λ file. makes self.now path.now file) };
 
-    /// Makes the name of a file that was made stay, once it answers Ok. An error where the system refuses; the file may
-    /// stay then.
+    /// Asks that the name of a file that was made stays. That it does once this answers Ok is assumed, and no clause
+    /// says it. An error where the system refuses; the file may stay then.
     fn keep_name(&self, path: &str) -> Result<(), HostFault>;
 }
 
@@ -71,9 +74,10 @@ pub fn open_disk<H: HostFile, O: HostFiles<H>>(
 }
 
 /// Makes a file of this many sectors of zeros. `Exists` where something has that name, `InUse` where the file isn't to
-/// be had alone, and `Cannot` where it can't be made, filled or synced. Its bytes and its name are on the disk when it
-/// answers Ok, so there is room for each later write. After `Cannot` a file may stay: where the system made one, it is
-/// handed back, as a device without sectors.
+/// be had alone, and `Cannot` where it can't be made, filled or synced, or its name can't be kept. Its bytes are on the
+/// disk when it answers Ok, so there is room for each later write; that its name is there too is assumed of
+/// `keep_name`, and no clause says it. After `InUse` and `Cannot` a file may stay: where `make` gave it, it is handed
+/// back with `Cannot`, as a device without sectors.
 /// Rule: IMAGE, The file; DECISIONS, The device and the image.
 pub fn create_disk<H: HostFile, O: HostFiles<H>>(
     files: &O,

@@ -26,7 +26,7 @@ pub enum Fate {
 #[derive(Clone, Copy)]
 struct Sector {
     synced: [u8; 512],
-    // what was written since the last sync
+    // the bytes that it holds, where it was written or touched since the last sync
     unsynced: Option<[u8; 512]>,
 }
 

@@ -12,7 +12,7 @@ use crate::{Counts, DeviceFault, HostFile, SectorDevice};
 pub(crate) const SECTOR: u64 = 512;
 
 /// A file of sectors. Each read and write moves the sector's bytes at its place, and a sync asks that all bytes written
-/// reach the disk.
+/// reach the disk. Once a sync has failed each later one fails too, with no call of the file.
 ///
 /// Over a file that keeps the model of a file it keeps the disk model, and by sectors over one that keeps it so.
 /// Rule: IMAGE, The file.
@@ -31,8 +31,8 @@ impl<H: HostFile> SectorFile<H> {
     ghost use Rattle.sector_disk.specs.SectorFile.{file_of, has_failed_sync, sectors_of};
     ghost use Rattle.sector_disk.specs.FileBytes.{disk_of_file};
 
-    /// The file as a device of this many sectors. What is synced then, and what isn't, is as the file has it. Asks
-    /// nothing of the file.
+    /// The file as a device of this many sectors. Its syncs settle (`syncs_settle`), as those of one that was just
+    /// opened do. What is synced then, and what isn't, is as the file has it. Asks nothing of the file.
     pub fn new(file: H, sectors: u32) -> SectorFile<H>
         requires { IsTrue (H.syncs_settle file) }
         ensures file { file_of result ≡ file }

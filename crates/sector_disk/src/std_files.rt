@@ -23,7 +23,8 @@ const ANY_RIGHTS: u32 = 0o666;
 /// Those of a file that is to be as another one, whose rights can't be seen: to read and write it is its owner's.
 const FEWEST_RIGHTS: u32 = 0o600;
 
-/// The files of this system. Each is locked as long as it is open: only programs that ask for the lock are kept out.
+/// The files of this system, for reading and writing. Each is locked as long as it is open, before anything of it is
+/// read or written: only programs that ask for the lock are kept out.
 /// Rule: IMAGE, The file; DECISIONS, The device and the image.
 #[derive(Drop)]
 pub struct StdFiles<'a, R> {
@@ -38,7 +39,8 @@ impl<'a, R: Files<File = File>> StdFiles<'a, R> {
     }
 
     /// Those too, but each that is made has the rights of the file of this name, where one is given: who may read it,
-    /// write it and run it. At no time has it more. Where the system doesn't let them be set it has fewer.
+    /// write it and run it. At no time has it more. Where the system doesn't let them be set it may have fewer, and
+    /// where those of that file can't be seen it is its owner's alone, to read and write.
     /// Rule: DECISIONS, The device and the image.
     pub fn with_rights_of(rt: &'a R, like: Option<&'a str>) -> StdFiles<'a, R> {
         StdFiles { rt, like }
@@ -105,9 +107,9 @@ impl<R: Files<File = File>> HostFiles<StdFile> for StdFiles<'_, R> {
 
 impl SectorFile<StdFile> {
     /// Opens a file of this system that is there. One whose length isn't a multiple of 512 bytes, or is 2^32 sectors or
-    /// more, has no sectors. `InUse` where another program has it open or it is a standard stream of this one, and
-    /// `Cannot` where it can't be opened for reading and writing, or its file system has no locks. Nothing of it is
-    /// read then.
+    /// more, has no sectors. `InUse` where another program has it locked, this one has by another opening, or it is a
+    /// standard stream of this one, and `Cannot` where it can't be opened for reading and writing, or its file system
+    /// has no locks. Nothing of it is read then.
     /// Rule: IMAGE, The file; DECISIONS, The device and the image.
     pub fn open(rt: &impl Files<File = File>, path: &str) -> Result<FileDisk, FileFault>
         ensures refusal { IfErr result (λ fault. fault ≢ FileFault.Exists) }
@@ -120,8 +122,9 @@ impl SectorFile<StdFile> {
     }
 
     /// Makes a file of this many sectors of zeros. `Exists` where something has that name, `InUse` where another
-    /// program took its lock first, and `Cannot` where it can't be made, filled or synced. File and name are on the
-    /// disk when it answers Ok. After `Cannot` a file may stay.
+    /// program took its lock first, and `Cannot` where it can't be made, locked, filled or synced, or its folder can't
+    /// be synced. When it answers Ok file and folder were synced; that both are on the disk then is assumed. After
+    /// `InUse` and `Cannot` a file may stay.
     /// Rule: IMAGE, The file; DECISIONS, The device and the image.
     pub fn create(
         rt: &impl Files<File = File>,

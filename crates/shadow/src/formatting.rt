@@ -122,7 +122,8 @@ fn fill_records<D: SectorDevice>(device: &mut D, listing: &[u8; 512]) -> Result<
     write_sector(device, record_sector(false), listing)
 }
 
-// Makes the blank image, and gives its record. A stop before the end leaves no good label, or what was there.
+// Makes the blank image, and gives its record. A stop leaves no good label, or what was there, but for the other sectors in the
+// label's unit, or all of the blank image.
 fn make_blank<D: SectorDevice>(
     device: &mut D,
     blocks: BlockCount,

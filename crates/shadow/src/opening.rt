@@ -164,8 +164,8 @@ fn survey<D: SectorDevice>(
 ///
 /// It refuses, in this order, a device of a size that no image of any layout has (BadSize, with no device call), one
 /// without the name and zeros of a label (NoLabel), a label of another version (OtherVersion), one of a number of
-/// blocks that isn't that of the size (WrongCount), and an image of which a block isn't the one that was saved, or the
-/// record's sum isn't that of the blocks (Damaged). Device comes where a call of the device failed.
+/// blocks that isn't that of the size (WrongCount), and an image of which a block doesn't fit the tag beside it, or the
+/// record's sum isn't that of the tags (Damaged). Device comes where a call of the device failed.
 /// Rule: IMAGE, Layout 3, An opening; IMAGE, Layout 3.
 #[inline(never)] // what it reads isn't to lie on the stack below a store
 pub fn ready<D: SectorDevice>(

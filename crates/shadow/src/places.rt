@@ -25,7 +25,7 @@ pub struct Places {
 }
 
 impl Places {
-    /// As a layout begins: no block is laid, and no record written.
+    /// One that isn't begun. What it holds counts from `begin` on.
     pub fn new() -> Places {
         Places {
             sum: [0; 32],

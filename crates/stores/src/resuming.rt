@@ -40,8 +40,9 @@ pub fn resume<D: SectorDevice>(
     Store::resume(device, blocks, Technique::Pages(named))
 }
 
-/// What `resume` has to be told of the image. By layout 3 it is whether the gate is open, and the record that the gate
-/// names, which is put into `listing`. By layout 2 it is nothing: false, and `listing` is left.
+/// What `resume` has to be told of the image of an open store. By layout 3 it is whether the gate is open, and the
+/// record that the gate names, which is put into `listing`. By layout 2 it is nothing: false, and `listing` is left.
+/// What is told of a closed store needn't be so of its image: a save that failed may have left another gate there.
 /// Rule: IMAGE, Layout 3.
 pub fn named<D: SectorDevice>(store: &Store<D>, listing: &mut [u8; 512]) -> bool
     ensures { Names (technique_of store.now) result listing.new }

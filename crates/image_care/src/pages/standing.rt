@@ -23,7 +23,8 @@ use shadow::read_record;
 pub enum Standing {
     /// In the place that counts.
     Current,
-    /// In the other place alone. It is older than what counted, or was spilled and not saved.
+    /// In the other place alone. Where the record is the one that was saved, it is older than what counted, or was
+    /// spilled and not saved.
     Other,
     /// In neither place.
     Nowhere,

@@ -15,7 +15,7 @@ pub const VERSION: u16 = 3;
 /// The sector of the gate.
 pub const GATE: u32 = 8;
 
-/// The sectors of a unit.
+/// The sectors of a page.
 const UNIT: u32 = 8;
 
 /// The sectors of an image before the places of its blocks.

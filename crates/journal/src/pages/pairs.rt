@@ -72,8 +72,8 @@ pub fn write_through<D: SectorDevice>(
     device.sync()
 }
 
-/// Writes the 1,024 bytes of a block to two sectors of a page in a row, `k` below 65,536 and the next one. Nothing is
-/// synced. `DeviceFault` comes from the first write that fails.
+/// Writes the 1,024 bytes of a block to two sectors of a page in a row, `k` below 65,536 and the next one, which the
+/// device has. Nothing is synced. `DeviceFault` comes from the first write that fails.
 pub fn write_pair<D: SectorDevice>(device: &mut D, k: u32, bytes: &[u8]) -> Result<(), DeviceFault>
     requires small { k < 2 ^ 16 }
     requires within { k + 1 < D.sector_count device.old }

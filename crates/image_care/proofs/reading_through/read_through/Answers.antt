@@ -50,7 +50,7 @@ returns-clause-were_had g c =
     let ended : c.loop-k.k ≡ D.sector_count old = omega (arith, c.loop-k.auto.k-end, c.loop-k-test.false, c.sectors-sectors.ensures) in
     subst (λ (n : ℕ). WereHad (D.keeps_model old) (D.disk old).content n c.loop-k.bytes.items c.loop-k.unread.items) ended inv.were_had
 
--- There is no memory: not all sectors were read.
+-- There is no memory: it ends there.
 pub returns-in_err-add_next-clause-only_read : goal.returns-in_err-add_next-clause-only_read
 returns-in_err-add_next-clause-only_read g c =
     let inv = c.loop-k.invariant in
