@@ -4,7 +4,7 @@ use Rattle.block_words.specs.Words.{Save}
 use Rattle.block_words.specs.Kept.{MeansOneOf, KeptFrom, last_map}
 
 module _ {Image : Type 0} (means : Image → List (List ℕ) → Type 0) (since since' : ℕ → Image → Type 0) (now now' : ℕ) (later : now ≤ now') where
-  -- what a stop since t might have left was so before the second line, or is so since its start
+  -- what a stop since t might have left was so before the second call, or is so since its start
   abbrev pub HandsOn : Type 0
   HandsOn = (t : ℕ) (i : Image) → t ≤ now → since' t i → since t i ⊎ since' now i
 
@@ -21,7 +21,7 @@ module _ {Image : Type 0} (means : Image → List (List ℕ) → Type 0) (since 
   some_of m [] t i k h = k i h
   some_of m (s ∷ ss) t i k h = k.0 i h
 
-  -- the second line found the store open, so every save of the first returned
+  -- the second call found the store open, so every save of the first returned
   pub kept_open : HandsOn → (m : List (List ℕ)) (ss more : List Save) (t : ℕ) → t ≤ now → KeptFrom means since now m ss t → KeptFrom means since' now' (last_map m ss) more now → KeptFrom means since' now' m (ss ++ more) t
   kept_open hands m [] [] t le k l = λ i h. ⊎_elim (λ a. k i a) (λ a. l i a) (hands t i le h)
   kept_open hands m [] (s ∷ more) t le k l = (
@@ -33,7 +33,7 @@ module _ {Image : Type 0} (means : Image → List (List ℕ) → Type 0) (since 
     λ r. let b = k.1 r in (b.0, b.1, omega (arith, b.2, later), kept_open hands s.map ss more b.0 b.2 b.3 l),
   )
 
-  -- the second line found the store closed
+  -- the second call found the store closed
   pub kept_closed : HandsOn → ((i : Image) → since' now i → since now i) → ((t : ℕ) (i : Image) → t ≤ now → since now i → since t i) → (m : List (List ℕ)) (ss : List Save) (t : ℕ) → t ≤ now → KeptFrom means since now m ss t → KeptFrom means since' now' m ss t
   kept_closed hands none earlier m [] t le k = λ i h. k i (⊎_elim (λ a. a) (λ a. earlier t i le (none i a)) (hands t i le h))
   kept_closed hands none earlier m (s ∷ ss) t le k = (

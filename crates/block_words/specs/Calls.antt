@@ -53,7 +53,7 @@ pub record WordRuns {A : Type 0} (word : Blocks → BlockOutcome A) (result : Re
       → word (state m buffers space (answers ++ rest) failures before saves)
       ≡ ended result (state m' buffers' space' rest (failures_after result failures) (add_wear before wear) (saves ++ made))
 
--- the writes and the reads of so many spills, and of these commits
+-- the writes and the reads of so many spills and of these commits, with the reads of the blocks that are read
 abbrev pub writes_of : Bool → Wear → ℕ
 writes_of older wear = spill_writes older * wear.spills + (each_writes older * wear.committed + more_writes older * wear.commits)
 

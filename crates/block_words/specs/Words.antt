@@ -1,5 +1,5 @@
--- The five block words, and the text of a block. Each call that reaches the device takes one answer from a list of
--- what the device answers; where the list is at its end, all goes well.
+-- The five block words, and the text of a block. Each call that reaches the device, and each growth for a new buffer,
+-- takes one answer from a list of what is answered; where the list is at its end, all goes well.
 use Rattle.std.specs.Prelude.{ℕ, ◌+◌, ◌*◌, ◌++◌, ◌||◌, Bool, true, false, nat_lt, List, [], ◌∷◌, length, Option, Some, None, replicate}
 use Rattle.data_space.specs.Space.{buffer_at, buffer_bytes, with_bytes}
 use Rattle.journal.specs.Maps.{Maps, contents, spilled, committed, latest, shut, any_pending}

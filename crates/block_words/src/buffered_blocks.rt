@@ -58,14 +58,16 @@ impl From<StoreFault> for BlockFault {
 
 /// Blocks in four buffers over a store.
 ///
-/// The buffers' bytes are those of data space at 61,440, 62,464, 63,488 and 64,512, which each call is lent; no other
-/// copy of them is kept. Where a block has a buffer, its bytes are those; where it has none, the store's. Memory is
-/// taken by the first `block` or `buffer` of a block that has none, and by no other call.
+/// The buffers' bytes are those of data space at 61,440, 62,464, 63,488 and 64,512, which each call that reads or
+/// writes them is lent; no other copy of them is kept. Where a block has a buffer, its bytes are those; where it has
+/// none, the store's. Memory is taken, for an entry, by each `block` or `buffer` that assigns a buffer while fewer than
+/// four are assigned, and by no other call.
 ///
 /// Contracts speak of the store and of the list of buffers, which is valid at any time (`laws::buffers_are_valid`).
-/// Where the device keeps the disk model, `CallRuns` says that a call is a run of its word, what a stop at any moment
-/// of it leaves, and that the device began no more calls of each kind than the word counts; all other clauses hold over
-/// any device.
+/// Where the store stands for maps, as one does whose device suits it, `CallRuns` says that a call is a run of its
+/// word, what a stop at any moment of it leaves, and that the device began no more calls of each kind than the word
+/// counts. Of such a store alone speak also the other clauses about a stop, and that of `has_unsaved`; all others hold
+/// over any device.
 /// Rule: LANGUAGE, Blocks; LANGUAGE, Memory.
 #[derive(Drop)]
 pub struct Blocks<D: SectorDevice> {
@@ -88,7 +90,8 @@ impl<D: SectorDevice> Blocks<D> {
         Blocks { store, buffers }
     }
 
-    /// The store, as it is. Makes no device call, and saves nothing: what is updated or spilled is given up.
+    /// The store, as it is. Makes no device call, and saves nothing: what is updated in a buffer is given up, and what
+    /// was spilled stays pending in the store.
     pub fn into_store(self) -> Store<D>
         ensures { result ≡ store_of self }
     {
@@ -221,7 +224,8 @@ impl<D: SectorDevice> Blocks<D> {
     }
 
     /// Finds the text of block `u` as `source` does, and copies nothing: `text` lends it. The store keeps the text that
-    /// it read last, so a block that is read word by word is read from the device once. Faults are those of `source`.
+    /// it read last until it reads another one, `block` reads a block, or anything is written: so a block that is taken
+    /// word by word isn't read from the device for each word. Faults are those of `source`.
     /// Rule: DECISIONS, The device and the image; LANGUAGE, The input stream, and how words are taken.
     pub fn find_text(&mut self, u: u16) -> Result<TextPlace, BlockFault>
         ensures runs { (m : Maps) (space : List ℕ) → StandsFor (store_of self.old) m
@@ -256,7 +260,7 @@ impl<D: SectorDevice> Blocks<D> {
         }
     }
 
-    /// The 1,024 bytes of the text at a place that `find_text` gave last.
+    /// The 1,024 bytes of the text at a place that `find_text` or `text_at_hand` gave last.
     /// Rule: DECISIONS, The device and the image.
     pub fn text<'a>(&'a self, space: &'a DataSpace, place: TextPlace) -> &'a [u8]
         requires { IsPlace place }
@@ -270,7 +274,7 @@ impl<D: SectorDevice> Blocks<D> {
     }
 
     /// Where the text of block `u` is at hand without a call of the device: in its buffer, or as the text that the
-    /// store read last. None where neither has it.
+    /// store read last and still keeps. None where neither has it.
     /// Rule: DECISIONS, Compiler, machine and the definitions.
     pub fn text_at_hand(&self, u: u16) -> Option<TextPlace>
         ensures found { result ≡ at_hand (slot_of (buffers_of self.now) u) (is_text_of (kept_of (store_of self.now)) u) }

@@ -17,8 +17,9 @@ use data_space::DataSpace;
 use stacks::ReturnStack;
 use system_words::words::{Own, Return};
 
-/// A word of the machine's own by itself: nothing is put aside for it, so `R>`, `R@`, `I` and `J` are always
-/// `ReturnStack`, and what `>R` puts aside is gone with it. Its other faults are those that it has in a body.
+/// A word of the machine's own by itself: nothing is put aside for it, so `R>`, `R@`, `I` and `J`, once their step is
+/// paid, are always `ReturnStack`, and what `>R` puts aside is gone with it. Its other faults are those that it has in
+/// a body.
 /// Rule: LANGUAGE, Running a body; LANGUAGE, How a word is checked.
 #[inline(never)]
 pub fn once(

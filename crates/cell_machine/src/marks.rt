@@ -1,4 +1,5 @@
-//! The cells of a body that are no tokens of words. A token is 1 to 4,096.
+//! The cells of a body that are no tokens of words, and the two tokens that have forms of their own. A token is 1 to
+//! 4,096.
 
 /// A literal; the next cell is its value.
 pub const LITERAL: u16 = 4097;

@@ -304,7 +304,8 @@ impl Operands {
         Ok(())
     }
 
-    /// A word that sets the system cell at `a` to `w`, in one step. `Steps` where none is left.
+    /// A word that sets the system cell at `a` to `w`, in one step. Faults: `Steps` where none is left, then `Address`
+    /// where `a` is 65,535, which no row has.
     /// Rule: LANGUAGE, Memory; Forth-83 Standard, DECIMAL [ ].
     #[inline(always)]
     pub fn set_system_cell(

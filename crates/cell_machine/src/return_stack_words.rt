@@ -16,8 +16,8 @@ use system_words::words::Return;
 
 impl Operands {
     /// A word on what the running body has put aside, which are the entries above the newest call. Faults: `Steps`,
-    /// `StackEmpty`, then `ReturnStack` where the newest entry isn't what the word wants, or for `>R` where 256 units
-    /// are used, then `StackFull`.
+    /// `StackEmpty`, then `ReturnStack` where the newest entry (of `J` the two newest) isn't what the word wants, or
+    /// for `>R` where 256 units are used, then `StackFull`.
     /// Rule: LANGUAGE, Running a body; Forth-83 Standard, >R R> R@ I J.
     #[inline(always)]
     pub fn on_list(

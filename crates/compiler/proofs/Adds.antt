@@ -1,4 +1,5 @@
--- Things added to the open definition: a literal, a word, a mark and the word after it, a text, a LEAVE.
+-- Things added to the open definition: a literal, a word, a mark and the word after it; and what a text and a LEAVE
+-- share with them.
 use Rattle.std.proofs.Common.{◌≡◌, ◌≢◌, ℕ, ◌+◌, ◌<◌, ◌≤◌, Bool, true, false, List, [], ◌∷◌, refl, sym, ap, ◌∙◌, subst, arith, ⊎_elim, Option, Some, None}
 use Rattle.std.proofs.lemmas.Bool.Decides.{nat_tests}
 use Rattle.std.proofs.lemmas.Bool.{cases_eq}
@@ -289,7 +290,7 @@ pub refuses_exit : (c : Compiler) (code : List ℕ) (w : ℕ) → c.marked ≡ f
 refuses_exit c code w ma is inside op =
     (λ o h. subst (λ t. on_open o (add_word c.start t) ≡ Refuses Unbalanced) (sym is) (exit_refused c code ma inside op o h), refl, refl)
 
--- no cell is left
+-- too few cells are left
 pub full_is : (c : Compiler) (code : List ℕ) (d : Definition) → Represents c code d → (n : ℕ) (d' : Definition) → d'.cells ≡ d.cells → most_cells < c.here + n → with_cells c.start n d' ≡ Refuses CodeFull
 full_is c code d r n d' e h =
     let size : c.start + d.cells ≡ c.here = r.size in

@@ -24,7 +24,7 @@ pub enum CompileRefusal {
     DefinitionOpen,
     /// It doesn't fit the innermost structure, or stands where a word has to.
     Unbalanced,
-    /// No cell is left for it, or it would be the 257th open structure.
+    /// Too few cells are left for it, or it would be the 257th open structure.
     CodeFull,
 }
 

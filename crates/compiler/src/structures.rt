@@ -152,7 +152,7 @@ impl Compiler {
     }
 
     /// `REPEAT` ends a loop that has its `WHILE`, with a jump back of 2 cells. Refused as any addition, and as
-    /// `Unbalanced` where the innermost structure is none.
+    /// `Unbalanced` where the innermost structure is no such loop.
     /// Rule: Forth-83 Standard, REPEAT.
     pub fn add_repeat(&mut self, code: &mut Code) -> Result<(), CompileRefusal>
         requires { IsSound self.old code.old }

@@ -1,7 +1,8 @@
 //! Moves of bytes, one by one in meaning.
 //!
-//! A part that is no longer than the distance between source and target doesn't touch what is still to be read, so it
-//! is copied as a whole. Where the distance is small, bytes are copied one by one.
+//! A part that is no longer than the distance between source and target stores nothing into what it reads itself, so it
+//! is copied as a whole. Where it stores into what a later part reads, that part copies what was stored, as it would
+//! byte by byte. Where the distance is small, bytes are copied one by one.
 ghost use Rattle.std.specs.Prelude.{◌≡◌, ◌+◌, ◌-◌, ◌≤◌, length, ℕ};
 ghost use Rattle.data_space.specs.Space.{bytes_at, with_bytes, moved_up, moved_down};
 ghost use Rattle.data_space.specs.Apart.{AreApart};

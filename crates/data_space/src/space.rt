@@ -176,7 +176,8 @@ impl DataSpace {
         &self.bytes[start..start + BUFFER_SIZE]
     }
 
-    /// Lends the 1,024 bytes of block buffer `slot` in place: what the loan leaves is what data space then has there.
+    /// Lends the 1,024 bytes of block buffer `slot`, which is below 4, in place: what the loan leaves is what data
+    /// space then has there.
     pub fn buffer_mut(&mut self, slot: u8) -> &mut [u8]
         requires { slot < 4 }
         ensures* lends { sem 𝓛 (LendsBuffer self.entry slot result) }

@@ -2,8 +2,8 @@
 //!
 //! A header has the token of the next older word of its vocabulary, and a table that of each vocabulary's newest one.
 //! Which strand a word is in, its vocabulary and its name say. There are as many strands as there may be words, so a
-//! search reads few headers, the newest first, however many words there are. Contracts see a list of words, oldest
-//! first.
+//! search reads few headers, the newest first, however many words there are, unless many of their names lead to one
+//! strand. Contracts see a list of words, oldest first.
 ghost use Rattle.std.specs.Prelude.{◌≡◌, ◌+◌, ◌-◌, ◌/◌, ◌<◌, ◌≤◌, ◌==◌, ◌&&◌, [], ◌∷◌, ◌++◌, length, take, option_map, is_some, IfOk, IfSome, IsTrue};
 ghost use Rattle.std.specs.Bool.{OnTrue, OnFalse};
 ghost use Rattle.std.specs.Int.{from_le_bytes, Width};

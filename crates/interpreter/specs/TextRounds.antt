@@ -29,7 +29,7 @@ abbrev pub after_text : ℕ → List Level → Core → World → Outcome World
 after_text n (Load blk to_in ∷ levels) c x = left n levels (back blk to_in c) x
 after_text n levels c x = Did c x
 
--- a word that was found while a definition is compiled
+-- a word that was found while words are compiled
 abbrev pub found_compiling : ℕ → ℕ → Around → Core → World → Outcome World
 found_compiling n w a c x =
     branch (is_immediate (entry x.words w)) c (λ c. word_value n (λ a due c x. serve n a due c x) a w c x) (λ c. compile_word w c x)

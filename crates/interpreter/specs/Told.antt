@@ -91,13 +91,14 @@ abbrev pub IsWordBefore : Option Place → Forth → List ℕ → Type 0
 IsWordBefore None state word = word ≡ []
 IsWordBefore (Some place) state word = place.block ≡ 0 → word ≡ word_before place.to_in (line_of state.core.space)
 
--- The start is one that may be told: none without a place; in the line the first byte of that word.
+-- The start is one that may be told: none without a place; in the line the first byte of that word, or where there is none the
+-- last byte before the place.
 abbrev pub IsStartBefore : Option Place → Forth → Option Place → Type 0
 IsStartBefore None state start = start ≡ None
 IsStartBefore (Some place) state start = place.block ≡ 0
     → start ≡ Some (record { block = 0; to_in = first_byte place.to_in (line_of state.core.space) })
 
--- Word and start are read off one text, that in which the place lies: its last word before the place, in the same block.
+-- Word and start are read off one text, whichever that is: its last word before the place, in the same block.
 abbrev pub AreRead : Option Place → (start : Option Place) → (word : List ℕ) → Type 0
 AreRead None start word = (start ≡ None) × (word ≡ [])
 AreRead (Some place) start word =

@@ -39,7 +39,7 @@ fn append(text: &mut ArrayVec<u8, 32>, bytes: &[u8])
 pub enum LineEnd {
     /// The reply ended in ` ok`.
     Interpreting,
-    /// A definition is compiled.
+    /// `STATE` isn't 0: the reply ended in a line feed.
     Compiling,
     /// `QUIT`, `ABORT` or a true `ABORT"`.
     Quit,
@@ -200,7 +200,7 @@ impl<D: SectorDevice> Forth<D> {
         self.say(b"\n", LineEnd::Quit, None, terminal)
     }
 
-    /// Is a definition compiled?
+    /// Are words compiled: is `STATE` not 0?
     pub(crate) fn is_compiling(&self) -> bool
         ensures { result ≡ compiling (core self.now) }
     {

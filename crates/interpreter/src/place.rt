@@ -10,7 +10,8 @@ use sector_disk::SectorDevice;
 use std::marker::Model;
 
 /// A place in the input stream: a byte of a block, or of the line itself. Where a fault came it is the byte behind what
-/// was taken from the stream last, and behind the delimiter of that.
+/// was taken of that text last, and behind the delimiter of that: byte 0 where a `LOAD` began and nothing was taken
+/// yet.
 #[derive(Clone, Copy, Debug, Default, PartialEq, Eq)]
 pub struct Place {
     /// The block that was taken from, as `BLK` held it: 0 for the line itself.

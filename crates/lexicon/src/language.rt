@@ -280,9 +280,10 @@ impl Lexicon {
         }
     }
 
-    /// `FORGET`: the word and all newer ones go, and `HERE` goes back to where the word began. `DefinitionOpen` where a
-    /// definition is open, then `Protected` for a system word, or where the compilation vocabulary or a word whose body
-    /// runs would go. So what is left to do stands.
+    /// `FORGET`: the word and all newer ones go, and `HERE` goes back to where it was when the word was begun. Where
+    /// the first vocabulary goes too, `FORTH` takes its place. `DefinitionOpen` where a definition is open, then
+    /// `Protected` for a system word, or where the compilation vocabulary or a word whose body runs would go. So what
+    /// is left to do stands.
     /// Rule: LANGUAGE, Dictionary and search; Forth-83 Standard, FORGET.
     pub fn forget(
         &mut self,

@@ -104,9 +104,10 @@ impl Lexicon {
         self.compiler.text(&mut self.code, kind, bytes)
     }
 
-    /// Begins, goes on with or ends a structure of the open definition. Refused as any addition: `Unbalanced` where a
-    /// mark of `COMPILE` waits for its word, or the innermost structure isn't one that the word goes on with or ends.
-    /// `CodeFull` is also the 257th one.
+    /// Adds a structure word or `DOES>` to the open definition: it begins, goes on with or ends a structure, leaves a
+    /// counted loop, or ends a part. Refused as any addition: `Unbalanced` where a mark of `COMPILE` waits for its
+    /// word, where the innermost structure isn't one that the word goes on with or ends, for a `LEAVE` outside a
+    /// counted loop, and for a `DOES>` while a structure is open. `CodeFull` is also the 257th structure.
     pub fn add_structure(&mut self, structure: Structure) -> Result<(), CompileRefusal>
         requires { IsSound self.old }
         ensures added { OnOk result (Goes self.old self.new (changing (adding structure))) }

@@ -65,7 +65,7 @@ lowest p m d h = kept p (m - d) m d (omega arith)
 
 -- ---- a roll
 
--- the n cells under place `end`
+-- the n cells from place `end` down
 abbrev part : List ℕ → ℕ → ℕ → List ℕ
 part p end zero = []
 part p end (suc n) = slice_index p end ∷ part p (end - 1) n

@@ -22,7 +22,7 @@ indexed index entry = entry
 abbrev pub entry_at : List Entry → ℕ → Entry
 entry_at places at = slice_index_or places at (Load 0 0)
 
--- at most this many entries, the top at place `top`, each of the others where the one above it begins
+-- at most this many entries, the top at place `top`, each of the others just below the first unit of the one above it
 unfoldable pub entries_in : (most : ℕ) → List Entry → (top : ℕ) → List Entry
 entries_in zero places top = []
 entries_in (suc most) places zero = []

@@ -262,7 +262,7 @@ pub enum TerminalWord {
     UnsignedDot,
 }
 
-/// Words on the picture of a number.
+/// Words on the picture of a number, and `CONVERT`, which reads a number.
 #[derive(Clone, Copy)]
 pub enum PictureWord {
     /// `#`
@@ -281,7 +281,7 @@ pub enum PictureWord {
     Sign,
 }
 
-/// Words that take a text from the stream, which may lie on the device.
+/// Words that take a text from the stream, or with `WORD` a word. The stream may lie on the device.
 #[derive(Clone, Copy)]
 pub enum TextWord {
     /// `(`

@@ -23,7 +23,7 @@ pub(crate) fn line_of(space: &DataSpace) -> &[u8]
     }
 }
 
-/// How a text ends at its delimiter.
+/// Where what is cut from a text begins. It ends before its delimiter, or with the text.
 #[derive(Clone, Copy)]
 pub(crate) enum Cut {
     /// A word: the delimiters before it are skipped.

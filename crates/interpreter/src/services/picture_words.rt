@@ -30,7 +30,7 @@ fn unsigned_text(cell: u16, base: u16) -> Held
     text
 }
 
-/// The digits of a signed cell in a base, with a minus sign where the cell is negative.
+/// The digits of a signed cell in a base, with a minus sign where the cell is negative, and a blank after them.
 fn signed_text(cell: u16, base: u16) -> Held
     requires low { 2 ≤ base }
     requires high { base ≤ 72 }

@@ -131,7 +131,7 @@ impl<D: SectorDevice> Forth<D> {
         Ok(())
     }
 
-    /// A word that is found while a definition is compiled: it is added, and an immediate one is run.
+    /// A word that is found while words are compiled: it is added, and an immediate one is run.
     fn found_in_definition(&mut self, token: u16) -> Result<(), Fault>
         requires sound { IsSound self.old }
         requires idle { self.old.machine.pending ≡ None }
