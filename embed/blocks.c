@@ -112,7 +112,7 @@ static long first_mixed(const struct disk *start, struct tally *tally) {
     }
 }
 
-/* A save each of whose calls fails once; answers how many calls that were, or NEVER where one was told as done or left a mixture. */
+/* A save each of whose calls fails once; answers how many calls that were, or NEVER where one wasn't told as a fault of the device or left a mixture. */
 static long failures_told(const struct disk *start) {
     for (long at = 0;; at++) {
         disk = *start;

@@ -4,8 +4,8 @@
  *
  *     flash [IMAGE]     over an image in a file, which is left as it is, or over a new one of layout 2
  *
- * It tries that: a save of two blocks is stopped at each moment of each write, and each recovery of what is left in the same way. Then both
- * blocks have to hold the old number or both the new one, and each other block its own bytes. */
+ * It tries that: a save of two blocks is stopped at each moment of each write, and each recovery of what is left in the same way. By layout 3
+ * both blocks then have to hold the old number or both the new one, and each other block its own bytes; by layout 2 some image has to lose one. */
 #include <setjmp.h>
 #include <stdio.h>
 #include <string.h>

@@ -55,8 +55,9 @@ enum silgwyrad_answer {
     SILGWYRAD_NO_LABEL = 2,      /* the image has no label: it was never formatted, or a format was stopped */
     SILGWYRAD_OTHER_VERSION = 3, /* the label has another version than that of images of this size */
     SILGWYRAD_WRONG_COUNT = 4,   /* the label counts other blocks than the sectors do */
-    SILGWYRAD_DEVICE = 5,        /* a call of the device failed: open the image again by any call that takes a device, as after a loss of power; over a file
-                                    whose sync failed only after the machine was restarted */
+    SILGWYRAD_DEVICE = 5,        /* a call of the device failed: open the image again by any call that takes a device but silgwyrad_format, as after a loss
+                                    of power; over a file whose sync failed only after the machine was restarted. Of silgwyrad_run a call of the
+                                    opening failed: one in the session is told in a reply */
     SILGWYRAD_DAMAGED = 6,       /* the bytes of a save that is under way, or by layout 3 of a block or of the record, aren't those that were saved */
     SILGWYRAD_NO_BLOCK = 7,      /* the image has no such block; the device wasn't called */
     SILGWYRAD_BAD_LENGTH = 8,    /* not 1024 bytes for each block; the device wasn't called */
@@ -106,7 +107,8 @@ uint8_t silgwyrad_save_open(struct silgwyrad_store *store, const uint16_t *block
 void silgwyrad_close(struct silgwyrad_store *store);
 
 /* Runs a session of a new Forth system over the image: the lines that `input` gives, to the end of the input, at most `steps`
- * steps a line, 1 or more. The replies are written to `output`, which may be the same console. */
+ * steps a line, 1 or more. The replies are written to `output`, which may be the same console. A call of the device that fails in the
+ * session is told in a reply: the session goes on, and may end in 0. */
 uint8_t silgwyrad_run(int32_t device, uint32_t sectors, int32_t input, int32_t output, uint32_t steps);
 
 /* With host.c: the callbacks of a device or a console. Each answers 0 where it was done. */

@@ -1,4 +1,5 @@
-/* What a board supplies to a firmware: a console of bytes, a disk of sectors of 512 bytes, a clock, a lamp, and a reset. */
+/* What a board supplies to a firmware: a console of bytes, a disk of sectors of 512 bytes, a clock, a lamp, and a reset. One for blocks
+ * alone, as lm3s.c, has no clock and no lamp. */
 #ifndef BOARD_H
 #define BOARD_H
 

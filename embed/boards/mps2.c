@@ -37,7 +37,7 @@ void board_begin(void) {
     open_disk();
 }
 
-/* Moves a sector's bytes; the answer counts the bytes that weren't moved. */
+/* Moves a sector's bytes, and answers 0 where it did. The emulator's answer counts the bytes that weren't moved. */
 static int move(int operation, uint32_t sector, const void *bytes) {
     const uint32_t to[2] = {(uint32_t)file, sector * SECTOR_BYTES};
     const uint32_t words[3] = {(uint32_t)file, word_of(bytes), SECTOR_BYTES};

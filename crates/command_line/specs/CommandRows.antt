@@ -4,7 +4,7 @@ use Rattle.clap.specs.Words.{Text, all_of, first_of, one_of, subcommand_of, Kind
 use Rattle.clap.specs.declared.error.kind.ErrorKind.TheVariants as kind
 use Rattle.command_line.specs.Commands.{forth83}
 
--- the name of the command, the texts under two ids, and the numbers under two
+-- the name of the command, the texts under two ids, and those of the numbers under three
 abbrev pub read : List Text → Option (Text × Option Text × Option Text × Option Text × Option Text × Option Text)
 read words = option_map (λ given. (
   given.0,

@@ -24,9 +24,9 @@ const VERSION: &str = "0.1.0";
 const MADE: &str = "The file that is made";
 
 /// The command that the words give, of which the first is the name of the program; with that alone, a session in
-/// memory. Its numbers lie in their ranges: blocks of a new image 32 to 3,840, steps 1 to 1,000,000,000. What the words
-/// can't mean is refused with a text for the user, and so are `help` and `--help`, whose text is the help; and so is
-/// every command where memory is refused.
+/// memory. Its numbers lie in their ranges: blocks of an image 32 to 3,840, steps 1 to 1,000,000,000. What the words
+/// can't mean is refused with a text for the user, and so are `help` and `--help`, whose text is the help, and
+/// `--version`, whose text is the version; and so is every command where memory is refused.
 /// Rule: MANUAL, Commands; MANUAL, All commands.
 pub fn order<'a, S: AsStr>(alloc: Global, words: &'a [S]) -> Result<Order<'a>, Error>
     ensures given { IfOk result (λ o. IsOrderOf (map S.text words.entry.now) o) }

@@ -38,7 +38,7 @@ module _ {D : Type 0} (G : Ghosts D) where
   system_on steps device = new_forth steps (fresh (meant_by G device))
 
   -- The session of a system: the input was read to its end, and the output is its replies. What a stop may have left are blocks
-  -- as they were saved, and at the end those that were saved last.
+  -- as they were saved, and at the end, unless a fault has closed the store, those that were saved last.
   pub record RunsFrom (opening : Forth) (left left' written written' : Option (List ℕ)) (old new : D) : Type 0 where
     pub closing : Forth
     pub made : List Save

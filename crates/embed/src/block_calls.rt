@@ -1,4 +1,5 @@
-//! Blocks on a device: recovered, read, and saved all or none. Each call opens the image anew and takes no memory.
+//! Blocks on a device: recovered, read, and saved all or none. Each call but `save_all`, which is given an open store,
+//! opens the image anew. None takes memory.
 //! Rule: EMBEDDING, What is proved.
 ghost use Rattle.std.specs.Prelude.{◌≡◌, ◌≢◌, ◌⊎◌, ◌<◌, ◌≤◌, ◌+◌, ◌*◌, ℕ, true, false, None, Some, length, nat_lt, IsTrue, OnOk, OnErr, IfOk, IfErr, IfSome, MatchBool, MatchResult, Err};
 ghost use Rattle.std.specs.List.{list_all};
@@ -53,7 +54,8 @@ pub fn recover<D: SectorDevice>(device: D) -> Result<D, (Refusal, D)>
 }
 
 /// Reads block `block` into `out`, of 1,024 bytes. A refusal hands the device back, and leaves `out`: those of the
-/// arguments come first, as `check_read` says, with no call of the device, and then those of `open_kept`.
+/// arguments come first, as `check_read` says, with no call of the device, then those of `open_kept`, and `Device`
+/// where the read failed.
 pub fn read_block<D: SectorDevice>(device: D, block: u16, out: &mut [u8]) -> Result<D, (Refusal, D)>
     ensures bytes { IsTrue (suits D.SectorDevice device)
         → OnOk result (out.new ≡ block_in (meant_by D.SectorDevice device) block) }

@@ -18,7 +18,8 @@ use crate::refusal::Refusal;
 use std::alloc::Global;
 
 /// Makes an image of 32 to 3,840 blank blocks, of layout 2 on `3 + 4 * blocks` sectors and of layout 3 on
-/// `32 + 16 * blocks`. It answers 0 or the number of a refusal: `BadSize` where the sectors are neither, and `Device`.
+/// `32 + 16 * blocks`. It answers 0 or the number of a refusal: `BadSize` at another number of blocks or of sectors,
+/// with no call of the device, and `Device`.
 #[unsafe(no_mangle)]
 pub extern "C" fn silgwyrad_format(device: i32, sectors: u32, blocks: u16) -> u8
     ensures listed { result ≤ 12 }
@@ -125,7 +126,7 @@ pub extern "C" fn silgwyrad_close(store: &mut OpenStore)
 
 /// Runs the lines that the input gives over the image, to its end, at most `steps` steps a line, 1 or more, and writes
 /// the replies. It answers 0 or the number of a refusal: `NoSteps`, then those of `silgwyrad_recover`, then `NoMemory`,
-/// `Input` or `Output`.
+/// `Input` or `Output`. A call of the device that fails in the session is told in a reply, not by this answer.
 #[unsafe(no_mangle)]
 pub extern "C" fn silgwyrad_run(
     alloc: Global,

@@ -26,10 +26,10 @@ use journal::sizes::known_blocks;
 use sector_disk::SectorDevice;
 use stores::{Store, adopt, named, ready, resume};
 
-/// Opens the image: what a stop has left half done is finished first. It answers the device and whether the gate is
-/// open, and puts the record that the gate names into `listing`. A refusal hands the device back, and leaves `listing`:
-/// `BadSize`, with no call of the device, `NoLabel`, `OtherVersion`, `WrongCount` or `Damaged`, the first that holds,
-/// or `Device`.
+/// Opens the image: what a stop has left half done is finished first. By layout 3 it answers the device and whether
+/// the gate is open, and puts the record that the gate names into `listing`; by layout 2 the device and false, and
+/// `listing` is left. A refusal hands the device back, and leaves `listing`: `BadSize`, with no call of the device,
+/// `NoLabel`, `OtherVersion`, `WrongCount` or `Damaged`, the first that holds, or `Device`.
 pub fn open_kept<D: SectorDevice>(
     mut device: D,
     listing: &mut [u8; 512],
@@ -247,8 +247,8 @@ pub fn block_count<D: SectorDevice>(device: &D) -> u16
     known_blocks(device.sectors()).unwrap()
 }
 
-/// Lets an open store rest of which nothing is pending: its device, and whether the gate is open; the record goes into
-/// `listing`.
+/// Lets an open store rest of which nothing is pending: its device, and by layout 3 whether the gate is open; the
+/// record that the gate names goes into `listing`. By layout 2 that answer is false, and `listing` is left.
 fn rested<D: SectorDevice>(store: Store<D>, listing: &mut [u8; 512]) -> (D, bool)
     requires live { closed_of store ≡ false }
     requires none { (b : ℕ) → is_pending store b ≡ false }

@@ -18,12 +18,13 @@ use journal::sizes::is_older;
 use sector_disk::SectorDevice;
 
 /// Makes an image of `blocks` blank blocks, 32 to 3,840: of layout 2 on `3 + 4 * blocks` sectors, of layout 3 on
-/// `32 + 16 * blocks`. A refusal hands the device back: `BadSize` where it has neither, with no call of it, and
-/// `Device` where a call of it failed.
+/// `32 + 16 * blocks`. A refusal hands the device back: `BadSize` at another number of blocks or of sectors, with no
+/// call of it, and `Device` where a call of it failed.
 pub fn make_image<D: SectorDevice>(device: D, blocks: u16) -> Result<D, (Refusal, D)>
     ensures blank { IsTrue (suits D.SectorDevice device)
         → IfOk result (λ after. LeavesBlocks D.SectorDevice after (blank_blocks blocks)) }
-    // At any moment a stop leaves no good label, or the blank image, or what was there.
+    // At any moment a stop leaves no good label, or the blank image, or what was there, by layout 3 but for the other sectors in the
+    // label's unit.
     ensures stops { IsTrue (suits D.SectorDevice device) → fits_image blocks (D.sector_count device) ≡ true
         → StopsLeave D.SectorDevice device (device_after result) (FormattingLeaves D.SectorDevice device blocks) }
     ensures sized { IfOk result (λ _. fits_image blocks (D.sector_count device) ≡ true) }

@@ -88,7 +88,7 @@ fn read_around_a_save(alloc: Global, sectors: u32) -> Result<[u8; 3], Fail> {
     Ok([blank, byte, again])
 }
 
-// What a read adds to the counts of the device, and then a save of two blocks.
+// The counts of the device before a read, after it, and after a save of two blocks.
 fn counted(alloc: Global, sectors: u32) -> Result<(Counts, Counts, Counts), Fail> {
     let mut store = shut(sectors);
     let device = opened(made(alloc, sectors)?, &mut store)?;

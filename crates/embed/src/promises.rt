@@ -223,7 +223,8 @@ pub fn save_open_over<D: SectorDevice>(
 
 /// `silgwyrad_run`: runs the lines of the input over the image, to its end, at most `steps` steps a line, and writes
 /// the replies. It answers 0 or the number of a refusal: `NoSteps` where `steps` is 0, those of `recover_over`, then
-/// `NoMemory`, `Input` or `Output`.
+/// `NoMemory`, `Input` or `Output`. A call of the device that fails in the session is told in a reply, not by this
+/// answer.
 pub fn run_over<D: SectorDevice + Drop, R: Read, W: Write>(
     alloc: Global,
     device: D,
@@ -248,7 +249,7 @@ pub fn run_over<D: SectorDevice + Drop, R: Read, W: Write>(
         (result.0 ≢ code_of Refusal.BadSize) (result.0 ≡ code_of Refusal.BadSize) }
     ensures unasked { result.0 ≡ code_of Refusal.NoSteps → result.1 ≡ device }
     ensures uncalled { result.0 ≡ code_of Refusal.BadSize → result.1 ≡ device }
-    // Where no line was run, nothing was read or written, and the device is as after an opening.
+    // Where what is told says that no line was run, nothing was read or written, and a stop leaves what one of an opening may leave.
     ensures unread { RanNothing result.0 → input.new ≡ input.old }
     ensures unwritten { RanNothing result.0 → output.new ≡ output.old }
     ensures recovers { IsTrue (suits D.SectorDevice device) → RanNothing result.0

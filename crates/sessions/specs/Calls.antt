@@ -1,4 +1,4 @@
--- What the inner calls of a run leave. These relations serve the proof alone: no public promise cites them.
+-- What the inner calls of a run leave. Of public promises only that of read_line cites them: how a line was read, or a part of one.
 use Rattle.std.specs.Prelude.{◌≡◌, ◌≢◌, ℕ, ◌<◌, ◌⊎◌, List, [], ◌∷◌, ◌++◌, length, Option, Some}
 use Rattle.std.specs.List.{AllByRecursion}
 use Rattle.std.specs.Io.KnownBytes.{Appends, Consumes}

@@ -23,7 +23,8 @@ RunsOver G opening old new end left left' written written' =
     × OnOk end (Completes G opening closing left left' written written' (device_of old) (device_of new) made)
     × IfErr end (λ fault. BreaksOff G fault opening closing left left' written written' (device_of old) (device_of new) made)
 
--- The same of a run of which a tracer is told, and that may end with the first fault; and whether changed blocks were left unsaved.
+-- The same of a run of which a tracer is told, and that may end with the first fault; and, unless the store was closed, whether changed
+-- blocks were left unsaved.
 abbrev pub RunsOverBy : {D T : Type 0} (hears : (old new : T) → LineEnd → Option Place → List ℕ → List Place → Type 0) (G : Ghosts D) (is_strict : Bool) (opening : Forth) (old new : Store D G)
     (end : Result RunEnd RunFault) (is_unsaved : Bool) (left left' written written' : Option (List ℕ)) (tracer tracer' : T) → Type 0
 RunsOverBy hears G is_strict opening old new end is_unsaved left left' written written' tracer tracer' =

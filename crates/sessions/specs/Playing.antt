@@ -20,7 +20,7 @@ abbrev pub is_empty : List ℕ → Bool
 is_empty [] = true
 is_empty (b ∷ bytes) = false
 
--- how many bytes of the rest a line takes, if more than n, where the rest has n + k
+-- how many bytes of the rest a line takes, if no fewer than n, where the rest has n + k
 abbrev pub tried : (k n : ℕ) → Forth → (bytes rest : List ℕ) → List Answer → ℕ
 tried zero n s bytes rest answers = n
 tried (suc k) n s bytes rest answers =

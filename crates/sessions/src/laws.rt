@@ -6,7 +6,7 @@ ghost use Rattle.sessions.specs.Sessions.{HasOneSession, ToldInAll};
 
 use sector_disk::SectorDevice;
 
-/// A session that is computed is a session.
+/// A session that is computed, and in which each line took all that it was given, is a session.
 pub fn played()
     ensures { PlayedIsSession }
 {}

@@ -23,7 +23,8 @@ use stores::Store;
 
 /// Begins a new system in this memory over a store, with at most `steps` steps a line, 1 or more; runs the lines of the
 /// input, and gives the store back beside how the run ended: `Read` where the input can't be read, `Write` where the
-/// output can't be written. What was changed and not saved is given up.
+/// output can't be written. What was changed and not saved stays unsaved: what was spilled of it is still pending in
+/// the store, and the rest is given up.
 pub fn run_over<D: SectorDevice, F: Lines<D>, R: Read, W: Write>(
     memory: Memory,
     store: Store<D>,
@@ -76,7 +77,7 @@ pub fn run_over_traced<D: SectorDevice, F: Lines<D>, R: Read, W: Write, T: Trace
 
 /// Runs the lines of an input over a store, as `run_over_traced`; with `is_strict` only up to the first one that a
 /// fault ended, as `run_until`. It ends in `Read` where the input can't be read, in `Write` where the output can't be
-/// written. It also tells whether blocks were changed and not saved: they are given up.
+/// written. It also tells whether blocks were changed and not saved; of a closed store that answer says nothing.
 /// Rule: SEMANTICS, Sessions.
 pub fn run_over_until<D: SectorDevice, F: Lines<D>, R: Read, W: Write, T: Tracer>(
     memory: Memory,

@@ -12,7 +12,7 @@ use interpreter::promise::Lines;
 use sector_disk::SectorDevice;
 use std::io::Write;
 
-/// Who is told of each line whose reply was written.
+/// Who is told of each line whose reply was written and passed on.
 pub trait Tracer {
     // What it makes of a line, by how that ended, where the word before its fault begins, that word, and the loads that led there.
     ghost hears: { (old new : Self) → LineEnd → Option AbstractPlace → List ℕ → List AbstractPlace → Type 0 };
@@ -38,7 +38,8 @@ impl Tracer for Untraced {
 }
 
 /// A writer is told of each line that a fault ended: in which line of the input which fault came, and where. Each trace
-/// is one line, given to the writer in one call. Once the writer has failed it is told no more.
+/// is one line, which the writer is offered whole, and again what it left of it. Once the writer has failed it is told
+/// no more.
 #[derive(Drop)]
 pub struct Traces<'a, W> {
     writer: &'a mut W,

@@ -202,7 +202,7 @@ module _ {D : Type 0} (G : Ghosts D) where
   -- `new`, `import`, `run`, a `run` that was stopped at any moment, `run`, `export`, each of what the one before left: the first session
   -- is one over blank blocks with those that the files say; the second one is over the blocks that the first one saved last; the third
   -- one is over these, or over those of a save of the second one, none from before a save that had returned; and what is printed are the
-  -- blocks that the third one saved last.
+  -- blocks that the third one saved last. So it is where no fault closed the store of the first session, nor that of the third one.
   abbrev pub Chain : (is_text : (path text : List ℕ) → Type 0) → Type 0
   Chain is_text = (layout : Layout) (n first : ℕ) (sources : List (Bor (List ℕ))) (form : Form) (file made image filled opened saved again stopped later done last : D)
       → fewest_blocks ≤ n → n ≤ most_blocks → MakesBy layout n file made → IsTrue (suits G file)

@@ -1,4 +1,4 @@
--- What `copy`, `salvage`, `list` and `export` do of an image that is only read.
+-- What `copy` and `salvage` do of an image that is only read, and `list` and `export` of one, however it was opened.
 use Rattle.std.specs.Prelude.{◌≡◌, ◌⊎◌, ℕ, List, Option}
 use Rattle.sector_disk.specs.declared.device.SectorDevice.{Ghosts}
 use Rattle.terminal.specs.Copying.{MakesCopy}

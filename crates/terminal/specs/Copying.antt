@@ -55,11 +55,11 @@ sectors_for_salvage sectors asked = option_map (sectors_like sectors) (option_an
 abbrev pub standing_by : Taken → (b : ℕ) → Standing
 standing_by taken b = if listed taken.others b then Other else (if listed taken.lost b then Nowhere else Current)
 
--- the line that each salvage tells
+-- the line that each salvage by layout 2 tells
 abbrev pub no_recovery : List ℕ
 no_recovery = codes "salvaged, not recovered: of a save that was under way some blocks may be old and some new" ++ 10 ∷ []
 
--- by layout 3, after those of the damaged blocks
+-- the one by layout 3, after those of the damaged blocks
 abbrev pub pages_no_recovery : List ℕ
 pages_no_recovery = line (codes "salvaged, not recovered") (codes "a damaged block may be older, or written and not saved, or blank")
 
@@ -70,7 +70,7 @@ salvage_told sectors standing = if is_size sectors then no_recovery else damage_
 module _ {A B : Type 0} (G : Ghosts A) (H : Ghosts B) where
   -- `copy`: the image on the source, which an opening takes, was only read, and the other device has become an image of its
   -- blocks, as a recovery would leave them, with blank ones above them. A stop at any moment of it leaves of that one no image,
-  -- or the whole one, or what could be left before.
+  -- or the whole one, or what could be left before, by layout 3 but for the other sectors in the label's unit.
   pub record Copies (source source' : A) (device after : B) : Type 0 where
     pub old : OnlyRead G source source'
     pub sound : IsTrue (G.keeps_model source) → image_refusal (G.sector_count source) (G.disk source).content ≡ None

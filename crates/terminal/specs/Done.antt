@@ -68,7 +68,7 @@ module _ {D : Type 0} (G : Ghosts D) where
     pub reads : ReadsAtMost G device after 1
 
   -- A session from the opening state on: the input was read to its end, and the output is its replies. What a stop may have
-  -- left are blocks as they were saved, and at the end those that were saved last.
+  -- left are blocks as they were saved, and at the end, where no fault has closed the store, those that were saved last.
   pub record RunsFrom (opening : Forth) (left left' written written' : Option (List ℕ)) (old new : D) : Type 0 where
     pub closing : Forth
     pub made : List Save
@@ -77,7 +77,8 @@ module _ {D : Type 0} (G : Ghosts D) where
     pub saved : closing.world.maps.closed ≡ false → LeavesBlocks new closing.world.maps.saved
 
   -- A session from the opening state on, which the reader or the writer cut short. What a stop may have left are blocks as they
-  -- were saved, and at the end those that were saved last: what was changed and not saved is given up.
+  -- were saved, and at the end, where no fault has closed the store, those that were saved last: what was changed and not saved
+  -- is given up.
   pub record BreaksFrom (fault : RunFault) (opening : Forth) (left left' written written' : Option (List ℕ)) (old new : D) : Type 0 where
     pub closing : Forth
     pub made : List Save

@@ -68,11 +68,13 @@ pub record IsUntouched {D : Type 0} (fits : D → Bool) (failure : Failure) (dev
   pub same : after ≡ device
   pub told : MatchBool (fits device) (IsUnmade failure) (failure ≡ BadSize)
 
--- the texts are refused, or can't be had, or the block that the first of them is to fill isn't there
+-- the texts are refused, or can't be had, or there is no memory for what they say, or the block that the first of them is to fill
+-- isn't there
 abbrev pub IsOfTexts : Failure → Type 0
 IsOfTexts failure = (failure ≡ NoBlock) ⊎ ((failure ≡ NotAScreen) ⊎ ((failure ≡ CannotRead) ⊎ (failure ≡ NoMemory)))
 
--- `import --check`: the same, and that a file can't be read is told only where its text wasn't had.
+-- `import --check`: no call of the device was made. Its size doesn't fit, and that is told; else one of these is, and that a file can't
+-- be read only where the text of one wasn't had.
 pub record LooksInVain {D : Type 0} (fits : D → Bool) (unread : Type 0) (failure : Failure) (device after : D) : Type 0 where
   pub same : after ≡ device
   pub told : MatchBool (fits device) (IsOfTexts failure) (failure ≡ BadSize)
@@ -175,7 +177,7 @@ module _ {D : Type 0} (G : Ghosts D) where
       ((before ≢ Device) × (failure ≡ before) × (after ≡ device)) ⊎ ((before ≡ Device) × StandingFails first last failure device after)
 
   -- `list`, `export`: the image was refused, and no call of the device failed; or one failed while it was opened, and then the blocks
-  -- weren't had from where they stand; or it was opened, and then was done what P says.
+  -- weren't printed from where they stand; or it was opened, and then was done what P says.
   abbrev pub FailsToPrint : (first last : ℕ) (P : Failure → (device begun after : D) → Type 0) → Failure → (device after : D) → Type 0
   FailsToPrint first last P failure device after = ((failure ≢ Device) × RefusesImage failure device after)
       ⊎ AfterFault (RefusesImage Device) (StandingFails first last failure) device after ⊎ OpensThen (P failure) device after
@@ -218,7 +220,7 @@ module _ {D : Type 0} (G : Ghosts D) where
     pub begins : BeginsAtMost G begun after 0 0
     pub reads : ReadsAtMost G begun after most
 
-  -- `list`: no block is told just where it isn't there. Else a read failed, or the output.
+  -- `list`: no block is told just where it isn't there, and a fault of the device only where a call of it failed. Else the output failed.
   pub record ListFails (b : ℕ) (failure : Failure) (device begun after : D) : Type 0 where
     pub reads : OnlyReads 2 device begun after
     pub only : (failure ≡ NoBlock) ⊎ (failure ≡ Device) ⊎ (failure ≡ CannotWrite)
@@ -278,7 +280,8 @@ module _ {D : Type 0} (G : Ghosts D) where
   abbrev pub LookingFails : Failure → (device after : D) → Type 0
   LookingFails = ReadingFails IsUntold (λ sectors image. option_map of_image (image_refusal sectors image))
 
-  -- `check`, of a look at an image: of a damaged one of layout 3 each damaged block was told, and else nothing was printed.
+  -- `check`, of a look at an image: of a damaged one of layout 3 each damaged block was told, and else nothing was printed, but where
+  -- the output failed.
   pub record LookFails (written written' : Option (List ℕ)) (failure : Failure) (device after : D) : Type 0 where
     pub looks : LookingFails failure device after
     pub damaged : IsTrue (G.keeps_model device) → layout_by_size (G.sector_count device) ≡ Three → failure ≡ Damaged
@@ -314,12 +317,13 @@ module _ {D : Type 0} (G : Ghosts D) where
   ListShowingFails b failure device after = ((failure ≢ Device) × ReadingFails IsUnprinted (block_refusal b) failure device after)
       ⊎ AfterFault ReadFailed (StandingFails b b failure) device after
 
-  -- `export`: the image is refused, or a block isn't there; or a read failed, but only once the image was found not to be refused.
+  -- `export`: the image is refused, a block isn't there, or they couldn't be printed; or a read failed, but only once the image was found
+  -- not to be refused.
   pub record FoundFails (refusal : (sectors : ℕ) → Image → Option Failure) (failure : Failure) (device after : D) : Type 0 where
     pub reading : ReadingFails IsUnprinted refusal failure device after
     pub found : IsTrue (G.keeps_model device) → failure ≡ Device → image_refusal (G.sector_count device) (G.disk device).content ≡ None
 
-  -- The same, or a read failed before that, and then the blocks from the first to the last weren't had from where they stand.
+  -- The same, or a read failed before that, and then the blocks from the first to the last weren't printed from where they stand.
   abbrev pub ShowingFails : (refusal : (sectors : ℕ) → Image → Option Failure) (first last : ℕ) → Failure → (device after : D) → Type 0
   ShowingFails refusal first last failure device after = FoundFails refusal failure device after
       ⊎ AfterFault ReadFailed (StandingFails first last failure) device after
@@ -412,7 +416,8 @@ module _ {D E : Type 0} (G : Ghosts D) (L : Ghosts E) where
 
 -- ---- of a script, which is read before its image is opened
 
--- A file of the script can't be read, or there was no memory for the files: nothing is left, and nothing was read or printed.
+-- A file of the script can't be read, or there was no memory for what it says: no image was opened, nothing of the input was read, and
+-- nothing was printed.
 pub record NotLed {A B : Type 0} (cannot : Type 0) (left left' written written' : Option (List ℕ)) (failure : Failure) (ends : Left A B) : Type 0 where
   pub unopened : ends ≡ files.Nothing
   pub told : ((failure ≡ CannotRead) × cannot) ⊎ (failure ≡ NoMemory)
@@ -462,7 +467,7 @@ module _ {B : Type 0} (H : Ghosts B) where
 
 module _ {A B : Type 0} (G : Ghosts A) (H : Ghosts B) where
   -- An image of these blocks was made in part: nothing of the old one was written or synced, and a stop at any moment leaves of the
-  -- new one no image, or the whole one, or what could be left before.
+  -- new one no image, or the whole one, or what could be left before, by layout 3 but for the other sectors in the label's unit.
   pub record MakesInPart (blocks : List (List ℕ)) (source source' : A) (device after : B) : Type 0 where
     pub old : OnlyRead G source source'
     pub goes : Becomes H device after

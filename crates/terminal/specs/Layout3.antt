@@ -42,7 +42,8 @@ module _ {D : Type 0} (G : Ghosts D) where
 module _ {A B : Type 0} (G : Ghosts A) (H : Ghosts B) where
   -- `upgrade`: the one device has become an image of layout 3 of the blocks that the image of layout 1 or 2 on the other means.
   -- That one, in which nothing is refused, was synced once and read: it holds what it held, and a stop at any moment of it leaves
-  -- what one before could leave. A stop leaves of the new one no image, or the whole one, or what could be left before.
+  -- what one before could leave. A stop leaves of the new one no image, or the whole one, or what could be left before, but for the
+  -- other sectors in the label's unit.
   pub record UpgradesNewer (source source' : A) (device after : B) : Type 0 where
     pub old : Becomes G source source'
     pub sound : IsTrue (G.keeps_model source)

@@ -57,7 +57,7 @@ module _ {D : Type 0} (G : Ghosts D) where
     pub faultless : script.is_strict ≡ true → (keeps : IsTrue (suits G device)) → AreFaultless (session.runs keeps).completes.turns
 
   -- A session from the opening state on, up to the first line that a fault ended. What a stop may have left are blocks as they
-  -- were saved, and at the end those that were saved last.
+  -- were saved, and at the end, where no fault has closed the store, those that were saved last.
   pub record StopsFrom (opening : Forth) (left left' written written' : Option (List ℕ)) (old new : D) : Type 0 where
     pub closing : Forth
     pub made : List Save

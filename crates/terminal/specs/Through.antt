@@ -21,7 +21,7 @@ use Rattle.terminal.specs.Done.{LeavesBlocks}
 abbrev pub older_owner : (n k : ℕ) → Option ℕ
 older_owner n k = if nat_lt k 3 then None else (if nat_lt k (3 + 2 * n) then Some ((k - 3) / 2) else Some ((k - (3 + 2 * n)) / 2))
 
--- the same by layout 3: one of its two places lies there
+-- the same by layout 3: it is of the page of one of its two places. Label, gate and records, with their pages, are of none.
 abbrev pub newer_owner : (k : ℕ) → Option ℕ
 newer_owner k = if nat_lt k 32 then None else Some ((k - 32) / 16)
 

@@ -42,8 +42,8 @@ enum Target {
     Missing,
 }
 
-/// Tells once, before a session that these words ask for, over what it runs and how it is left. Answers whether they
-/// ask for one whose lines are those of the input.
+/// Tells once, before a session that these words ask for, over what it runs and how it is left: where its lines are
+/// those of the input, and nothing that can be seen keeps its image from being run. Answers whether it told.
 pub(super) fn greet<S: AsStr, E: Write>(
     rt: &(impl Files<File = File> + AllocGlobal),
     words: &[S],
@@ -55,7 +55,8 @@ pub(super) fn greet<S: AsStr, E: Write>(
     }
 }
 
-/// Tells over what an order runs the lines of the input, and how the session is left. Answers whether it runs them.
+/// Tells over what an order runs the lines of the input, and how the session is left. Answers whether it told: it
+/// doesn't where the order runs none of them, or where it can be seen that its image can't be run.
 fn greet_over<E: Write>(rt: &impl Files<File = File>, asked: &Order<'_>, errors: &mut E) -> bool {
     let over = match asked {
         Order::Memory => "32 blocks in memory, which are not kept",

@@ -23,9 +23,11 @@ use journal::sizes::{Layout, sectors_of, size_of};
 use sector_disk::{HostFile, HostFiles, SectorDevice, SectorFile, create_disk, open_disk};
 
 /// Makes an image of the blocks of one, by the same layout, in a new file, and gives both files: of `asked` blocks, or
-/// of as many as the old one has. Nothing is made where the old one has the size of no image, or where it has more
-/// blocks than are asked for (`BadSize`), or where it can't be opened (`CannotOpen`, `InUse`); and whatever has the new
-/// name already stays as it is (`Exists`). Its other failures are those of `copy_over`.
+/// of as many as the old one has. Nothing is made where the old one has the size of no image, or where fewer blocks are
+/// asked for than it has, or more than 3,840 (`BadSize`), or where it can't be opened (`CannotOpen`, `InUse`); and
+/// whatever has the new name already stays as it is (`Exists`). `CannotOpen` or `InUse` come also where the new file
+/// can't be made or finished, with no call of the old one. Its other failures are those of `copy_over`. A new file that
+/// was begun stays at each of these.
 pub fn copy_image<K: HostFile, P: HostFiles<K>, H: HostFile, O: HostFiles<H>>(
     looking: &P,
     files: &O,
@@ -126,7 +128,7 @@ fn sectors_for_copy(sectors: u32, asked: Option<u16>) -> Option<u32>
     }
 }
 
-/// How many sectors an image of so many blocks has, by its layout, where it has so many.
+/// How many sectors an image of so many blocks has, by a layout. None where no number is given.
 pub(super) fn sectors_by(layout: Layout, blocks: Option<u16>) -> Option<u32>
     ensures { result ≡ option_map (sectors_for layout) blocks }
 {
@@ -168,7 +170,8 @@ pub fn copy_over<A: SectorDevice, B: SectorDevice>(old: &mut A, new: &mut B) -> 
     ensures kept { OnlyRead A.SectorDevice old.old old.new }
     // Where the old image is refused, no call of the other device was made.
     ensures unasked { IfErr result (λ e. e ≢ Failure.Device → new.new ≡ new.old) }
-    // Whatever the answer is, a stop leaves of the other device no image, or the whole one, or what could be left before.
+    // Whatever the answer is, a stop leaves of the other device no image, or the whole one, or what could be left before,
+    // by layout 3 but for the other sectors in the label's unit.
     ensures stops { IsTrue (A.keeps_model old.old) → IsTrue (suits B.SectorDevice new.old)
         → StopsLeave B.SectorDevice new.old new.new (MakingLeaves (B.sector_count new.old)
         (copied_blocks (A.sector_count old.old) (B.sector_count new.old) (A.disk old.old).content) (B.disk new.old)) }

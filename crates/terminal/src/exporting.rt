@@ -19,8 +19,8 @@ use std::io::Write;
 use stores::Store;
 
 /// Prints the blocks from `first` to `last`, one after another. Where one of them isn't there, or `last` comes before
-/// `first`, nothing is printed: `NoBlock`. `Device` where a read failed, and `CannotWrite` where the output failed:
-/// then some may be printed.
+/// `first`, nothing is printed: `NoBlock`. `Device` where a read failed, or the store is closed, and `CannotWrite`
+/// where the output failed: then some may be printed.
 pub fn export_blocks<D: SectorDevice, W: Write>(
     store: &mut Store<D>,
     first: u16,

@@ -73,7 +73,8 @@ pub fn export_opened<H: HostFile, K: HostFile, P: HostFiles<K>, W: Write>(
     form: Form,
     output: &mut W,
 ) -> (Left<SectorFile<H>, SectorFile<K>>, Result<(), Failure>)
-    // The image on the file that could be opened for writing was recovered, and exported.
+    // The image on the file that could be opened for writing was recovered, and exported; or a call failed in that, and
+    // its blocks were exported from where they stand.
     ensures exported { IfOk opened (λ disk. OnOk result.1 (DoneOn ⟦<SectorFile<H> as SectorDevice>⟧ Left.Opened (λ device. device ≡ disk)
         (AreExported ⟦<SectorFile<H> as SectorDevice>⟧ form first last (W.contents output.old) (W.contents output.new)) result.0)) }
     ensures unexported { IfOk opened (λ disk. IfErr result.1 (λ failure. DoneOn ⟦<SectorFile<H> as SectorDevice>⟧ Left.Opened

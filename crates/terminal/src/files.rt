@@ -29,8 +29,8 @@ use std::io::{Read, Write};
 use stores::Store;
 
 /// Makes a file that is an image of blank blocks, 32 to 3,840, of layout 2. Its failures: `Exists` where something has
-/// that name already, which stays as it is, `CannotOpen` or `InUse` where the file can't be made, then those of
-/// `make_over`.
+/// that name already, which stays as it is, `CannotOpen` or `InUse` where the file can't be made or finished, then
+/// those of `make_over`. A file that was begun stays at each of these.
 /// Rule: MANUAL, forth83 new IMAGE --blocks N [--layout L].
 pub fn make_image<H: HostFile, O: HostFiles<H>, E>(
     files: &O,
@@ -58,8 +58,8 @@ pub fn make_image<H: HostFile, O: HostFiles<H>, E>(
 }
 
 /// Makes a file that is an image of blank blocks, 32 to 3,840, of layout 3. Its failures: `Exists` where something has
-/// that name already, which stays as it is, `CannotOpen` or `InUse` where the file can't be made, then those of
-/// `make_newer_over`.
+/// that name already, which stays as it is, `CannotOpen` or `InUse` where the file can't be made or finished, then
+/// those of `make_newer_over`. A file that was begun stays at each of these.
 /// Rule: MANUAL, forth83 new IMAGE --blocks N [--layout L].
 pub fn make_newer_image<H: HostFile, O: HostFiles<H>, E>(
     files: &O,
@@ -172,10 +172,10 @@ pub fn put_into_image<H: HostFile, O: HostFiles<H>, B: Read + Drop, Q: TextFiles
     }
 }
 
-/// Makes the blocks that files say those of an image from `first` on, in one save. Each file begins a block. What
-/// keeps one from that is told in lines of `errors`, and then nothing is written to the image, but by its recovery.
-/// Its failures: `CannotOpen` or `InUse` where the image's file can't be opened for reading and writing, then those of
-/// `import_over`.
+/// Makes the blocks that files say those of an image from `first` on, in one save. Each file begins a block. The
+/// refusals of the first file that is refused are told in lines of `errors`; then nothing is written to the image, but
+/// by its recovery. Its failures: `CannotOpen` or `InUse` where the image's file can't be opened for reading and
+/// writing, then those of `import_over`.
 /// Rule: MANUAL, forth83 import IMAGE FIRST FILE .. [--raw] [--check].
 pub fn import_image<H: HostFile, O: HostFiles<H>, B: Read + Drop, Q: TextFiles<B>, W: Write, E>(
     alloc: Global,
@@ -265,9 +265,11 @@ fn check_files<D: SectorDevice, B: Read + Drop, Q: TextFiles<B>, W: Write>(
     Ok(())
 }
 
-/// Makes an image of layout 2, in a new file, of the blocks of one of layout 1, and gives both files. Nothing is made
-/// where the old one has the size of no such image (`BadSize`) or can't be opened (`CannotOpen`, `InUse`), and whatever
-/// has the new name already stays as it is (`Exists`). Then its failures are those of `recovery::upgrade`.
+/// Makes an image of layout 2, in a new file, of the blocks of one of layout 1, which is recovered, and gives both
+/// files. Nothing is made where the old one has the size of no such image (`BadSize`) or can't be opened (`CannotOpen`,
+/// `InUse`), and whatever has the new name already stays as it is (`Exists`). `CannotOpen` or `InUse` come also where
+/// the new file can't be made or finished, with no call of the old one. Then its failures are those of
+/// `recovery::upgrade`. A new file that was begun stays at each of these.
 /// Rule: MANUAL, forth83 upgrade OLD NEW [--layout L]; IMAGE, Layout 1, and an upgrade.
 pub fn upgrade_image<H: HostFile, O: HostFiles<H>, E>(
     files: &O,

@@ -70,7 +70,8 @@ pub fn refusal(found: &[Finding]) -> Result<(), Failure>
 /// What a file says.
 #[derive(Debug, Drop)]
 pub struct Screens {
-    /// The bytes of its blocks. Blanks fill up the last one.
+    /// The bytes that it says: its lines, each filled up with blanks to 64 bytes, or its own bytes. They may end within
+    /// a block.
     pub bytes: Vec<u8>,
     /// What is told of it.
     pub found: Vec<Finding>,

@@ -73,7 +73,8 @@ pub fn make_newer_over<D: SectorDevice>(device: D, blocks: u16) -> Result<Store<
     ensures refusal { IfErr result (λ e. MatchBool (newer_label.is_size_for blocks (D.sector_count device))
         (e.0 ≡ Failure.Device) (e.0 ≡ Failure.BadSize)) }
     ensures device { IfErr result (λ e. e.0 ≡ Failure.Device → D.failures e.1 ≡ count_up (D.failures device)) }
-    // Where it failed, a stop at any moment leaves no image, or the whole one, or what could be left before.
+    // Where it failed, a stop at any moment leaves no image, or the whole one, or what could be left before, but for the
+    // other sectors in the label's unit.
     ensures failed { newer_label.is_size_for blocks (D.sector_count device) ≡ true
         → IfErr result (λ e. NewerMakingFails D.SectorDevice blocks e.0 device e.1) }
 {
@@ -115,8 +116,8 @@ pub fn open_over<D: SectorDevice>(device: D) -> Result<Store<D>, (Failure, D)>
     }
 }
 
-/// Prints a block as the lines of a screen. `NoBlock` where there is no such block; `Device` where a read failed, and
-/// then nothing is printed; `CannotWrite` where the output failed.
+/// Prints a block as the lines of a screen. `NoBlock` where there is no such block, and `Device` where a read failed,
+/// or the store is closed: then nothing is printed. `CannotWrite` where the output failed.
 /// Rule: MANUAL, forth83 list IMAGE BLOCK.
 pub fn list_block<D: SectorDevice, W: Write>(
     store: &mut Store<D>,

@@ -29,9 +29,9 @@ use stores::Store;
 /// The bytes of the longest text for an image: 61,440 lines of 64 bytes, a carriage return and a line feed.
 pub(super) const MOST_BYTES: usize = 4_055_040;
 
-/// Makes the blocks that files say those of a store from `first` on, in one save. Each file begins a block. What
-/// keeps one from that is told in lines of `errors`, and then nothing is written. Its failures: those of
-/// `read_blocks`, and `Device` where a call of the device failed, or the store is closed.
+/// Makes the blocks that files say those of a store from `first` on, in one save. Each file begins a block. The
+/// refusals of the first file that is refused are told in lines of `errors`. Its failures: those of `read_blocks`, at
+/// which nothing is written, and then `Device` where a call of the device failed, or the store is closed.
 pub fn import_files<D: SectorDevice, B: Read + Drop, Q: TextFiles<B>, E: Write>(
     alloc: Global,
     texts: &Q,
@@ -73,9 +73,10 @@ pub fn import_files<D: SectorDevice, B: Read + Drop, Q: TextFiles<B>, E: Write>(
 }
 
 /// The bytes of the blocks that files say, each file from the beginning of one on, where there are blocks for them
-/// from `first` on, of `blocks` in all. The refusals of the first file that is refused are told in lines of `errors`,
-/// and with `all` whatever else is told of each. Its failures: `NoBlock` where `first` isn't there, `CannotRead`
-/// where a file can't be read, `NoMemory`, then that of the first refusal: `NotAScreen` or `NoBlock`.
+/// from `first` on, of `blocks` in all. The files are read one after another, up to the first of which a failure comes.
+/// The refusals of one that is refused are told in lines of `errors`, and with `all` whatever else is told of each. Its
+/// failures: `NoBlock` where `first` isn't there; then of each file in turn `CannotRead` where it can't be read,
+/// `NoMemory`, and that of its first refusal: `NotAScreen` or `NoBlock`.
 pub fn read_blocks<B: Read + Drop, Q: TextFiles<B>, E: Write>(
     alloc: Global,
     texts: &Q,
@@ -177,8 +178,8 @@ fn add_in_blocks(bytes: &mut Vec<u8>, said: &[u8]) -> Result<(), AllocError>
     add_more_blanks(bytes, (BLOCK - said.len() % BLOCK) % BLOCK)
 }
 
-/// The bytes that the text of a name says, where nothing of it is refused. Else its refusals are told, and with `all`
-/// whatever is told of it.
+/// The bytes that the text of a name says, where nothing of it is refused. Its refusals are told, and with `all`
+/// whatever is told of it, also where nothing is refused.
 fn read_file<B: Read + Drop, Q: TextFiles<B>, E: Write>(
     alloc: Global,
     texts: &Q,
@@ -227,8 +228,8 @@ fn read_said<R: Read, E: Write>(
     Ok(bytes)
 }
 
-/// The bytes that a file says, where nothing of it is refused. Else its refusals are told, and with `all` whatever is
-/// told of it.
+/// The bytes that a file says, where nothing of it is refused. Its refusals are told, and with `all` whatever is told
+/// of it, also where nothing is refused.
 fn take_said<E: Write>(
     alloc: Global,
     room: u16,

@@ -9,9 +9,10 @@ use super::texts::TextFiles;
 use sector_disk::{HostFile, HostFiles, SectorDevice, SectorFile};
 use std::io::Read;
 
-/// Does nothing. Its contract is a law: what one command has left of an image is what the next one opens, whether it
-/// ended or was stopped at some moment; so of two in a row, and of a chain of them. What was read of named files are
-/// texts of any system.
+/// Does nothing. Its contract is a law: what one command has left of an image is what the next one opens, if that is
+/// found again, whether it ended or was stopped at some moment; so of two in a row, and of a chain of them. Of a `run`
+/// that ended it is so where no fault closed its store, and of a stop in a recovery where one before it left the
+/// image's blocks. What was read of named files are texts of any system.
 pub fn again<D: SectorDevice, B: Read, Q: TextFiles<B>>()
     ensures stopped { StoppedIsFound D.SectorDevice }
     ensures ended { EndedIsFound D.SectorDevice }
@@ -34,7 +35,7 @@ pub fn again<D: SectorDevice, B: Read, Q: TextFiles<B>>()
 
 /// Does nothing. Its contract is a law: of what `command_over` says of `put`, or of `run`, and of a later `run` on the
 /// file of that name, over any system of files that gives the file again, the later one is over the blocks that the
-/// first one left.
+/// first one left: those with the text of `put`, or those that `run` saved last, where no fault closed its store.
 pub fn over_files<H: HostFile, O: HostFiles<H>, B: Read, Q: TextFiles<B>>()
     ensures put_then_run { (files later : O) (texts later_texts : Q) (path : List ℕ) → PutThenRunOn ⟦<SectorFile<H> as SectorDevice>⟧
         (IsOpened H.HostFile (O.opens files path)) (IsOpened H.HostFile (O.opens later path))

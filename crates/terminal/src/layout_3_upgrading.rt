@@ -25,7 +25,9 @@ use shadow::upgrade;
 
 /// Makes an image of layout 3, in a new file, of the blocks of one of layout 1 or 2, and gives both files. Nothing is
 /// made where the old one has the size of no image (`BadSize`) or can't be opened (`CannotOpen`, `InUse`), and whatever
-/// has the new name already stays as it is (`Exists`). Then its failures are those of `upgrade_over`.
+/// has the new name already stays as it is (`Exists`). `CannotOpen` or `InUse` come also where the new file can't be
+/// made or finished, with no call of the old one. Then its failures are those of `upgrade_over`. A new file that was
+/// begun stays at each of these.
 /// Rule: MANUAL, forth83 upgrade OLD NEW [--layout L]; IMAGE, Layout 3, An upgrade.
 pub fn upgrade_to_newer<H: HostFile, O: HostFiles<H>, E>(
     files: &O,
@@ -100,7 +102,8 @@ pub fn upgrade_over<A: SectorDevice, B: SectorDevice>(
         → StopsLeave A.SectorDevice old.old old.new (MayLeave (A.disk old.old)) }
     // Where the old image is refused, no call of the other device was made.
     ensures unasked { IfErr result (λ e. e ≢ Failure.Device → new.new ≡ new.old) }
-    // Whatever the answer is, a stop leaves of the other device no image, or the whole one, or what could be left before.
+    // Whatever the answer is, a stop leaves of the other device no image, or the whole one, or what could be left before,
+    // but for the other sectors in the label's unit.
     ensures failed { B.sector_count new.old ≡ sectors_for (blocks_on A.SectorDevice old.old)
         → IfErr result (λ failure. NewerUpgradeFails A.SectorDevice B.SectorDevice failure old.old old.new new.old new.new) }
     ensures newer_stops { IsTrue (A.keeps_model old.old) → IsTrue (B.keeps_model new.old) → (n : ℕ)

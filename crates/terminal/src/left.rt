@@ -9,14 +9,14 @@ pub enum Left<D, E> {
     Nothing,
     /// An image was opened for writing too.
     Opened(D),
-    /// An image was made.
+    /// A file was made for an image, which it may not hold where the command failed.
     Made(D),
-    /// An image was opened for writing too, and another one was made of it.
+    /// An image was opened for writing too, and a file was made for another one of its blocks, as by `Made`.
     Upgraded(D, D),
     /// An image was opened for reading alone.
     Looked(E),
     /// Two images were opened for reading alone.
     Compared(E, E),
-    /// An image was opened for reading alone, and another one was made of it.
+    /// An image was opened for reading alone, and a file was made for another one of its blocks, as by `Made`.
     Copied(E, D),
 }

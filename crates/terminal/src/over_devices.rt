@@ -123,8 +123,8 @@ pub fn export_over<D: SectorDevice, W: Write>(
 
 /// Makes the lines of a text file a block of the image on a device, in one save. Its failures: those of `open_over`,
 /// `NoBlock` where there is no such block, `CannotRead` where the text can't be read, `NoMemory`, `NotAScreen` where it
-/// has more than 16 lines or one of more than 64 bytes, and `Device` where the save failed: any other one wrote
-/// nothing.
+/// has more than 16 lines or one of more than 64 bytes, and `Device` where the save failed: at any other one nothing is
+/// written, but by the recovery.
 /// Rule: MANUAL, forth83 put IMAGE BLOCK FILE.
 pub fn put_over<D: SectorDevice, B: Read + Drop, Q: TextFiles<B>>(
     texts: &Q,
@@ -148,8 +148,8 @@ pub fn put_over<D: SectorDevice, B: Read + Drop, Q: TextFiles<B>>(
 }
 
 /// Makes the blocks that files say those of the image on a device from `first` on, in one save. Each file begins a
-/// block. What keeps one from that is told in lines of `errors`, and then nothing is written, but by its recovery. Its
-/// failures: those of `open_over`, then those of `import_files`.
+/// block. The refusals of the first file that is refused are told in lines of `errors`; then nothing is written, but by
+/// its recovery. Its failures: those of `open_over`, then those of `import_files`.
 /// Rule: MANUAL, forth83 import IMAGE FIRST FILE .. [--raw] [--check].
 pub fn import_over<D: SectorDevice, B: Read + Drop, Q: TextFiles<B>, E: Write>(
     alloc: Global,

@@ -61,10 +61,10 @@ const STEPS: u32 = 1_000_000;
 const BLOCKS: u16 = 32;
 
 /// Does what the words ask for, of which the first is the name of the program, and answers the exit status: 0, 1
-/// where a strict session stopped, 2 where the words are no command, 3 for a fault of the image, 4 where the input
-/// can't be read or the output can't be written, 5 where there is no memory. A fault is told in one line of `errors`.
-/// An image is run by a system `F`, blocks in memory by one `M`. Input is read byte by byte and a reply is written
-/// piece by piece, so both should be buffered.
+/// where a strict session stopped, 2 where the words are no command, 3 for a fault of the image, 4 where the input or a
+/// text can't be read, a text isn't a screen, or the output can't be written, 5 where there is no memory. Each of these
+/// but 0 is told in `errors`: 2 in some lines, any other in the last one. An image is run by a system `F`, blocks in
+/// memory by one `M`. Input is read byte by byte and a reply is written piece by piece, so both should be buffered.
 pub fn command<F: Lines<FileDisk>, M: Lines<MemoryDisk>, S: AsStr, R: Input, W: Write, E: Write>(
     rt: &(impl Files<File = File> + AllocGlobal),
     words: &[S],
@@ -447,7 +447,7 @@ fn run_in_memory<M: Lines<MemoryDisk>, R: Read, W: Write, T: Tracer>(
     }
 }
 
-/// Runs the input over a store, and gives the store back: what was changed and not saved is given up.
+/// Runs the input over a store, and gives the store back: what was changed and not saved stays unsaved.
 pub(crate) fn run_session<D: SectorDevice + Drop, F: Lines<D>, R: Read, W: Write, T: Tracer>(
     alloc: Global,
     store: Store<D>,

@@ -41,7 +41,9 @@ const NO_RECOVERY: &str =
 /// Makes an image of what can be had of a damaged one, by the same layout, in a new file, tells that this is no
 /// recovery, and gives both files. Nothing is made where the old one has the size of no image, or of one of another
 /// number of blocks than is asked for (`BadSize`), or where it can't be opened (`CannotOpen`, `InUse`); and whatever
-/// has the new name already stays as it is (`Exists`). Its other failures are those of `salvage_through`.
+/// has the new name already stays as it is (`Exists`). `CannotOpen` or `InUse` come also where the new file can't be
+/// made or finished, with no call of the old one. Its other failures are those of `salvage_through`. A new file that
+/// was begun stays at each of these.
 pub fn salvage_image<K: HostFile, P: HostFiles<K>, H: HostFile, O: HostFiles<H>, W: Write>(
     alloc: Global,
     looking: &P,

@@ -18,7 +18,8 @@ use std::io::Write;
 /// Makes an image of what can be had of the one on another device, as `salvage_over`, after each sector of that one was
 /// read once. Where all could be read that is `salvage_over` itself. Else it is one of what was had, which lies in
 /// memory: blanks stand for each sector that couldn't be read, and these are told after all else. Its failures are
-/// those of `salvage_over`, and `NoMemory` where there is none for what is read, by each layout.
+/// those of `salvage_over`, and `NoMemory` where there is none for what is read, or for the lines of these sectors, by
+/// each layout, with no call of the new device.
 /// Rule: MANUAL, forth83 salvage OLD NEW [--blocks N]; IMAGE, A sector that can't be read.
 pub fn salvage_through<A: SectorDevice, B: SectorDevice, W: Write>(
     alloc: Global,

@@ -34,8 +34,8 @@ use stores::Store;
 /// Runs lines over an image, with at most `steps` steps a line, 1 or more: those of the files of the script, or of the
 /// input where it has none; before them its block is loaded. A fault ends the session only where the script is strict.
 /// Its failures, where no session begins: `CannotRead` where a file can't be read or has more bytes than the text of an
-/// image may have, and `NoMemory`, where nothing was opened, read or printed; then `CannotOpen` or `InUse` where the
-/// image's file can't be opened for reading and writing, and those of `run_over`.
+/// image may have, and `NoMemory`, where no image was opened, nothing of the input read, and nothing printed; then
+/// `CannotOpen` or `InUse` where the image's file can't be opened for reading and writing, and those of `run_over`.
 /// Rule: MANUAL, forth83 run IMAGE [FILE ..].
 pub fn run_image<
     H: HostFile,
@@ -119,8 +119,8 @@ fn run_led<H: HostFile, O: HostFiles<H>, F: Lines<SectorFile<H>>, R: Input, W: W
     }
 }
 
-/// Runs the input over a store, strictly or not, and gives the store back: what was changed and not saved is given up.
-/// Its failure is `NoMemory`, where no session begins.
+/// Runs the input over a store, strictly or not, and gives the store back: what was changed and not saved stays
+/// unsaved. Its failure is `NoMemory`, where no session begins.
 pub(super) fn run_until_end<D: SectorDevice, F: Lines<D>, R: Read, W: Write, T: Tracer>(
     alloc: Global,
     store: Store<D>,

@@ -58,7 +58,8 @@ pub fn list_opened<H: HostFile, K: HostFile, P: HostFiles<K>, W: Write>(
     block: u16,
     output: &mut W,
 ) -> (Left<SectorFile<H>, SectorFile<K>>, Result<(), Failure>)
-    // The image on the file that could be opened for writing was recovered, and listed.
+    // The image on the file that could be opened for writing was recovered, and listed; or a call failed in that, and
+    // the block was listed from where it stands.
     ensures listed { IfOk opened (λ disk. OnOk result.1 (DoneOn ⟦<SectorFile<H> as SectorDevice>⟧ Left.Opened (λ device. device ≡ disk)
         (IsListed ⟦<SectorFile<H> as SectorDevice>⟧ block (W.contents output.old) (W.contents output.new)) result.0)) }
     ensures unlisted { IfOk opened (λ disk. IfErr result.1 (λ failure. DoneOn ⟦<SectorFile<H> as SectorDevice>⟧ Left.Opened
@@ -168,7 +169,7 @@ pub fn show_over<D: SectorDevice, W: Write>(
         ⊎ (block_refusal block (D.sector_count device.old) (D.disk device.old).content ≡ Some e)) }
     ensures bad_size { IfErr result (λ e. MatchBool (is_known_size (D.sector_count device.old))
         (e ≢ Failure.BadSize) (e ≡ Failure.BadSize)) }
-    // No block is told just where it isn't there.
+    // No block is told only where it isn't there, and one is printed only where it is.
     ensures no_block { IfErr result (λ e. e ≡ Failure.NoBlock → known_blocks (D.sector_count device.old) ≤ block) }
     ensures there { OnOk result (block < known_blocks (D.sector_count device.old)) }
     // A fault of the device is told just where one of its calls failed.

@@ -49,7 +49,7 @@ pub fn start<
 }
 
 /// Calls the program, with a buffer on each of both streams: so a piece of the input is one read, and a reply one
-/// write. The numbers of closed streams are taken all the while.
+/// write, as long as it fits the buffer. The numbers of closed streams are taken all the while.
 fn call_program<
     F: Lines<FileDisk>,
     M: Lines<MemoryDisk>,

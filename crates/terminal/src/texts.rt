@@ -1,4 +1,4 @@
-//! The texts of a system, by their names: each is opened to be read to its end.
+//! The texts of a system, by their names: each is opened to be read from its beginning.
 //! Rule: MANUAL, Commands; PROGRAM, Exit status and messages.
 ghost use Rattle.std.specs.Prelude.{◌≡◌, ◌≢◌, ◌⊎◌, ℕ, List, IfOk, IfErr};
 
@@ -25,7 +25,7 @@ pub trait TextFiles<B: Read> {
     ghost refuses: { Self → List ℕ → Type 0 };
 
     /// Opens a text, to be read from its beginning. It is read byte by byte, so the reader should be buffered. `Cannot`
-    /// where the system refuses.
+    /// where the system refuses, and `NoMemory` where there is none for the reader.
     fn open(&self, path: &str) -> Result<B, TextFault>
         ensures opens { IfOk result (λ reader. opens self.now path.now reader) }
         ensures refuses { IfErr result (λ fault. fault ≡ TextFault.Cannot → refuses self.now path.now) };

@@ -18,7 +18,8 @@ abbrev pub or_blank : Option (List ℕ) → List ℕ
 or_blank None = replicate 1024 32
 or_blank (Some bytes) = bytes
 
--- the part of a block that stands in the first place's sector of this number: a half, or no bytes that tell anything but the tag
+-- what stands in the sector of this number of a block's sixteen: its halves in the first two, and else zeros, for tags too, since what
+-- an image means doesn't hang on them
 abbrev pub in_place : ℕ → List ℕ → List ℕ
 in_place i bytes = if i == 0 then take 512 bytes else (if i == 1 then drop 512 bytes else replicate 512 0)
 

@@ -67,7 +67,7 @@ old_blocks = replicate 20 32
 abbrev pub new_blocks : List ℕ
 new_blocks = replicate 4 32 ++ replicate 4 65 ++ replicate 4 66 ++ replicate 8 32
 
--- the second places of both blocks: their halves, and their tags
+-- where the first place and the second one of each of both blocks begin: they are spilled to the second ones, halves and tag
 places : place_at 1 false ∷ place_at 1 true ∷ place_at 2 false ∷ place_at 2 true ∷ [] ≡ 48 ∷ 56 ∷ 64 ∷ 72 ∷ []
 places = refl
 

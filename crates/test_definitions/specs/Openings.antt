@@ -15,7 +15,7 @@ label_with version n = codes "F83BLOCK" ++ version ∷ 0 ∷ n ∷ 0 ∷ replica
 good_labels : refusal 131 (label_with 2 32) ∷ refusal 135 (label_with 2 33) ∷ refusal 15363 (codes "F83BLOCK" ++ 2 ∷ 0 ∷ 0 ∷ 15 ∷ replicate 500 0) ∷ [] ≡ replicate 3 None
 good_labels = refl
 
--- 131 sectors cut to 130, 31 blocks, and 3,841
+-- no sector, 131 cut to 130, one more than 131, those of 31 blocks, and of 3,841
 bad_sizes : map (λ sectors. refusal sectors (label_with 2 32)) (0 ∷ 130 ∷ 132 ∷ 127 ∷ 15367 ∷ []) ≡ replicate 5 (Some BadSize)
 bad_sizes = refl
 
