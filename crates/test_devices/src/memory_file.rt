@@ -28,7 +28,7 @@ pub struct MemoryFile {
 pub struct Script {
     /// How many bytes a call moves at most.
     pub most: usize,
-    /// Each so many-th call is interrupted. 0 is none.
+    /// A call is interrupted where this divides its number, counted from 0: so the first one is. 0 is none.
     pub interrupted: u64,
     /// After so many calls, the next one fails.
     pub fails_after: u64,

@@ -14,7 +14,7 @@ use sector_disk::{Counts, DeviceFault, MemoryDisk, NoMemory, SectorDevice, count
 use std::alloc::Global;
 
 /// A disk in memory that keeps a copy of itself from before each call, so that what a stop at any moment of its
-/// life might have left can still be told. A call fails where there is no memory for the copy, and changes nothing.
+/// life might have left can still be told. A call fails where there is no memory for the copy, and leaves the disk as it was.
 /// Rule: IMAGE, The device; SEMANTICS, From the definitions to the code.
 #[derive(Drop)]
 pub struct Recorded {

@@ -23,7 +23,7 @@ impl<D: SectorDevice> Tearing<D> {
     ghost use Rattle.test_devices.specs.Tearing.{torn_device_of, tears_at, torn_bytes};
 
     /// Fails the `k`-th call of a read, a write or a sync, counted from 1. A write that is failed leaves the bytes
-    /// `torn` in its sector.
+    /// `torn` in its sector, unless the device fails it as well.
     pub fn once(device: D, k: u64, torn: [u8; 512]) -> Self
         requires { 1 ≤ k }
         ensures device { torn_device_of result ≡ device }

@@ -133,7 +133,7 @@ len | 132";
     follow_new(&rt, rt.alloc(), text)
 }
 
-/// `: MACRO COMPILE DUP ;` adds to a definition while it runs.
+/// `: MACRO COMPILE DUP 1 ;` adds to a definition while it runs.
 #[test]
 fn a_running_body_adds_to_a_definition(rt: HostRuntime) -> Result<(), Fail> {
     let text = "begin [MACRO]
@@ -154,7 +154,8 @@ pop | 4";
     follow_new(&rt, rt.alloc(), text)
 }
 
-/// A word that asks for `FORGET` can have newer words forgotten, and not itself or an older one.
+/// While a word that asks for `FORGET` runs, a word can be forgotten only where it is newer than all that run: not the one that asks, nor the
+/// one that called it, nor an older one.
 #[test]
 fn what_runs_is_not_forgotten(rt: HostRuntime) -> Result<(), Fail> {
     let text = "create [OLD]

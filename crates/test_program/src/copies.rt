@@ -102,8 +102,8 @@ fn copyings_are_stopped(
     Ok(())
 }
 
-/// Of the homes of both blocks and of the gate one sector can't be read. What is left of the image is salvaged all the same, and the sector is told; a check
-/// tells it too.
+/// One sector can't be read: the gate, the record, or one of a home or of a slot. What is left of the image is salvaged all the same, and the sector is
+/// told; a check that reads it tells it too.
 #[test]
 fn images_with_a_sector_that_cannot_be_read(rt: HostRuntime) -> Result<(), Fail> {
     let old = Disk::new(&rt)?;

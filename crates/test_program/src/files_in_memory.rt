@@ -10,10 +10,10 @@ use std::test::Fail;
 use terminal::MemoryTexts;
 use test_devices::{MemoryFile, MemoryFiles, Script};
 
-/// How many sectors an image of 32 blocks has.
+/// How many sectors an image of 32 blocks has by layout 2.
 const SECTORS: u32 = 131;
 
-/// Each call moves all that it is asked for.
+/// Each call moves all that it is asked for, up to the end of a sector.
 const WHOLE: Script = Script {
     most: usize::MAX,
     interrupted: 0,

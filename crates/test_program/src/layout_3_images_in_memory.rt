@@ -147,8 +147,8 @@ fn check_copies(
     Ok(())
 }
 
-/// Of 32 blocks label, gate, record and three sectors each are read, two for the digest, and the gate once more. Each sixth of these reads fails, and the last:
-/// that alone is told.
+/// Of 32 blocks label, gate, record and three sectors each are read, two for the digest, and the gate once more. From each sixth of these reads on all
+/// fail, and from the last: that is told, and each sector as one that can't be read.
 #[test]
 fn checks_whose_reads_fail(rt: HostRuntime) -> Result<(), Fail> {
     let disk = with_sevens(&rt)?;
@@ -220,7 +220,8 @@ fn check_fault(rt: &impl Abort, left: &Left, k: u64) {
     );
 }
 
-/// One sector can't be read. A check tells it with the block that it is of, and a salvage passes it over: it takes the other place of the block.
+/// One sector can't be read. A check that reads it tells it, with the block that it is of; a salvage passes it over, and takes the other place of a block
+/// that doesn't fit its tag without it.
 #[test]
 fn images_of_layout_3_with_a_sector_that_cannot_be_read(rt: HostRuntime) -> Result<(), Fail> {
     let old = with_sevens(&rt)?;

@@ -43,7 +43,7 @@ fn a_reader_that_is_led(rt: HostRuntime) -> Result<(), Fail> {
     Ok(())
 }
 
-/// Calls the program, and compares what it told and what it left of the input.
+/// Calls the program, and compares its status, what it printed and what it left of the input.
 fn check_left(
     rt: &(impl Files<File = File> + AllocGlobal + Abort),
     words: &[&str],

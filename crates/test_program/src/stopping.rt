@@ -10,7 +10,7 @@ use std::process::Abort;
 use std::rt::Files;
 use std::test::Fail;
 
-/// The bytes of an image of 32 blocks.
+/// The bytes of an image of 32 blocks by layout 2.
 pub(crate) const LENGTH: usize = 67_072;
 
 /// The call that makes the name of such a file stay, counted from 0: two writes of zeros and a sync come before it.
@@ -328,8 +328,8 @@ fn is_whole(rt: &(impl Files<File = File> + AllocGlobal), files: &OneDisk<'_>) -
     left.output.as_slice() == BLANK.as_bytes() || left.output.as_slice() == SEVENS.as_bytes()
 }
 
-/// A session that saves two blocks is stopped at each call, with each fate, and the start after it is stopped too: both blocks are as before, or
-/// both as saved.
+/// A session that saves two blocks is stopped at each call, with each fate, and with one of them the start after it is stopped too: both blocks are as
+/// before, or both as saved.
 #[test]
 fn sessions_that_are_stopped(rt: HostRuntime) -> Result<(), Fail> {
     let (input, _) = transcript(&rt, SAVED)?;

@@ -13,7 +13,7 @@ use std::rt::Files;
 use std::test::Fail;
 use test_devices::{MemoryFile, Script};
 
-/// How many sectors an image of 32 blocks has.
+/// How many sectors an image of 32 blocks has by layout 2.
 const SECTORS: u32 = 131;
 
 /// What the calls of a system's files do, and how many there were.
@@ -673,7 +673,7 @@ fn listings_that_are_refused(rt: HostRuntime) -> Result<(), Fail> {
     let left = call_over_both(&rt, &in_use, &files, &["forth83", "list", "A", "1"], b"");
     assert_same!(rt; (left.status, calls.openings.get()), (0, 1));
     assert!(rt; left.errors.is_empty());
-    // In use where it is opened for reading too.
+    // It may not be written, and is in use where it is opened for reading.
     let left = call_over_both(
         &rt,
         &for_reading(&files),

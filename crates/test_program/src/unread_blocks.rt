@@ -139,8 +139,7 @@ fn words<'a>(range: &[&'a str; 2], form: &'a str) -> [&'a str; 6] {
     ["forth83", "export", form, "A", first, last]
 }
 
-/// Where a block isn't there the fault of the opening is told, as before, with no more reads; so it is of an image of which all calls fail, and where a block
-/// doesn't fit its tag.
+/// Where a block isn't there the fault of the opening is told, as before, with no more reads; and it is told where a block doesn't fit its tag.
 #[test]
 fn what_is_not_had_is_told_as_the_fault(rt: HostRuntime) -> Result<(), Fail> {
     let disk = with_sevens(&rt)?;

@@ -10,7 +10,8 @@ use test_stops::report::Report;
 use test_stops::scenario::Scenario;
 use test_stops::trials::Calls;
 
-/// Gives a byte at each second call and is interrupted at the others. Where the bytes end, it ends or fails.
+/// Gives at each second call as many bytes as it asks for, which is one in a session, and is interrupted at the others. Where the bytes end, it
+/// ends or fails.
 #[derive(Drop)]
 struct Trickle<'a> {
     bytes: &'a [u8],

@@ -53,7 +53,7 @@ pub fn put<D: SectorDevice>(disk: &mut D, k: u32, bytes: &[u8; 512]) -> Result<(
     disk.write(k, bytes).map_err(|_| "write failed")
 }
 
-/// A block's bytes.
+/// A block's bytes, or an error where there is no such block or it can't be read.
 pub fn block<D: SectorDevice>(store: &mut Store<D>, b: u16) -> Result<[u8; 1024], Fail> {
     let mut bytes = [0; 1024];
     if b >= store.blocks() {
@@ -63,7 +63,7 @@ pub fn block<D: SectorDevice>(store: &mut Store<D>, b: u16) -> Result<[u8; 1024]
     Ok(bytes)
 }
 
-/// Spills a block that is full of this byte.
+/// Spills a block that is full of this byte, or gives an error where there is no such block or it can't be spilled.
 pub fn spill<D: SectorDevice>(store: &mut Store<D>, b: u16, byte: u8) -> Result<(), &'static str> {
     if b >= store.blocks() {
         return Err("no such block");
@@ -71,7 +71,8 @@ pub fn spill<D: SectorDevice>(store: &mut Store<D>, b: u16, byte: u8) -> Result<
     store.spill(b, &[byte; 1024]).map_err(|_| "spill failed")
 }
 
-/// A disk of zeros with as many sectors as an image of so many blocks has by this layout.
+/// A disk of zeros with as many sectors as an image of so many blocks has by this layout. An error past 3,840 blocks, and where
+/// there is no memory.
 pub fn zeros(rt: &HostRuntime, layout: Layout, blocks: u16) -> Result<MemoryDisk, Fail>
     ensures older { layout ≡ Layout.Older → IfOk result (λ d. size d ≡ 3 + 4 * blocks) }
     ensures newer { layout ≡ Layout.Newer → IfOk result (λ d. size d ≡ sectors_for blocks) }

@@ -9,7 +9,7 @@ use sector_disk::{Fate, MemoryDisk, SectorDevice};
 use std::alloc::{AllocError, Global};
 use std::test::Fail;
 
-/// A sector that is written and not synced: what it held at the last sync, and what it holds.
+/// A sector that is unsynced, by a write of it or of another one of its unit: what it held at the last sync, and what it holds.
 #[derive(Clone, Copy)]
 pub struct Unsynced {
     /// Its number.
@@ -22,7 +22,7 @@ pub struct Unsynced {
     pub new: [u8; 512],
 }
 
-// Bytes that no test writes.
+// Bytes that no call writes. A write that fails, and is torn with the `wild` bytes of `trials.rt`, leaves the same.
 const MARK: [u8; 512] = [0xee; 512];
 
 /// The unsynced sectors, in rising order: those in which a stop may leave a mark.

@@ -29,7 +29,7 @@ pub struct Scenario<'a> {
 
 impl<'a> Scenario<'a> {
     /// A part is its title, a line as `over store, 32 blocks` (of layout 2) or `over store of layout 3, 32 blocks, units of 8`, the
-    /// calls before, a line `--`, the calls, a line `----` and the trials.
+    /// calls before and a line `--` (or neither), the calls, a line `----` and the trials.
     pub fn parse(text: &'a str) -> Option<Self> {
         let (title, rest) = text.split_once("\n")?;
         let (over, rest) = rest.split_once("\n")?;

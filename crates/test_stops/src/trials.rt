@@ -42,7 +42,7 @@ pub struct Base<'a> {
     pub before: Counts,
     /// The most stops before one call.
     pub most: usize,
-    /// Images with an open gate that stops leave, each once.
+    /// Images with an open gate that stops leave, each once; and what stops of their recoveries leave, once these were tried.
     pub images: Vec<Calls<'static>>,
 }
 
@@ -227,7 +227,7 @@ fn compare_row(
 /// Tries what a line says.
 ///
 /// `calls 29` and `writes 67, syncs 4` are what the calls make of the device, `most 243` the most stops before one call so far, and
-/// `images 81` how many images with an open gate these left.
+/// `images 81` how many images with an open gate these left, with those that a `recover` before the line has added.
 ///
 /// `stop 1..9, saved blank, left blank | 1A` stops before each of these calls: so much the calls have told to be saved, and this is
 /// what is left, all of it and no more. `tear wild gate 1..9` fails each of these calls, where a write leaves other bytes, and stops
@@ -363,7 +363,7 @@ fn stop(
     Ok(())
 }
 
-// What a stop left of an image. It is kept where its opening has something to do.
+// What a stop left of an image. After a call that failed with all after it, the image is kept where its opening has something to do.
 fn keep_image(
     alloc: Global,
     base: &mut Base,

@@ -88,7 +88,8 @@ fn check(rt: &(impl Abort + AllocGlobal), word: u16, event: Event) -> Result<(),
     Ok(())
 }
 
-// the tokens, first and last, of the words that others do: terminal, numbers, texts, dictionary, compiler, blocks
+// the tokens, first and last, of the words that others do: terminal, numbers, texts, dictionary, compiler, blocks, and some that are
+// no system words
 const SERVICES: [(u16, u16); 15] = [
     (37, 37),
     (59, 73),

@@ -7,10 +7,10 @@ use std::fs::Permissions;
 use std::os::unix::fs::{MetadataExt, PermissionsExt, symlink};
 use std::test::Fail;
 
-/// How many sectors an image of 32 blocks has.
+/// How many sectors an image of 32 blocks has by layout 2.
 const SECTORS: u32 = 131;
 
-/// How many sectors an image of 3,840 blocks has, the largest.
+/// How many sectors an image of 3,840 blocks has by layout 2, the largest.
 const MOST_SECTORS: u32 = 15_363;
 
 #[test]
@@ -69,7 +69,7 @@ fn a_file_has_the_rights_of_another(rt: HostRuntime) -> Result<(), Fail> {
     Ok(())
 }
 
-/// Each sector of the largest image stands at its place, and the whole file has its room from the beginning.
+/// Each sector of the largest image of layout 2 stands at its place, and the whole file has its room from the beginning.
 #[test]
 fn the_largest_image_has_each_sector_at_its_place(rt: HostRuntime) -> Result<(), Fail> {
     let folder = "files_places";

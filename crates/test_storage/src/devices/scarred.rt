@@ -6,7 +6,7 @@ use sector_disk::{HostFault, HostFile, MemoryDisk, SectorDevice};
 /// No sector, among those that can't be read.
 pub(crate) const NONE: u32 = u32::MAX;
 
-/// A file of which each read of some sectors fails. Nothing is known of what it holds, and nothing is written to it.
+/// A file of which each read of some sectors fails, and each write and each sync. Nothing is known of what it holds.
 #[derive(Drop)]
 pub(crate) struct Scarred {
     disk: MemoryDisk,

@@ -318,7 +318,7 @@ fn by_layout_2_an_open_gate_that_comes_back_is_harmless_or_told(
 }
 
 // By layout 3 a gate that comes back takes a save away, and a record two, where each of their blocks still stands in the place that it had. The record is told
-// then: it is what stands there where the disk lost its write. Any place that comes back is told.
+// then: it is what stands there where the disk lost its write. A place that counts is told where it comes back.
 #[test]
 fn by_layout_3_a_gate_that_comes_back_is_not_told_and_a_record_is(
     rt: HostRuntime,
@@ -372,7 +372,7 @@ fn by_layout_3_a_gate_over_a_later_spill_is_told(rt: HostRuntime) -> Result<(), 
 }
 
 // A gate of which so many bytes were written when a stop came, over the one before. With four of them it is nearer to an open one, and names the new record: it
-// has this record's sum once all 40 are there, and before the old one's.
+// has this record's sum once all 40 are there, and before that the old one's, or a part of each.
 #[test]
 fn by_layout_3_a_gate_that_was_half_written_is_told(rt: HostRuntime) -> Result<(), Fail> {
     let saves = [(0, b'A'), (1, b'B'), (2, b'C')];

@@ -118,7 +118,7 @@ fn blanks_stand_for_what_cannot_be_read(rt: HostRuntime) -> Result<(), Fail> {
     Ok(())
 }
 
-// A look at such an image ends at the first sector that can't be read: by layout 2 of those that it reads for itself, by layout 3 of each block too.
+// An examination of such an image ends at a sector that can't be read, be it of the label, of the gate or of a block.
 #[test]
 fn a_look_ends_at_a_sector_that_cannot_be_read(rt: HostRuntime) -> Result<(), Fail> {
     for (newer, scar) in [

@@ -236,7 +236,7 @@ fn a_record_of_other_slots_is_refused(rt: HostRuntime) -> Result<(), Fail> {
 
 #[test]
 fn a_record_with_another_bit_is_refused(rt: HostRuntime) -> Result<(), Fail> {
-    // Another block, a bit past the last block, and a byte of the digest.
+    // Another block, none, a bit past the last block, and two bytes of the digest.
     for (at, byte) in [(0, 4), (0, 0), (479, 128), (480, 0), (511, 0)] {
         let mut disk = saved(&rt)?;
         put(&mut disk, 1, &open_gate())?;

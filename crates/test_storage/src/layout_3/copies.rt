@@ -127,7 +127,7 @@ fn other_images_are_not_copied(rt: HostRuntime) -> Result<(), Fail> {
     Ok(())
 }
 
-// What a stop leaves of a new image whose copy makes so many calls, over an image with block 1 of D.
+// What is left, after a stop, of a new image of whose copy the calls from this one on fail, over an image with block 1 of D.
 fn left(alloc: Global, call: u64, others: Fate) -> Result<&'static str, Fail> {
     let mut old = saved(alloc, 32, &SAVES)?;
     let mut was = saved(alloc, 32, &[(1, b'D')])?;

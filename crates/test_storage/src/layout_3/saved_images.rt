@@ -1,4 +1,4 @@
-// Images of 32 blocks that the tests put together, and what they hold.
+// Images that the tests make by saves, and what they hold.
 use crate::sectors::{put, sector};
 use journal::Store;
 use sector_disk::{Counts, Fate, MemoryDisk, SectorDevice};
@@ -41,7 +41,7 @@ pub(crate) fn saved(alloc: Global, blocks: u16, saves: &[(u16, u8)]) -> Result<M
     Ok(store.into_device())
 }
 
-/// The disk after a stop, with nothing unsynced.
+/// The disk of an image of 32 blocks after a stop that keeps all that was written, with nothing unsynced.
 pub(crate) fn stopped(disk: MemoryDisk) -> MemoryDisk {
     disk.stop(&[Fate::Kept; SECTORS as usize])
 }

@@ -164,7 +164,7 @@ fn other_images_are_refused(rt: HostRuntime) -> Result<(), Fail> {
     Ok(())
 }
 
-// The slots of a record by layout 2 have its digest; by layout 1 there is none.
+// A record by layout 2 has the digest of its slots; by layout 1 it has none.
 #[test]
 fn a_false_record_is_damage_by_layout_2(rt: HostRuntime) -> Result<(), Fail> {
     for (version, want) in [(1, "upgraded"), (2, "damaged")] {
