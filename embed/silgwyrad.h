@@ -1,3 +1,4 @@
+/* SPDX-License-Identifier: Apache-2.0 */
 /* Crash-safe blocks, and a Forth system over them, for a C program that supplies the device and the console.
  *
  * docs/EMBEDDING.md says what is proved of these calls and what is not. In short: each call returns if the host's functions
