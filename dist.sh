@@ -108,6 +108,9 @@ make_package() {
     for it in examples library embed; do ln -s "../../forth83/$it" "$doc/$it"; done
     for it in docs README.md; do ln -s "../doc/forth83/$it" "$data/share/forth83/$it"; done
     ln -s copyright "$doc/LICENSE"
+    # (the program stays byte by byte what was linked and tried, with its symbols)
+    mkdir -p "$data/share/lintian/overrides"
+    echo 'forth83: unstripped-binary-or-object *usr/bin/forth83*' > "$data/share/lintian/overrides/forth83"
     look_at_links "$data"
     # (the newest version of the C library whose names it asks for)
     needed=$(grep -ao 'GLIBC_[0-9][0-9.]*' "$program" | sort -u -V | tail -n 1)
