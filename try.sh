@@ -17,7 +17,7 @@ if [ ! -f "$image" ]; then
     rm -f "$image.new"
     "$program" new "$image.new" --blocks 64 --layout 3
     "$program" put "$image.new" 1 /dev/stdin <<'END'
-( TO BE TRIED: 1 LOAD, THEN 5 SQUARES, OR 7 BOTH SAME )
+( TO BE TRIED: 5 SQUARES, OR 7 BOTH SAME )
 : SQUARED  DUP * ;
 : SQUARES  1+ 1 DO I SQUARED . LOOP ;
 ( TWO BLOCKS WITH ONE NUMBER, SAVED TOGETHER )
@@ -26,4 +26,5 @@ if [ ! -f "$image" ]; then
 END
     mv "$image.new" "$image"
 fi
+[ ! -t 0 ] || say 'block 1 has words to try: 1 LOAD, then 5 SQUARES or 7 BOTH SAME'
 exec "$program" run "$image"
