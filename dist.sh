@@ -54,7 +54,7 @@ put_library() {
     [ -f crates/embed/out/libembed.a ] || return 0
     command -v objcopy > /dev/null || { echo 'dist.sh: objcopy, of binutils, is not in the path' >&2; exit 1; }
     mkdir -p "$1"
-    objcopy --redefine-sym read=silgwyrad_host_read --redefine-sym write=silgwyrad_host_write crates/embed/out/libembed.a "$1/libsilgwyrad.a"
+    objcopy -D --redefine-sym read=silgwyrad_host_read --redefine-sym write=silgwyrad_host_write crates/embed/out/libembed.a "$1/libsilgwyrad.a"
 }
 
 # Fails where a page in a folder has a link to what isn't there.
