@@ -2,7 +2,7 @@
  *
  *     forth [IMAGE]
  *
- * An image is made by `forth83 new`, or by the logger beside this file. It is locked while it is open, as forth83 does it. */
+ * An image is made by `forth83 new --layout 3`, or by the logger beside this file. It is locked while it is open, as forth83 does it. */
 #define _DEFAULT_SOURCE
 #include <errno.h>
 #include <fcntl.h>
@@ -17,7 +17,7 @@
 
 enum { DEVICE = 1, CONSOLE = 2, SECTOR_BYTES = 512, BLOCKS = 32, SECTORS = 3 + 4 * BLOCKS, STEPS = 1000000 };
 
-/* A file of sectors. After a sync that failed the system may have given up bytes and would answer the next one with success: so
+/* A file of sectors, of as many as its image has by either layout. After a sync that failed the system may have given up bytes and would answer the next one with success: so
  * each later one fails too. */
 struct file {
     int number;
@@ -57,6 +57,7 @@ static int sync_file(void *context) {
     return file->sync_failed;
 }
 
+/* In memory no write spoils another sector, so the image there has layout 2. */
 static uint8_t memory[SECTORS][SECTOR_BYTES];
 
 static int read_memory(void *context, uint32_t sector, uint8_t out[SECTOR_BYTES]) {

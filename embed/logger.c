@@ -15,12 +15,16 @@
 
 #include "silgwyrad.h"
 
-enum { DEVICE = 1, BLOCKS = 32, SECTORS = 3 + 4 * BLOCKS, SECTOR_BYTES = 512, BLOCK_BYTES = 1024, IN_BLOCK = 256 };
+/* The image lies in a file, so it has layout 3: a file system writes pages of eight sectors, and a loss of power may spoil a whole one. */
+enum { DEVICE = 1, BLOCKS = 32, SECTORS = 32 + 16 * BLOCKS, SECTOR_BYTES = 512, BLOCK_BYTES = 1024, IN_BLOCK = 256 };
 
 static const off_t IMAGE_BYTES = (off_t)SECTORS * SECTOR_BYTES;
 static const uint32_t BLANKS = 0x20202020;
 
 static int file;
+
+/* An opening looks at all blocks, so there is one for all readings. */
+static struct silgwyrad_store store;
 
 static int read_sector(void *context, uint32_t k, uint8_t out[SECTOR_BYTES]) {
     (void)context;
@@ -32,7 +36,8 @@ static int write_sector(void *context, uint32_t k, const uint8_t bytes[SECTOR_BY
     return pwrite(file, bytes, SECTOR_BYTES, (off_t)k * SECTOR_BYTES) != SECTOR_BYTES;
 }
 
-/* (After a sync that failed this program ends. One that went on would have to fail each later one too, as forth.c does.) */
+/* (After a sync that failed this program ends. One that went on would have to fail each later one too, as forth.c does. Before it is started again the system
+ * has to let go of the file's pages: docs/IMAGE.md, After a failed sync.) */
 static int sync_all(void *context) {
     (void)context;
     return fdatasync(file);
@@ -49,7 +54,7 @@ static void put_number(uint8_t *at, uint32_t n) {
 
 /* Loads the block that holds a reading. */
 static uint8_t load(uint32_t reading) {
-    return silgwyrad_read(DEVICE, SECTORS, (uint16_t)(1 + reading / IN_BLOCK), bytes[1], BLOCK_BYTES);
+    return silgwyrad_read_open(&store, (uint16_t)(1 + reading / IN_BLOCK), bytes[1], BLOCK_BYTES);
 }
 
 /* Adds a reading, in one save of two blocks. */
@@ -61,7 +66,7 @@ static uint8_t add(uint32_t value) {
     const uint16_t both[2] = {0, (uint16_t)(1 + count / IN_BLOCK)};
     put_number(bytes[1] + 4 * (count % IN_BLOCK), value);
     put_number(bytes[0], count + 1);
-    return silgwyrad_save(DEVICE, SECTORS, both, 2, bytes[0], sizeof bytes);
+    return silgwyrad_save_open(&store, both, 2, bytes[0], sizeof bytes);
 }
 
 static uint8_t print_all(void) {
@@ -82,16 +87,19 @@ static int is_new(void) {
     return 1;
 }
 
-/* Reads how many readings there are. A new device is formatted, or one of which a stop ended the first format; its blocks are blanks, and
- * no reading is there yet. One of which the label has changed is refused, since its readings may be there. */
+/* Opens the image and reads how many readings there are. A new device is formatted, or one of which a stop ended the first format; its blocks are blanks,
+ * and no reading is there yet. One of which the label has changed is refused, since its readings may be there. */
 static uint8_t begin(void) {
     struct stat about;
     if (fstat(file, &about)) return SILGWYRAD_DEVICE;
     if (about.st_size == 0 && ftruncate(file, IMAGE_BYTES)) return SILGWYRAD_DEVICE;
     if (about.st_size != 0 && about.st_size != IMAGE_BYTES) return SILGWYRAD_BAD_SIZE;
-    uint8_t answer = silgwyrad_read(DEVICE, SECTORS, 0, bytes[0], BLOCK_BYTES);
-    if (answer == SILGWYRAD_NO_LABEL && is_new()) answer = silgwyrad_format(DEVICE, SECTORS, BLOCKS);
-    if (!answer) answer = silgwyrad_read(DEVICE, SECTORS, 0, bytes[0], BLOCK_BYTES);
+    uint8_t answer = silgwyrad_open(DEVICE, SECTORS, &store);
+    if (answer == SILGWYRAD_NO_LABEL && is_new()) {
+        answer = silgwyrad_format(DEVICE, SECTORS, BLOCKS);
+        if (!answer) answer = silgwyrad_open(DEVICE, SECTORS, &store);
+    }
+    if (!answer) answer = silgwyrad_read_open(&store, 0, bytes[0], BLOCK_BYTES);
     if (number_at(bytes[0]) == BLANKS) put_number(bytes[0], 0);
     return answer;
 }

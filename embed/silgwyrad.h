@@ -57,8 +57,8 @@ enum silgwyrad_answer {
     SILGWYRAD_OTHER_VERSION = 3, /* the label has another version than that of images of this size */
     SILGWYRAD_WRONG_COUNT = 4,   /* the label counts other blocks than the sectors do */
     SILGWYRAD_DEVICE = 5,        /* a call of the device failed: open the image again by any call that takes a device but silgwyrad_format, as after a loss
-                                    of power; over a file whose sync failed only after the machine was restarted. Of silgwyrad_run a call of the
-                                    opening failed: one in the session is told in a reply */
+                                    of power; over a file whose sync failed only once the system has let go of its pages (docs/IMAGE.md, After a failed
+                                    sync). Of silgwyrad_run a call of the opening failed: one in the session is told in a reply */
     SILGWYRAD_DAMAGED = 6,       /* the bytes of a save that is under way, or by layout 3 of a block or of the record, aren't those that were saved */
     SILGWYRAD_NO_BLOCK = 7,      /* the image has no such block; the device wasn't called */
     SILGWYRAD_BAD_LENGTH = 8,    /* not 1024 bytes for each block; the device wasn't called */
@@ -71,9 +71,9 @@ enum silgwyrad_answer {
 
 /* The numbers of a call have the same bits on each target: a length has 64 also where a pointer has 32. */
 
-/* Makes an image of so many blank blocks: of layout 2 on a device of 3 + 4 * blocks sectors, of layout 3 on one of 32 + 16 * blocks. A stop
- * leaves the blank image, the old one, or none: then no label, or one of another version or count over blocks that are lost. The calls below take
- * images of either layout. */
+/* Makes an image of so many blank blocks: of layout 2 on a device of 3 + 4 * blocks sectors, of layout 3 on one of 32 + 16 * blocks. One in a file should
+ * have layout 3 (docs/IMAGE.md, Which layout). A stop leaves the blank image, the old one, or none: then no label, or one of another version or count over
+ * blocks that are lost. The calls below take images of either layout. */
 uint8_t silgwyrad_format(int32_t device, uint32_t sectors, uint16_t blocks);
 
 /* Finishes a save that a stop left half done. silgwyrad_read, silgwyrad_save, silgwyrad_open and silgwyrad_run do so first. */

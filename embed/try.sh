@@ -81,7 +81,7 @@ run_hosts() {
     told $? "$what: logger reads what forth saved"
     $emulator "$in/shared" | cmp - expected/shared
     told $? "$what: C and Forth share blocks"
-    ./image.py 2 32 "$in/host.img" 1=host.scr
+    ./image.py 3 32 "$in/host.img" 1=host.scr
     ask_host $emulator "$in/forth" "$in/host.img"
     told $? "$what: words of forth ask the host"
 }
