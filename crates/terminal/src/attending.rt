@@ -1,5 +1,5 @@
-//! What a person at a terminal is told besides: how a session is left, which file a failure is about, and which layout
-//! a new image has. It goes to standard error, and only where that is a terminal, so a script reads nothing of it.
+//! What a person at a terminal is told besides: how a session is left, and which file a failure is about. It goes to
+//! standard error, and only where that is a terminal, so a script reads nothing of it.
 ghost use Rattle.std.specs.Prelude.{◌<◌, IfSome};
 
 use super::failure::Failure;
@@ -92,9 +92,8 @@ fn makes_over(rt: &impl Files<File = File>, asked: &Order<'_>) -> bool {
     }
 }
 
-/// Tells after an order of this status what a person may want to know of the files that these words name: after a
-/// failure which one it was about, and what is wrong with that; after `new` without a layout which one the image has.
-/// `was_there` says whether, before, there had been a file of the name of an image that was to be made.
+/// Tells after a failure of this status which file it was about, of those that these words name, and what is wrong with
+/// that. `was_there` says whether, before, there had been a file of the name of an image that was to be made.
 pub(super) fn advise<S: AsStr, E: Write>(
     rt: &(impl Files<File = File> + AllocGlobal),
     words: &[S],
@@ -103,32 +102,9 @@ pub(super) fn advise<S: AsStr, E: Write>(
     errors: &mut E,
 ) {
     match order(rt.alloc(), words) {
-        Ok(asked) => {
-            if status == 0 {
-                tell_of_layout(words, &asked, errors);
-            } else {
-                advise_on(rt, &asked, was_there, status, errors);
-            }
-        }
+        Ok(asked) => advise_on(rt, &asked, was_there, status, errors),
         Err(_) => {}
     }
-}
-
-/// Tells which layout an image has that was made, where no word asked for one, and which one a file wants.
-fn tell_of_layout<S: AsStr, E: Write>(words: &[S], asked: &Order<'_>, errors: &mut E) {
-    let Order::New(path, _, _) = asked else {
-        return;
-    };
-    if words
-        .iter()
-        .any(|word| word.as_str().starts_with("--layout"))
-    {
-        return;
-    }
-    let _ = writeln!(
-        errors,
-        "  {path}: of layout 2, for cards, boards and raw disks; an image that stays in a file wants --layout 3"
-    );
 }
 
 /// Tells after a failure of an order which file it was about, by the status, and what is wrong with that.
