@@ -44,6 +44,11 @@ LINES = {
     "65 1 FILLED SAVED": [(FILL, 1, "A"), ("SAVE",)],
     "8 LOAD": [("TEXT", 8), (FILL, 1, "a"), ("TEXT", 8), ("FLUSH",), ("TEXT", 8)],
     "66 2 FILLED 3 4 5 6 4 LOOKED": [(FILL, 2, "B"), *((LOOK, u) for u in (6, 5, 4, 3))],
+    "65 1 FILLED 66 2 FILLED SAVED": [(FILL, 1, "A"), (FILL, 2, "B"), ("SAVE",)],
+    "67 1 HALF NOPE": [(FILL, 1, "C"), ("UNDO",)],
+    "67 1 HALF 7 6 5 4 4 LOOKED 0 0 /": [(FILL, 1, "C"), *((LOOK, u) for u in (4, 5, 6, 7)), ("UNDO",)],
+    "67 1 FILLED 68 2 FILLED SAVED 69 2 HALF NOPE": [(FILL, 1, "C"), (FILL, 2, "D"), ("SAVE",), (FILL, 2, "E"), ("UNDO",)],
+    "70 3 FILLED SAVED": [(FILL, 3, "F"), ("SAVE",)],
 }
 
 
@@ -168,6 +173,9 @@ class Store:
         for half in (0, 1):
             self.disk.write(self.free(b) + half, data[512 * half : 512 * half + 512])
 
+    def discard(self):
+        self.pending = set()
+
     def commit(self):
         if self.closed or not self.pending:
             return
@@ -231,6 +239,7 @@ class Newer(Store):
         self.gate = is_open_gate(self.disk.read(8))
         found = self.disk.read(16 if self.gate else 24)
         self.second, self.sum = set(listed(found, self.blocks)), found[480:]
+        self.saved_sum = self.sum
         tags = []
         for b in range(self.blocks):
             first, last, tag = (self.disk.read(self.place(b, b in self.second) + i) for i in (0, 1, 2))
@@ -249,6 +258,10 @@ class Newer(Store):
     def latest(self, b):
         return self.free(b) if b in self.pending else self.place(b, b in self.second)
 
+    def discard(self):
+        super().discard()
+        self.sum = self.saved_sum
+
     def put(self, b, data):
         old, new = self.disk.read(self.latest(b) + 2)[:32], tag_of(b, data)
         super().put(b, data)
@@ -261,7 +274,7 @@ class Newer(Store):
         self.disk.sync()
         self.disk.write(8, gate(CLOSED if self.gate else OPEN, self.sum))
         self.disk.sync()
-        self.gate, self.second = not self.gate, second
+        self.gate, self.second, self.saved_sum = not self.gate, second, self.sum
 
 
 STORES = {2: Older, 3: Newer}
@@ -296,6 +309,9 @@ class Words:
             self.block(u)
         elif word == FILL:
             self.block(u)[1] = byte.encode() * 1024
+        elif word == "UNDO":
+            self.store.discard()
+            self.buffers = []
         elif word == "TEXT":
             if u not in [held[0] for held in self.buffers] and self.text != u:
                 if self.store.closed:
@@ -390,7 +406,8 @@ class Part:
                     for one in LINES.get(call, []):
                         words.do(*one)
             except Fault:
-                pass
+                if self.system == "events":
+                    words.do("UNDO")
         return disk
 
     def stop(self, kind, k):

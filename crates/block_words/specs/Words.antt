@@ -1,8 +1,8 @@
 -- The five block words, and the text of a block. Each call that reaches the device, and each growth for a new buffer,
 -- takes one answer from a list of what is answered; where the list is at its end, all goes well.
-use Rattle.std.specs.Prelude.{ℕ, ◌+◌, ◌*◌, ◌++◌, ◌||◌, Bool, true, false, nat_lt, List, [], ◌∷◌, length, Option, Some, None, replicate}
+use Rattle.std.specs.Prelude.{◌≡◌, ℕ, ◌+◌, ◌++◌, ◌||◌, Bool, true, false, nat_lt, List, [], ◌∷◌, length, Option, Some, None, replicate}
 use Rattle.data_space.specs.Space.{buffer_at, buffer_bytes, with_bytes}
-use Rattle.journal.specs.Maps.{Maps, contents, spilled, committed, latest, shut, any_pending}
+use Rattle.journal.specs.Maps.{Maps, block_in, contents, spilled, committed, discarded, latest, shut, any_pending}
 use Rattle.block_buffers.specs.declared.buffers.Assigned.{Assigned}
 use Rattle.block_buffers.specs.Buffers.{Buffers, none_assigned, assigned, touched, oldest, slot_for, placed, with_mark, updated_ones, unmarked}
 use Rattle.block_words.specs.declared.buffered_blocks.BlockFault.{BlockFault}
@@ -212,6 +212,14 @@ save_buffers s = save_and unmarked s
 
 abbrev pub flush : Blocks → BlockOutcome (Unit {0})
 flush s = save_and (λ bs. none_assigned) s
+
+-- all changes since the last save are taken back: nothing is put aside, and no block has a buffer
+abbrev pub taken_back : Blocks → Blocks
+taken_back s = record s { maps = discarded s.maps; buffers = none_assigned }
+
+-- Then each block reads as it was saved last.
+abbrev pub ReadsAsSaved : Type 0
+ReadsAsSaved = (s : Blocks) (b : ℕ) → view (taken_back s) b ≡ block_in s.maps.saved b
 
 -- the text of a block, as it stands, for a taking: neither the list nor its order changes. Where the store still keeps the
 -- text that it read last, the block isn't read again; so what is counted here is no more than a bound.

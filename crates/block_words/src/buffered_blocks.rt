@@ -1,13 +1,13 @@
 //! Blocks in four buffers over a store, and the words on them.
-ghost use Rattle.std.specs.Prelude.{◌≡◌, ◌+◌, ◌↔◌, List, [], ℕ, true, false, Some, None, Ok, length, is_ok, IfOk, IfErr, OnOk, OnErr, IsErrOf, IsSome, IfSome, MatchResult};
+ghost use Rattle.std.specs.Prelude.{◌≡◌, ◌<◌, ◌+◌, ◌↔◌, List, [], ℕ, true, false, Some, None, Ok, length, is_ok, IfOk, IfErr, OnOk, OnErr, IsErrOf, IsSome, IfSome, MatchResult};
 ghost use Rattle.std.proofs.Props.{props};
-ghost use Rattle.journal.specs.Maps.{Maps};
+ghost use Rattle.journal.specs.Maps.{Maps, discarded};
 ghost use Rattle.journal.specs.Costs.{spill_reads, spill_writes};
-ghost use Rattle.journal.specs.Store.{blocks_of, by_older, closed_of, kept_of, is_text_of, StandsFor, DeviceBegins, DeviceReads, KeepsSaved, SamePending};
+ghost use Rattle.journal.specs.Store.{blocks_of, by_older, closed_of, device_of, kept_of, is_text_of, StandsFor, DeviceBegins, DeviceReads, KeepsSaved, SamePending};
 ghost use Rattle.data_space.specs.Space.{buffer_at, buffer_bytes};
 ghost use Rattle.block_buffers.specs.Buffers.{slot_of, none_assigned, unmarked, after_mark, IsValid};
 ghost use Rattle.block_words.specs.Words.{block, buffer, update, save_buffers, flush, has_unsaved, source, next_map};
-ghost use Rattle.block_words.specs.Uses.{used, slot_used, replaced, blanked, with_bytes_left, IsPlace, text_at, text_found, at_hand, in_store, PendingOnceReplaced};
+ghost use Rattle.block_words.specs.Uses.{used, is_among, is_changed, slot_used, replaced, blanked, with_bytes_left, IsPlace, text_at, text_found, at_hand, in_store, PendingOnceReplaced};
 ghost use Rattle.block_words.specs.Rooms.{within};
 ghost use Rattle.block_words.specs.Validity.{AreApart-prop, SlotsBelow-prop};
 ghost use Rattle.block_words.specs.Calls.{CallRuns, save_begun};
@@ -15,7 +15,7 @@ ghost use Rattle.block_words.specs.Faults.{of_store};
 
 use crate::assigning::{address, blank, fetch};
 use crate::saving::save;
-use block_buffers::Buffers;
+use block_buffers::{Assigned, Buffers};
 use data_space::DataSpace;
 use journal::StoreFault;
 use sector_disk::SectorDevice;
@@ -309,6 +309,49 @@ impl<D: SectorDevice> Blocks<D> {
         self.buffers.has_updated()
     }
 
+    /// How many blocks there are, from 32 to 3,840.
+    pub fn count(&self) -> u16
+        ensures { result ≡ blocks_of (store_of self.now) }
+    {
+        self.store.blocks()
+    }
+
+    /// Whether a fault has closed the store.
+    pub fn is_closed(&self) -> bool
+        ensures { result ≡ closed_of (store_of self.now) }
+    {
+        self.store.is_closed()
+    }
+
+    /// Whether block `u` was changed since the last save: it was spilled, or is updated in its buffer. Makes no device
+    /// call.
+    /// Rule: MANUAL, Lines that are undone.
+    pub fn is_changed(&self, u: u16) -> bool
+        requires { u < blocks_of (store_of self.now) }
+        ensures { result ≡ is_changed (store_of self.now) (buffers_of self.now) u }
+    {
+        if is_among(self.buffers.updated().as_slice(), u) {
+            return true;
+        }
+        self.store.is_pending(u)
+    }
+
+    /// Takes back all that was changed since the last save: what was spilled is forgotten, and no block has a buffer.
+    /// So each block reads again as it was saved (`laws::taken_back`). Makes no device call, and is no save. A store
+    /// that a fault has closed stays closed.
+    /// Rule: MANUAL, Lines that are undone.
+    pub fn discard_changes(&mut self)
+        ensures maps { (m : Maps) → StandsFor (store_of self.old) m → StandsFor (store_of self.new) (discarded m) }
+        ensures list { buffers_of self.new ≡ none_assigned }
+        ensures nothing { (u : ℕ) → is_changed (store_of self.new) (buffers_of self.new) u ≡ false }
+        ensures device { device_of (store_of self.new) ≡ device_of (store_of self.old) }
+        ensures blocks { blocks_of (store_of self.new) ≡ blocks_of (store_of self.old) }
+        ensures shuts { closed_of (store_of self.new) ≡ closed_of (store_of self.old) }
+    {
+        self.store.discard();
+        self.buffers.unassign_all();
+    }
+
     /// `SAVE-BUFFERS`: saves all that was updated or spilled since the last save, or nothing of it, and then no buffer
     /// is updated. With nothing to save it makes no device call.
     ///
@@ -356,6 +399,21 @@ impl<D: SectorDevice> Blocks<D> {
                 Ok(())
             }
             Err(fault) => Err(fault),
+        }
+    }
+}
+
+// Whether one of these buffers is that of block u.
+fn is_among(buffers: &[Assigned], u: u16) -> bool
+    ensures { result ≡ is_among buffers.now u }
+{
+    match buffers {
+        [] => false,
+        [buffer, rest @ ..] => {
+            if u == buffer.block {
+                return true;
+            }
+            is_among(rest, u)
         }
     }
 }

@@ -1,6 +1,7 @@
 //! Laws of calls that follow one another, and of the buffers at any time.
 //! Rule: SEMANTICS, Laws.
 ghost use Rattle.block_words.specs.Following.{KeepsOn};
+ghost use Rattle.block_words.specs.Words.{ReadsAsSaved};
 ghost use Rattle.block_words.specs.Parts.{BuffersAreValid, FewAreUpdated, UpdatedAreChanged};
 
 use sector_disk::SectorDevice;
@@ -17,4 +18,10 @@ pub fn buffers_are_valid<D: SectorDevice>()
     ensures valid { BuffersAreValid D.SectorDevice }
     ensures few { FewAreUpdated D.SectorDevice }
     ensures changed { UpdatedAreChanged D.SectorDevice }
+{}
+
+/// Does nothing. Its contract is a law of the definitions: once all changes since the last save are taken back, each
+/// block reads as it was saved.
+pub fn taken_back()
+    ensures { ReadsAsSaved }
 {}

@@ -2,3 +2,4 @@ pub mod Given
 pub mod CommandRows
 pub mod Alone
 pub mod Building
+pub mod Input

@@ -64,6 +64,10 @@ read_script words = option_map (λ given. (all_of (codes "FILE") given.1, one_of
 abbrev pub read_trace : List Text → Option (Option Text)
 read_trace words = option_map (λ given. one_of (codes "trace") given.1) (subcommand_of forth83 (codes "forth83" ∷ words))
 
+-- whether lines that fail are undone
+abbrev pub read_undo : List Text → Option (Option Text)
+read_undo words = option_map (λ given. one_of (codes "undo") given.1) (subcommand_of forth83 (codes "forth83" ∷ words))
+
 -- which refusals there may be
 abbrev pub refused : List Text → Kinds
 refused words = fault_of forth83 (codes "forth83" ∷ words)
@@ -91,6 +95,10 @@ pub record CommandsAreRead : Type 0 where
   pub traces : read_trace (codes "run" ∷ codes "A" ∷ codes "--trace" ∷ []) ≡ Some (Some (codes "true"))
   pub traces_fits : refused (codes "run" ∷ codes "--trace" ∷ codes "A" ∷ []) ≡ []
   pub traces_nothing : read_trace (codes "run" ∷ codes "A" ∷ []) ≡ Some (Some (codes "false"))
+  pub undoes : read_undo (codes "run" ∷ codes "A" ∷ codes "--undo" ∷ codes "--strict" ∷ []) ≡ Some (Some (codes "true"))
+  pub undoes_fits : refused (codes "run" ∷ codes "--undo" ∷ codes "A" ∷ codes "--load=1" ∷ []) ≡ []
+  pub undoes_nothing : read_undo (codes "run" ∷ codes "A" ∷ []) ≡ Some (Some (codes "false"))
+  pub undoes_no_put : refused (codes "put" ∷ codes "A" ∷ codes "1" ∷ codes "F" ∷ codes "--undo" ∷ []) ≡ kind.UnknownArgument ∷ []
   pub runs_no_file : read_script (codes "run" ∷ codes "A" ∷ []) ≡ Some (None, None, Some (codes "false"))
   pub runs_files : read_script (codes "run" ∷ codes "A" ∷ codes "F" ∷ codes "G" ∷ []) ≡ Some (Some (codes "F" ∷ codes "G" ∷ []), None, Some (codes "false"))
   pub runs_files_fits : refused (codes "run" ∷ codes "A" ∷ codes "F" ∷ codes "G" ∷ []) ≡ []

@@ -1,5 +1,5 @@
 -- What the words of a command line may be, and the order that they give.
-use Rattle.std.specs.Prelude.{◌≡◌, ◌≤◌, ℕ, pos, Bool, true, false, List, [], ◌∷◌, map, Option, Some, None, unwrap_or, codes, ⊤}
+use Rattle.std.specs.Prelude.{◌≡◌, ◌≢◌, ◌⊎◌, ◌++◌, ◌≤◌, ℕ, pos, Bool, true, false, List, [], ◌∷◌, map, Option, Some, None, unwrap_or, codes, ⊤}
 use Rattle.std.specs.Borrow.{Bor}
 use Rattle.std.specs.Str.Parse.{IsNumeral, digits_value, without_leading_plus}
 use Rattle.clap.specs.Lexer.{usize_max}
@@ -52,6 +52,9 @@ check = flag (codes "check")
 
 abbrev pub trace : Rule
 trace = flag (codes "trace")
+
+abbrev pub undo : Rule
+undo = flag (codes "undo")
 
 abbrev pub each_block : Rule
 each_block = flag (codes "blocks")
@@ -127,7 +130,7 @@ abbrev pub run_without_flags : App
 run_without_flags = with_rule (with_rule (with_rule (with_rule (new_app (codes "run")) image) asked_files) load) steps
 
 abbrev pub run_app : App
-run_app = with_rule (with_rule run_without_flags strict) trace
+run_app = with_rule (with_rule (with_rule run_without_flags strict) trace) undo
 
 abbrev pub list_app : App
 list_app = with_rule (with_rule (new_app (codes "list")) image) block
@@ -246,12 +249,22 @@ abbrev pub HasForm : List Row → Form → Type 0
 HasForm rows Raw = IsSet rows (codes "raw")
 HasForm rows Lines = IsUnset rows (codes "raw")
 
+-- what stands for the input among the files
+abbrev pub input : Text
+input = codes "-"
+
+-- Of the names that were given these are files. The input's lines are run behind theirs where it is the last name, or where none is given.
+abbrev pub AreFiles : (given files : List Text) (goes_on : Bool) → Type 0
+AreFiles given files true = (given ≡ files ++ input ∷ []) ⊎ ((given ≡ []) × (files ≡ []))
+AreFiles given files false = (given ≡ files) × (given ≢ []) × ((front : List Text) → given ≢ front ++ input ∷ [])
+
 -- how a session is to be run
 pub record HasScript (rows : List Row) (script : Script) : Type 0 where
   pub load : HasAsked rows (codes "load") script.load
-  pub files : HasTexts rows (codes "FILE") script.files.items
+  pub files : AreFiles (unwrap_or (all_of (codes "FILE") rows) []) (map (λ text. text.now) script.files.items) script.goes_on
   pub strict : HasFlag rows (codes "strict") script.is_strict
   pub traced : HasFlag rows (codes "trace") script.is_traced
+  pub undone : HasFlag rows (codes "undo") script.undoes
 
 -- the order that a command with these arguments gives
 abbrev pub Orders : Option (Text × List Row) → Order → Type 0

@@ -3,7 +3,7 @@
 ghost use Rattle.std.specs.Prelude.{◌≡◌, false, Some};
 ghost use Rattle.clap.specs.Words.{new_rule, rule_of};
 ghost use Rattle.clap.specs.declared.builder.action.ArgAction.TheVariants.{Set};
-ghost use Rattle.command_line.specs.Commands.{asked_blocks, asked_file, asked_files, asked_layout, block, blocks, check, each_block, file, files, first_block, flag, image, last_block, load, many, new_image, number, old_image, raw, steps, strict, trace, wanted};
+ghost use Rattle.command_line.specs.Commands.{asked_blocks, asked_file, asked_files, asked_layout, block, blocks, check, each_block, file, files, first_block, flag, image, last_block, load, many, new_image, number, old_image, raw, steps, strict, trace, wanted, undo};
 
 use clap::{Arg, ArgAction};
 use std::alloc::Global;
@@ -127,7 +127,7 @@ pub(super) fn script_argument<'a>(alloc: Global) -> Arg<'a>
     ensures local { result.global ≡ false }
 {
     many(asked_file_argument(alloc)).help(
-        "Files whose lines are run; without one those of standard input are",
+        "Files whose lines are run; standard input's are without one, and behind a last -",
     )
 }
 
@@ -192,7 +192,7 @@ pub(super) fn strict_option<'a>(alloc: Global) -> Arg<'a>
     flag_option(
         alloc,
         "strict",
-        "End with the first line that a fault ended, in status 1",
+        "End with the first line that fails, in status 1",
     )
 }
 
@@ -203,7 +203,18 @@ pub(super) fn trace_option<'a>(alloc: Global) -> Arg<'a>
     flag_option(
         alloc,
         "trace",
-        "Tell on standard error where a fault ended a line",
+        "Tell on standard error which line failed, and where a fault came",
+    )
+}
+
+pub(super) fn undo_option<'a>(alloc: Global) -> Arg<'a>
+    ensures rule { rule_of result ≡ undo }
+    ensures local { result.global ≡ false }
+{
+    flag_option(
+        alloc,
+        "undo",
+        "Take back what was changed and not saved where a line fails",
     )
 }
 

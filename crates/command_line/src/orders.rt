@@ -1,5 +1,5 @@
 //! What the words of a command line may ask for.
-//! Rule: MANUAL, Commands; MANUAL, Where a fault came.
+//! Rule: MANUAL, Commands; MANUAL, Where a fault came; MANUAL, Lines that are undone.
 ghost use Rattle.std.specs.Prelude.{◌≡◌, IsSome, None};
 
 /// How blocks are written to a file, and read from one.
@@ -25,12 +25,16 @@ pub enum Layout {
 pub struct Script<'a> {
     /// The block that is loaded before the first line, if one is.
     pub load: Option<u16>,
-    /// The files whose lines are run. Where there is none, those of the input are.
+    /// The files whose lines are run.
     pub files: Vec<&'a str>,
-    /// Whether it ends with the first line that a fault ended.
+    /// Whether the lines of the input are run behind them: where no file is named, or `-` is the last one.
+    pub goes_on: bool,
+    /// Whether it ends with the first line that fails: which a fault, `ABORT` or a true `ABORT"` ended.
     pub is_strict: bool,
-    /// Whether it is told beside the replies where a fault ended a line.
+    /// Whether it is told beside the replies which line failed, and where a fault came.
     pub is_traced: bool,
+    /// Whether a line that fails takes back what was changed and not saved.
+    pub undoes: bool,
 }
 
 impl Script<'_> {

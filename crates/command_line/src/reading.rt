@@ -1,24 +1,28 @@
 //! The words of a command line are read.
 //! Rule: MANUAL, Commands; MANUAL, All commands.
-ghost use Rattle.std.specs.Prelude.{◌≡◌, ◌≤◌, ℕ, List, [], false, Some, map, codes, IfOk, IfSome};
-ghost use Rattle.clap.specs.Words.{App, FailsBy, Rule, app_of, fault_of, found_of, new_app, rows_of, rule_of, subcommand_rows_of, with_rule, with_subcommand};
+ghost use Rattle.std.specs.Prelude.{◌≡◌, ◌≢◌, ◌++◌, ◌∷◌, ◌≤◌, ℕ, List, [], false, Some, map, codes, IfOk, IfSome};
+ghost use Rattle.std.specs.Bool.{OnTrue, OnFalse};
+ghost use Rattle.clap.specs.Words.{App, FailsBy, Rule, Text, app_of, fault_of, found_of, new_app, rows_of, rule_of, subcommand_rows_of, with_rule, with_subcommand};
 ghost use Rattle.clap.specs.declared.builder.command.Command.TheViews.{out-Command};
 ghost use Rattle.command_line.specs.Commands.{new_app_of, run_app, list_app, put_app, export_app, import_app, check_app, upgrade_app, program, forth83, over_blocks, ReadsAs, SufficesFor, HasFlag, HasForm, HasLayout, HasNumber, HasScript, HasText, HasTexts, Orders, IsOrderOf, IsInRange};
-ghost use Rattle.command_line.specs.Commands.{copy_app, salvage_app, making, HasAsked, HasBlocks, AreInRange, diff_app, looking};
+ghost use Rattle.command_line.specs.Commands.{copy_app, salvage_app, making, HasAsked, HasBlocks, AreFiles, AreInRange, diff_app, input, looking};
 
 use super::arguments::{
     asked_blocks_option, block_argument, blocks_option, check_option, each_block_option,
     file_argument, first_argument, image_argument, last_argument, layout_option, load_option,
     new_argument, old_argument, raw_option, script_argument, source_argument,
-    source_image_argument, steps_option, strict_option, trace_option,
+    source_image_argument, steps_option, strict_option, trace_option, undo_option,
 };
 use super::orders::{Form, Layout, Order, Script};
 use clap::{Arg, ArgMatches, Command, Error};
 use std::alloc::{AllocError, Global};
 use std::convert::AsStr;
 
-/// What `--version` prints beside the name.
-const VERSION: &str = "0.1.0";
+/// The version of the program, which `--version` prints beside its name.
+pub const VERSION: &str = "0.1.0";
+
+/// What stands for the input among the files of a script.
+const INPUT: &str = "-";
 
 /// What help tells of a file that is made.
 const MADE: &str = "The file that is made";
@@ -153,12 +157,16 @@ fn script_of<'a>(alloc: Global, given: &ArgMatches<'a>) -> Option<Script<'a>>
     let load = load_of(given)?;
     let is_strict = flag_of(given, "strict")?;
     let is_traced = flag_of(given, "trace")?;
-    let files = texts_of(alloc, given, "FILE")?;
+    let undoes = flag_of(given, "undo")?;
+    let mut files = texts_of(alloc, given, "FILE")?;
+    let goes_on = take_input(&mut files);
     Some(Script {
         load,
         files,
+        goes_on,
         is_strict,
         is_traced,
+        undoes,
     })
 }
 
@@ -184,6 +192,40 @@ fn texts_of<'a>(alloc: Global, given: &ArgMatches<'a>, id: &str) -> Option<Vec<&
         },
         None => Some(texts),
     }
+}
+
+/// Takes the input away from the end of these names, where it is the last one, and answers whether its lines are run:
+/// there, and where no file is named.
+fn take_input(names: &mut Vec<&str>) -> bool
+    ensures { AreFiles (map (λ text. text.now) names.old.items) (map (λ text. text.now) names.new.items) result }
+{
+    if names.is_empty() {
+        return true;
+    }
+    if !is_input_last(names.as_slice()) {
+        return false;
+    }
+    names.pop();
+    true
+}
+
+/// Whether the last one of these names stands for the input.
+fn is_input_last(names: &[&str]) -> bool
+    ensures yes { OnTrue result ((front : List Text) × (map (λ text. text.now) names.now ≡ front ++ input ∷ [])) }
+    ensures no { OnFalse result ((front : List Text) → map (λ text. text.now) names.now ≢ front ++ input ∷ []) }
+{
+    match names.split_last() {
+        Some((last, _)) => is_input(*last),
+        None => false,
+    }
+}
+
+/// Whether a name stands for the input.
+fn is_input(name: &str) -> bool
+    ensures yes { OnTrue result (name.now ≡ input) }
+    ensures no { OnFalse result (name.now ≢ input) }
+{
+    name == INPUT
 }
 
 /// Whether a flag is given. After a parse it always has one of its two texts.
@@ -370,7 +412,8 @@ fn run_command<'a>(alloc: Global) -> Result<Command<'a>, AllocError>
     let command = with_argument(command, load_option(alloc));
     let command = with_argument(command, steps_option(alloc));
     let command = with_argument(command, strict_option(alloc));
-    with_argument(command, trace_option(alloc))
+    let command = with_argument(command, trace_option(alloc));
+    with_argument(command, undo_option(alloc))
 }
 
 fn list_command<'a>(alloc: Global) -> Result<Command<'a>, AllocError>

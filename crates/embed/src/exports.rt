@@ -2,19 +2,19 @@
 //! Rule: EMBEDDING, What is proved.
 ghost use Rattle.std.specs.Prelude.{◌≡◌, ◌≢◌, ◌≤◌, ◌↔◌, None, length, IfSome, MatchBool};
 ghost use Rattle.shadow.specs.Label.{is_known_size};
-ghost use Rattle.embed.specs.Keeping.{SamePlace, gate_in, not_open};
-ghost use Rattle.embed.specs.Making.{fits_image};
-ghost use Rattle.embed.specs.Refusals.{code_of, read_refusal, save_refusal};
+ghost use Rattle.hosted.specs.Keeping.{SamePlace, gate_in, not_open};
+ghost use Rattle.hosted.specs.Making.{fits_image};
+ghost use Rattle.hosted.specs.Refusals.{code_of, read_refusal, save_refusal};
 
-use crate::console::{HostInput, HostOutput};
-use crate::disk::HostDisk;
-use crate::host::Numbered;
-use crate::open_store::{OpenStore, close};
-use crate::promises::{
+use hosted::console::{HostInput, HostOutput};
+use hosted::disk::HostDisk;
+use hosted::host::Numbered;
+use hosted::open_store::{OpenStore, close};
+use hosted::promises::{
     format_over, open_over, read_open_over, read_over, recover_over, run_over, save_open_over,
     save_over,
 };
-use crate::refusal::Refusal;
+use hosted::refusal::Refusal;
 use std::alloc::Global;
 
 /// Makes an image of 32 to 3,840 blank blocks, of layout 2 on `3 + 4 * blocks` sectors and of layout 3 on

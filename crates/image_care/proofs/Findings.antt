@@ -1,23 +1,15 @@
 -- What is found by reads alone.
-use Rattle.std.proofs.Common.{◌≡◌, ◌⊎◌, ⊎_elim, ℕ, Option, Some, None, Result, Ok, Err, sym, ◌∙◌, IsTrue}
+use Rattle.std.proofs.Common.{◌≡◌, ◌⊎◌, ⊎_elim, Option, Some, None, Result, Ok, Err, sym, ◌∙◌, ap}
 use Rattle.std.specs.Prelude.{MatchResult, IfErr, IfOk, OnOk}
-use Rattle.sector_disk.specs.Disk.{Image, MayLeave}
+use Rattle.sector_disk.specs.Counting.{count_up}
+use Rattle.sector_disk.specs.Disk.{Disk}
 use Rattle.sector_disk.specs.declared.device.SectorDevice.{Ghosts}
-use Rattle.journal.specs.Calls.{StopsLeave, BeginsAtMost}
+use Rattle.recovery.specs.Recovered.{Tells}
 use Rattle.recovery.specs.Steps.{OnlyRead}
 use Rattle.recovery.specs.declared.fault.OpenFault.{OpenFault}
 use Rattle.recovery.specs.declared.fault.OpenFault.TheVariants.{Device}
-use Rattle.journal.specs.PageCalls as newer
-use Rattle.journal.specs.PageLayout.{sectors_for}
-use Rattle.shadow.specs.Opened.{HasMeaning}
-use Rattle.shadow.proofs.Openings.{never_refused}
-use Rattle.stores.specs.Opened.{newer_refusal}
-use Rattle.stores.proofs.Damage.{none_told}
 
--- What has a meaning is refused only by a fault of the device.
-pub not_refused : (n sectors : ℕ) (image : Image) → sectors ≡ sectors_for n → HasMeaning n image → newer_refusal sectors image ≡ None
-not_refused n sectors image size means = none_told sectors image (λ fault. never_refused n sectors image fault size means)
-
+-- What passes each test is refused only by a fault of the device.
 pub only_device : (e : OpenFault) (refusal : Option OpenFault) → refusal ≡ None → (e ≡ Device) ⊎ (refusal ≡ Some e) → e ≡ Device
 only_device e refusal none = ⊎_elim (λ device. device) (λ some. absurd (let no : None ≡ Some e = sym none ∙ some in cc))
 
@@ -37,18 +29,22 @@ module _ {T E : Type 0} where
   if_ok_all (Ok x) f p q s = f x p q s
   if_ok_all (Err e) f p q s = tt
 
-  pub on_ok_both : (r : Result T E) {P Q : T → Type 0} {R : Type 0} → ((x : T) → P x → Q x → R) → IfOk r P → IfOk r Q → OnOk r R
-  on_ok_both (Ok x) f p q = f x p q
-  on_ok_both (Err e) f p q = tt
-
--- A device was read by calls of which the first that fails ends them.
-pub just_read : {D T E : Type 0} {result : Result T E} (device : Ghosts D) (a b : D)
-    → (IsTrue (device.keeps_model a) → device.disk b ≡ device.disk a)
-    → (IsTrue (device.keeps_model a) → StopsLeave device a b (MayLeave (device.disk a)))
-    → newer.Passes device a b result → BeginsAtMost device a b 0 0 → OnlyRead device a b
-just_read device a b disk stops passes begins = record {
-  disk = disk;
-  stops = stops;
-  passes = record { sectors = passes.sectors; model = passes.model; units = passes.units; time = passes.time; failures = passes.failures.never_falls };
-  begins = begins;
+-- What the second of two runs of reads tells, the first of which went well, both tell.
+pub told_by_reads : {D T : Type 0} (G : Ghosts D) (a b d : D) (result : Result T OpenFault) → G.failures b ≡ G.failures a → OnlyRead G a d
+    → Tells G b d 0 result → Tells G a d 0 result
+told_by_reads G a b d (Ok x) well read two = record {
+  sized = tt;
+  device = tt;
+  refused = tt;
+  well = two.well ∙ well;
+  content = λ keeps. tt;
+  unwritten = tt;
+}
+told_by_reads G a b d (Err e) well read two = record {
+  sized = two.sized;
+  device = λ is. two.device is ∙ ap count_up well;
+  refused = λ other. two.refused other ∙ well;
+  well = tt;
+  content = λ keeps other. ap (λ (x : Disk). x.content) (read.disk keeps);
+  unwritten = λ other. read.begins;
 }

@@ -1,5 +1,6 @@
 pub mod Copies
 pub mod Currents
+pub mod During
 pub mod Examinations
 pub mod Findings
 pub mod Looks

@@ -1,6 +1,6 @@
 -- What a look finds is what the image means.
-use Rattle.std.proofs.Common.{◌≡◌, ◌∙◌, ◌<◌, ◌≤◌, ℕ, length, ◌+◌, ◌*◌, Bool, true, false, Option, Some, None, refl, sym, ap, subst}
-use Rattle.std.specs.Prelude.{if◌then◌else◌, not}
+use Rattle.std.proofs.Common.{◌≡◌, ◌∙◌, ◌<◌, ℕ, length, ◌+◌, ◌*◌, Bool, true, false, None, refl, sym, ap, subst}
+use Rattle.std.specs.Prelude.{if◌then◌else◌}
 use Rattle.std.specs.List.{concat}
 use Rattle.sector_disk.specs.Disk.{Image}
 use Rattle.sector_disk.specs.declared.device.SectorDevice.{Ghosts}
@@ -8,26 +8,24 @@ use Rattle.journal.specs.Calls.{ReadsAtMost}
 use Rattle.journal.specs.Images as older_images
 use Rattle.journal.specs.Images.{blocks_below, pair_at}
 use Rattle.journal.specs.Layout as older_layout
-use Rattle.journal.specs.Layout.{fewest_blocks, most_blocks}
 use Rattle.journal.specs.PageImages as newer_images
 use Rattle.journal.specs.PageLayout as newer_layout
 use Rattle.journal.specs.PageLayout.{current_at, gate_at, is_gate_of}
 use Rattle.journal.specs.Maps.{block_in}
 use Rattle.journal.proofs.Blocks.{all_below, at_below, length-below, same_below}
-use Rattle.journal.proofs.KnownSizes.{older_count, size_older}
+use Rattle.journal.specs.Layouts as layouts
+use Rattle.journal.specs.declared.sizes.Layout.{Layout}
+use Rattle.journal.specs.declared.sizes.Layout.TheVariants as layouts_of
+use Rattle.journal.proofs.KnownSizes.{newer_count, older_count}
 use Rattle.recovery.specs.Found.{place_in}
 use Rattle.recovery.specs.Label as older_label
-use Rattle.recovery.specs.Opened as older
-use Rattle.recovery.specs.Opened.{damage_refusal, first_of}
-use Rattle.recovery.specs.declared.fault.OpenFault.{OpenFault}
-use Rattle.recovery.specs.declared.fault.OpenFault.TheVariants.{BadSize}
 use Rattle.shadow.specs.Label as newer_label
 use Rattle.shadow.specs.Upgraded.{known_blocks}
 use Rattle.stores.specs.Images.{meaning}
-use Rattle.stores.specs.Opened.{image_refusal, newer_refusal}
+use Rattle.stores.specs.ByLayout.{IsSized}
 use Rattle.stores.proofs.Opened.{newer_meaning, older_meaning}
 use Rattle.image_care.specs.Examined.{count_in, joined_below, reads_to_list, record_in}
-use Rattle.image_care.specs.Looked.{gate_fits_in, reads_to_look, save_in}
+use Rattle.image_care.specs.Looked.{gate_fits_in, reads_by, reads_to_look, save_in}
 use Rattle.image_care.specs.View.{IsOf, fits_by, found_by, is_journal, place_by, save_by, sectors_for, sectors_of}
 use Rattle.image_care.specs.declared.view.Listing.{Listing}
 use Rattle.image_care.specs.declared.view.Listing.TheVariants.{Journal, Pages}
@@ -119,19 +117,6 @@ fit_is view sectors image layout of = by view.listing (older_label.is_size secto
     by (Pages named) true is here = cc
     by (Pages named) false is here = ap (is_gate_of (image gate_at)) (sym here.1)
 
--- By layout 2 the label and the record decide, where the size is good; by layout 3 its own tests do.
-pub refused_as : (n sectors : ℕ) (image : Image) → fewest_blocks ≤ n → n ≤ most_blocks → sectors ≡ older_layout.sectors_for n
-    → older.image_refusal sectors image ≡ first_of (older_label.label_refusal n (image 0)) (damage_refusal n image)
-refused_as n sectors image many few size =
-    λ t. first_of
-    (if not (size_older n sectors many few size t) then Some BadSize else older_label.label_refusal (older_count n sectors size t) (image 0))
-    (damage_refusal (older_count n sectors size t) image)
-
-pub newer_refused : (sectors : ℕ) (image : Image) (told : Option OpenFault) → older_label.is_size sectors ≡ false
-    → newer_refusal sectors image ≡ told → image_refusal sectors image ≡ told
-newer_refused sectors image told isnt refuses =
-    ap (λ b. if b then older.image_refusal sectors image else newer_refusal sectors image) isnt ∙ refuses
-
 -- How many reads a look takes.
 module _ {D : Type 0} (G : Ghosts D) (old new : D) (sectors : ℕ) (image : Image) where
   pub older_looked : (n : ℕ) → older_label.is_size sectors ≡ true → sectors ≡ older_layout.sectors_for n
@@ -144,3 +129,28 @@ module _ {D : Type 0} (G : Ghosts D) (old new : D) (sectors : ℕ) (image : Imag
       → ReadsAtMost G old new (reads_to_look sectors image)
   newer_looked isnt reads =
       subst (λ b. ReadsAtMost G old new (if b then reads_to_list (older_label.blocks_in sectors) image + 1 else 3 * newer_label.blocks_in sectors + 3)) (sym isnt) reads
+
+-- The same by the layout.
+pub size_of_view : (layout : Layout) (n sectors : ℕ) → IsSized layout n sectors → (view : View) → view.blocks.number ≡ n
+    → is_journal view.listing ≡ layouts.is_journal layout → sectors ≡ sectors_of view
+size_of_view layouts_of.Journal n sectors s view count by = s.size ∙ ap older_layout.sectors_for (sym count) ∙ sym (older_sectors_of view by)
+size_of_view layouts_of.Pages n sectors s view count by = s.size ∙ ap newer_layout.sectors_for (sym count) ∙ sym (newer_sectors_of view by)
+
+pub blocks_found : (layout : Layout) (n sectors : ℕ) → IsSized layout n sectors → (image : Image) (view : View) → view.blocks.number ≡ n
+    → is_journal view.listing ≡ layouts.is_journal layout → IsOf view.listing image
+    → (b : ℕ) → b < view.blocks.number → found_by view image b ≡ block_in (meaning sectors image) b
+blocks_found layouts_of.Journal n sectors s image view count by of b below =
+    older_blocks_found sectors image view s.told (s.size ∙ ap older_layout.sectors_for (sym count)) by of b below
+blocks_found layouts_of.Pages n sectors s image view count by of b below =
+    newer_blocks_found sectors image view s.told (s.size ∙ ap newer_layout.sectors_for (sym count)) by of b below
+
+pub looked : {D : Type 0} (G : Ghosts D) (old new : D) (layout : Layout) (n sectors : ℕ) → IsSized layout n sectors → (image : Image)
+    → ReadsAtMost G old new (reads_by layout n image) → ReadsAtMost G old new (reads_to_look sectors image)
+looked G old new layouts_of.Journal n sectors s image reads = older_looked G old new sectors image n s.told s.size reads
+looked G old new layouts_of.Pages n sectors s image reads =
+    newer_looked G old new sectors image s.told (subst (λ m. ReadsAtMost G old new (3 * m + 3)) (sym (newer_count n sectors s.size)) reads)
+
+pub looked_few : {D : Type 0} (G : Ghosts D) (old new : D) (layout : Layout) (n sectors : ℕ) → IsSized layout n sectors
+    → (layout ≡ layouts_of.Pages → ReadsAtMost G old new (3 * n + 3)) → older_label.is_size sectors ≡ false → ReadsAtMost G old new (3 * newer_label.blocks_in sectors + 3)
+looked_few G old new layouts_of.Journal n sectors s reads isnt = absurd (let no : true ≡ false = sym s.told ∙ isnt in cc)
+looked_few G old new layouts_of.Pages n sectors s reads isnt = subst (λ m. ReadsAtMost G old new (3 * m + 3)) (sym (newer_count n sectors s.size)) (reads refl)

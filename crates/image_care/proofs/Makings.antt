@@ -91,11 +91,6 @@ homes_writes n = omega arith
 places_writes : (n : ℕ) → 4 * n + 0 + 3 + 2 ≡ 4 * n + 5
 places_writes n = omega arith
 
--- A device suits a size where it keeps the model that images of this size ask for.
-pub by_size : {D : Type 0} (G : Ghosts D) (d : D) → IsTrue (suits G d) → IsTrue (making.suits G (is_size (G.sector_count d)) d)
-unfolding suits
-by_size G d keeps = keeps
-
 -- What is made by layout 2 is made by the layout that the size tells, where it tells that one.
 module _ (sectors n : ℕ) (is : is_size sectors ≡ true) (size : sectors ≡ journal_layout.sectors_for n) where
   number : n ≡ blocks_in sectors
@@ -122,11 +117,8 @@ module _ (sectors n : ℕ) (is : is_size sectors ≡ true) (size : sectors ≡ j
   journal_rest old new keeps = at_true (is_size sectors) (journal_made.KeepsSlots (blocks_in sectors) old new) (pages_made.KeepsRest old new) is
       (subst (λ k. journal_made.KeepsSlots k old new) number keeps)
 
-  journal_carries : {A B T : Type 0} {result : Result T UpgradeFault} (G : Ghosts A) (H : Ghosts B) (a a' : A) (b b' : B)
-      → Carries G H true a a' b b' (2 * n + 4) 4 1 result → Carries G H (is_size sectors) a a' b b' (writes_to_make sectors) 4 1 result
-  journal_carries {result = result} G H a a' b b' carries =
-      subst (λ (t : Bool). Carries G H t a a' b b' (if t then 2 * blocks_in sectors + 4 else 4 * pages_label.blocks_in sectors + 5) 4 1 result) (sym is)
-      (subst (λ k. Carries G H true a a' b b' (2 * k + 4) 4 1 result) number carries)
+  journal_writes : 2 * n + 2 + 0 + 2 ≡ writes_to_make sectors
+  journal_writes = homes_writes n ∙ (λ t. 2 * number t + 4) ∙ sym (ap (λ b. if b then 2 * blocks_in sectors + 4 else 4 * pages_label.blocks_in sectors + 5) is)
 
 -- The same by layout 3.
 module _ (sectors n : ℕ) (isnt : is_size sectors ≡ false) (size : sectors ≡ pages_layout.sectors_for n) where
@@ -154,11 +146,8 @@ module _ (sectors n : ℕ) (isnt : is_size sectors ≡ false) (size : sectors �
   pages_rest : (old new : Image) → pages_made.KeepsRest old new → KeepsRest sectors old new
   pages_rest old new keeps = at_false (is_size sectors) (journal_made.KeepsSlots (blocks_in sectors) old new) (pages_made.KeepsRest old new) isnt keeps
 
-  pages_carries : {A B T : Type 0} {result : Result T UpgradeFault} (G : Ghosts A) (H : Ghosts B) (a a' : A) (b b' : B)
-      → Carries G H false a a' b b' (4 * n + 5) 4 1 result → Carries G H (is_size sectors) a a' b b' (writes_to_make sectors) 4 1 result
-  pages_carries {result = result} G H a a' b b' carries =
-      subst (λ (t : Bool). Carries G H t a a' b b' (if t then 2 * blocks_in sectors + 4 else 4 * pages_label.blocks_in sectors + 5) 4 1 result) (sym isnt)
-      (subst (λ k. Carries G H false a a' b b' (4 * k + 5) 4 1 result) places carries)
+  pages_writes : 4 * n + 0 + 3 + 2 ≡ writes_to_make sectors
+  pages_writes = places_writes n ∙ (λ t. 4 * places t + 5) ∙ sym (ap (λ b. if b then 2 * blocks_in sectors + 4 else 4 * pages_label.blocks_in sectors + 5) isnt)
 
 -- What a making by layout 2 leaves is what one by the size leaves, where the size tells that layout.
 module _ {B : Type 0} (H : Ghosts B) (new after : B) (size : Size) (is : size.layout ≡ Journal)
@@ -207,10 +196,10 @@ module _ {B : Type 0} (H : Ghosts B) (new after : B) (size : Size) (is : size.la
       (H.disk new) (λ k. alone k (homes_keep keeps)) c (stops (homes_keep keeps) c since))
 
   pub homes_carry : {A T : Type 0} {result : Result T UpgradeFault} (G : Ghosts A) (old old' : A)
-      → Carries G H true old old' new after (2 * size.blocks.number + 2 + 0 + 2) 4 1 result
-      → Carries G H (is_size (H.sector_count new)) old old' new after (writes_to_make (H.sector_count new)) 4 1 result
-  homes_carry {result = result} G old old' carries = journal_carries (H.sector_count new) size.blocks.number homes_size homes_sectors G H old old' new after
-      (subst (λ writes. Carries G H true old old' new after writes 4 1 result) (homes_writes size.blocks.number) carries)
+      → Carries G H old old' new after (2 * size.blocks.number + 2 + 0 + 2) 4 1 result
+      → Carries G H old old' new after (writes_to_make (H.sector_count new)) 4 1 result
+  homes_carry {result = result} G old old' carries =
+      subst (λ writes. Carries G H old old' new after writes 4 1 result) (journal_writes (H.sector_count new) size.blocks.number homes_size homes_sectors) carries
 
 -- The same of layout 3.
 module _ {B : Type 0} (H : Ghosts B) (new after : B) (size : Size) (is : size.layout ≡ Pages)
@@ -259,10 +248,10 @@ module _ {B : Type 0} (H : Ghosts B) (new after : B) (size : Size) (is : size.la
       listing (H.disk new) c (stops (places_keep keeps) c since))
 
   pub places_carry : {A T : Type 0} {result : Result T UpgradeFault} (G : Ghosts A) (old old' : A)
-      → Carries G H false old old' new after (4 * size.blocks.number + 0 + 3 + 2) 4 1 result
-      → Carries G H (is_size (H.sector_count new)) old old' new after (writes_to_make (H.sector_count new)) 4 1 result
-  places_carry {result = result} G old old' carries = pages_carries (H.sector_count new) size.blocks.number no_homes places_sectors G H old old' new after
-      (subst (λ writes. Carries G H false old old' new after writes 4 1 result) (places_writes size.blocks.number) carries)
+      → Carries G H old old' new after (4 * size.blocks.number + 0 + 3 + 2) 4 1 result
+      → Carries G H old old' new after (writes_to_make (H.sector_count new)) 4 1 result
+  places_carry {result = result} G old old' carries =
+      subst (λ writes. Carries G H old old' new after writes 4 1 result) (pages_writes (H.sector_count new) size.blocks.number no_homes places_sectors) carries
 
 -- Where nothing was done, what could be left before is left.
 pub nothing_made : (sectors : ℕ) (blocks : List (List ℕ)) (disk : Disk) (c : Image) → MayLeave disk c → MakingLeaves sectors blocks disk c

@@ -1,4 +1,5 @@
 pub mod Copied
+pub mod During
 pub mod Examined
 pub mod Looked
 pub mod Made

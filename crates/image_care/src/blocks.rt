@@ -2,8 +2,7 @@
 ghost use Rattle.std.specs.Prelude.{◌≡◌, ◌<◌, ◌+◌, ◌*◌, ◌++◌, ℕ, List, IsTrue, OnOk, IfOk};
 ghost use Rattle.sha2.specs.Hashers.{Holds256};
 ghost use Rattle.sha2.specs.Sha256.{sha256};
-ghost use Rattle.sector_disk.specs.Disk.{MayLeave};
-ghost use Rattle.journal.specs.Calls.{StopsLeave, CostsAtMost, Passes};
+ghost use Rattle.journal.specs.Calls.{Reads};
 ghost use Rattle.image_care.specs.Examined.{joined_below};
 ghost use Rattle.image_care.specs.View.{found_by, sectors_of};
 
@@ -23,11 +22,7 @@ fn add_block<D: SectorDevice>(
     ensures ok { IsTrue (D.keeps_model device.old)
         → OnOk result ((m : List ℕ) → Holds256 hasher.old m
         → Holds256 hasher.new (m ++ found_by view.now (D.disk device.old).content b)) }
-    ensures disk { IsTrue (D.keeps_model device.old) → D.disk device.new ≡ D.disk device.old }
-    ensures stops { IsTrue (D.keeps_model device.old)
-        → StopsLeave D.SectorDevice device.old device.new (MayLeave (D.disk device.old)) }
-    ensures passes { Passes D.SectorDevice device.old device.new result }
-    ensures costs { CostsAtMost D.SectorDevice device.old device.new 0 0 2 }
+    ensures reads { Reads D.SectorDevice device.old device.new 2 result }
 {
     let mut bytes = [0; 1024];
     read_pair(device, view.place_of(b), &mut bytes)?;
@@ -45,11 +40,7 @@ fn add_blocks<D: SectorDevice>(
     ensures ok { IsTrue (D.keeps_model device.old)
         → OnOk result ((m : List ℕ) → Holds256 hasher.old m
         → Holds256 hasher.new (m ++ joined_below (found_by view.now (D.disk device.old).content) view.now.blocks.number)) }
-    ensures disk { IsTrue (D.keeps_model device.old) → D.disk device.new ≡ D.disk device.old }
-    ensures stops { IsTrue (D.keeps_model device.old)
-        → StopsLeave D.SectorDevice device.old device.new (MayLeave (D.disk device.old)) }
-    ensures passes { Passes D.SectorDevice device.old device.new result }
-    ensures costs { CostsAtMost D.SectorDevice device.old device.new 0 0 (2 * view.now.blocks.number) }
+    ensures reads { Reads D.SectorDevice device.old device.new (2 * view.now.blocks.number) result }
 {
     for b in 0..view.blocks.number {
         add_block(device, view, b, hasher)?;
@@ -65,11 +56,7 @@ pub(crate) fn digest_of_blocks<D: SectorDevice>(
     requires size { D.sector_count device.old ≡ sectors_of view.now }
     ensures ok { IsTrue (D.keeps_model device.old) → IfOk result (λ digest.
         digest ≡ sha256 (joined_below (found_by view.now (D.disk device.old).content) view.now.blocks.number)) }
-    ensures disk { IsTrue (D.keeps_model device.old) → D.disk device.new ≡ D.disk device.old }
-    ensures stops { IsTrue (D.keeps_model device.old)
-        → StopsLeave D.SectorDevice device.old device.new (MayLeave (D.disk device.old)) }
-    ensures passes { Passes D.SectorDevice device.old device.new result }
-    ensures costs { CostsAtMost D.SectorDevice device.old device.new 0 0 (2 * view.now.blocks.number) }
+    ensures reads { Reads D.SectorDevice device.old device.new (2 * view.now.blocks.number) result }
 {
     let mut hasher = Sha256::new();
     add_blocks(device, view, &mut hasher)?;

@@ -5,7 +5,6 @@ ghost use Rattle.journal.specs.BySize.{Means};
 ghost use Rattle.journal.specs.Calls.{StopsLeave, ReadsAtMost};
 ghost use Rattle.journal.specs.Images.{blocks_below};
 ghost use Rattle.journal.specs.Suits.{suits};
-ghost use Rattle.recovery.specs.Label.{is_size};
 ghost use Rattle.recovery.specs.Making.{Carries, reads_below};
 ghost use Rattle.journal.specs.Layouts.{sectors_for};
 ghost use Rattle.image_care.specs.Made.{IsMade, KeepsRest, MakingLeaves, writes_to_make};
@@ -39,7 +38,7 @@ pub(crate) fn lay<S: Source, A: SectorDevice, B: SectorDevice>(
         (blocks_below (S.bytes_in source.old (A.disk old.old).content) size.blocks.number) (B.disk new.old)) }
     ensures noted { IsTrue (A.keeps_model old.old)
         → OnOk result (S.has_noted source.old source.new (A.disk old.old).content size.blocks.number) }
-    ensures carries { Carries A.SectorDevice B.SectorDevice (is_size (B.sector_count new.old)) old.old old.new new.old new.new
+    ensures carries { Carries A.SectorDevice B.SectorDevice old.old old.new new.old new.new
         (writes_to_make (B.sector_count new.old)) 4 1 result }
     ensures reads { IsTrue (A.keeps_model old.old) → ReadsAtMost A.SectorDevice old.old old.new
         (reads_below (S.reads_in source.old (A.disk old.old).content) size.blocks.number) }

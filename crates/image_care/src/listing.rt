@@ -16,8 +16,12 @@ use journal::layout::{BlockCount, GATE, LABEL, VERSION, gate_is_open};
 use recovery::{OpenFault, check_label, read_record};
 use sector_disk::SectorDevice;
 
-// Reads the label, and looks at it.
-fn read_label<D: SectorDevice>(device: &mut D, version: u16, blocks: u16) -> Result<(), OpenFault>
+// Reads the label, and looks at it by the layout of this version.
+pub(crate) fn read_label<D: SectorDevice>(
+    device: &mut D,
+    version: u16,
+    blocks: u16,
+) -> Result<(), OpenFault>
     requires { 3 ≤ D.sector_count device.old }
     ensures ok { IsTrue (D.keeps_model device.old)
         → OnOk result ((D.disk device.old).content 0 ≡ label_by version blocks) }

@@ -1,33 +1,27 @@
 // An image is looked at: where its blocks stand is found by reads alone.
-ghost use Rattle.std.specs.Prelude.{◌≡◌, ◌≢◌, ◌⊎◌, ◌<◌, ◌+◌, ◌*◌, ℕ, true, false, None, Some, IsTrue, OnOk, IfOk, IfErr, IfSome, OnSome, IfNone, MatchBool, MatchResult};
+ghost use Rattle.std.specs.Prelude.{◌≡◌, ◌≢◌, ◌⊎◌, ◌<◌, ◌+◌, ◌*◌, ℕ, true, false, None, Some, IsTrue, OnOk, IfOk, IfErr, MatchBool, MatchResult};
 ghost use Rattle.sector_disk.specs.Counting.{count_up};
 ghost use Rattle.sector_disk.specs.Disk.{MayLeave};
 ghost use Rattle.journal.specs.Calls.{StopsLeave, BeginsAtMost, ReadsAtMost, Proceeds};
-ghost use Rattle.journal.specs.Chain as older;
-ghost use Rattle.journal.specs.Layout as older_layout;
+ghost use Rattle.journal.specs.Layouts.{sectors_for};
 ghost use Rattle.journal.specs.Maps.{block_in};
-ghost use Rattle.journal.specs.PageLayout as newer_layout;
 ghost use Rattle.recovery.specs.Label.{is_size};
-ghost use Rattle.recovery.specs.Opened as older_opened;
-ghost use Rattle.recovery.specs.Steps.{OnlyRead};
 ghost use Rattle.recovery.specs.declared.fault.OpenFault.TheVariants.{BadSize, Device};
 ghost use Rattle.shadow.specs.Label.{blocks_in, is_known_size};
-ghost use Rattle.shadow.specs.Opened as newer;
 ghost use Rattle.shadow.specs.Upgraded.{known_blocks};
 ghost use Rattle.stores.specs.Images.{HasMeaning, meaning};
-ghost use Rattle.stores.specs.Opened.{image_refusal, newer_refusal};
-ghost use Rattle.image_care.specs.Examined.{reads_to_list};
-ghost use Rattle.image_care.specs.Looked.{reads_to_look};
+ghost use Rattle.stores.specs.Opened.{image_refusal};
+ghost use Rattle.image_care.specs.Looked.{Looks, reads_to_look};
 ghost use Rattle.image_care.specs.View.{IsOf, found_by, is_journal, sectors_of};
 
 use crate::listing::find;
 use crate::pages::find as find_by_pages;
 use crate::view::{Listing, View};
 use journal::NamedRecord;
-use journal::layout::{BlockCount, MOST_BLOCKS, blocks_of_size};
-use journal::sizes::is_known_size;
+use journal::sizes::{Layout, Size, size_of};
 use recovery::OpenFault;
 use sector_disk::SectorDevice;
+use shadow::Found;
 
 /// Finds where the blocks of an image stand, by reads alone: nothing is written, and nothing synced. How many sectors
 /// the device has tells the layout. The blocks are those that an opening would recover. Takes no memory.
@@ -76,93 +70,42 @@ pub fn look<D: SectorDevice>(device: &mut D) -> Result<View, OpenFault>
     ensures few { is_size (D.sector_count device.old) ≡ false
         → ReadsAtMost D.SectorDevice device.old device.new (3 * blocks_in (D.sector_count device.old) + 3) }
 {
-    match journal_blocks(device) {
-        Some(blocks) => look_by_journal(device, blocks),
-        None => look_by_pages(device),
+    match size_of(device.sectors()) {
+        Some(size) => look_by(device, size),
+        None => Err(OpenFault::BadSize),
     }
 }
 
-// How many blocks an image of layout 2 on the device has, where it has the size of one.
-fn journal_blocks<D: SectorDevice>(device: &D) -> Option<BlockCount>
-    ensures size { IfSome result (λ n. D.sector_count device.now ≡ older_layout.sectors_for n.number) }
-    ensures some { OnSome result (is_size (D.sector_count device.now) ≡ true) }
-    ensures none { IfNone result (is_size (D.sector_count device.now) ≡ false) }
+// The same of an image of this size.
+fn look_by<D: SectorDevice>(device: &mut D, size: Size) -> Result<View, OpenFault>
+    requires { D.sector_count device.old ≡ sectors_for size.layout size.blocks.number }
+    ensures looks { Looks D.SectorDevice size.layout size.blocks.number device.old device.new result }
 {
-    match blocks_of_size(device.sectors(), MOST_BLOCKS) {
-        Some(number) => Some(BlockCount { number }),
-        None => None,
+    let blocks = size.blocks;
+    match size.layout {
+        Layout::Journal => match find(device, blocks) {
+            Ok(listing) => Ok(View {
+                blocks,
+                listing: Listing::Journal(listing),
+            }),
+            Err(fault) => Err(fault),
+        },
+        Layout::Pages => match find_by_pages(device, blocks) {
+            Ok(found) => Ok(View {
+                blocks,
+                listing: Listing::Pages(named(&found)),
+            }),
+            Err(fault) => Err(fault),
+        },
     }
 }
 
-// The same of an image of layout 2 of so many blocks.
-fn look_by_journal<D: SectorDevice>(device: &mut D, blocks: BlockCount) -> Result<View, OpenFault>
-    requires size { D.sector_count device.old ≡ older_layout.sectors_for blocks.number }
-    ensures count { IfOk result (λ view. view.blocks.number ≡ blocks.number) }
-    ensures layout { IfOk result (λ view. is_journal view.listing ≡ true) }
-    ensures listing { IsTrue (D.keeps_model device.old)
-        → IfOk result (λ view. IsOf view.listing (D.disk device.old).content) }
-    ensures meaning { IsTrue (D.keeps_model device.old)
-        → OnOk result (older.HasMeaning blocks.number (D.disk device.old).content) }
-    ensures exact { IsTrue (D.keeps_model device.old) → MatchResult result
-        (λ _. older_opened.image_refusal (D.sector_count device.old) (D.disk device.old).content ≡ None)
-        (λ e. (e ≡ Device) ⊎ (older_opened.image_refusal (D.sector_count device.old) (D.disk device.old).content ≡ Some e)) }
-    ensures sized { IfErr result (λ e. e ≢ BadSize) }
-    ensures device { IfErr result (λ e. e ≡ Device → D.failures device.new ≡ count_up (D.failures device.old)) }
-    ensures refused { IfErr result (λ e. e ≢ Device → D.failures device.new ≡ D.failures device.old) }
-    ensures well { OnOk result (D.failures device.new ≡ D.failures device.old) }
-    ensures only_read { OnlyRead D.SectorDevice device.old device.new }
-    ensures reads { IsTrue (D.keeps_model device.old) → ReadsAtMost D.SectorDevice device.old device.new
-        (reads_to_list blocks.number (D.disk device.old).content + 1) }
+fn named(found: &Found) -> NamedRecord
+    ensures is_open { result.is_open ≡ found.now.is_open }
+    ensures listing { result.listing ≡ found.now.listing }
 {
-    match find(device, blocks) {
-        Ok(listing) => Ok(View {
-            blocks,
-            listing: Listing::Journal(listing),
-        }),
-        Err(fault) => Err(fault),
-    }
-}
-
-// The same of an image of layout 3.
-fn look_by_pages<D: SectorDevice>(device: &mut D) -> Result<View, OpenFault>
-    ensures size { IfOk result (λ view. D.sector_count device.old ≡ newer_layout.sectors_for view.blocks.number) }
-    ensures layout { IfOk result (λ view. is_journal view.listing ≡ false) }
-    ensures listing { IsTrue (D.keeps_model device.old)
-        → IfOk result (λ view. IsOf view.listing (D.disk device.old).content) }
-    ensures meaning { IsTrue (D.keeps_model device.old)
-        → IfOk result (λ view. newer.HasMeaning view.blocks.number (D.disk device.old).content) }
-    ensures good { IsTrue (D.keeps_model device.old) → (n : ℕ) → D.sector_count device.old ≡ newer_layout.sectors_for n
-        → newer.HasMeaning n (D.disk device.old).content → is_known_size (D.sector_count device.old) ≡ true
-        → IfErr result (λ e. e ≡ Device) }
-    ensures exact { IsTrue (D.keeps_model device.old) → MatchResult result
-        (λ _. newer_refusal (D.sector_count device.old) (D.disk device.old).content ≡ None)
-        (λ e. (e ≡ Device) ⊎ (newer_refusal (D.sector_count device.old) (D.disk device.old).content ≡ Some e)) }
-    ensures sized { OnOk result (is_known_size (D.sector_count device.old) ≡ true) }
-    ensures bad_size { IfErr result (λ e. MatchBool (is_known_size (D.sector_count device.old)) (e ≢ BadSize) (e ≡ BadSize)) }
-    ensures unasked { IfErr result (λ e. e ≡ BadSize → device.new ≡ device.old) }
-    ensures device { IfErr result (λ e. e ≡ Device → D.failures device.new ≡ count_up (D.failures device.old)) }
-    ensures refused { IfErr result (λ e. e ≢ Device → D.failures device.new ≡ D.failures device.old) }
-    ensures well { OnOk result (D.failures device.new ≡ D.failures device.old) }
-    ensures only_read { OnlyRead D.SectorDevice device.old device.new }
-    ensures reads { ReadsAtMost D.SectorDevice device.old device.new (3 * blocks_in (D.sector_count device.old) + 3) }
-{
-    if !is_known_size(device.sectors()) {
-        return Err(OpenFault::BadSize);
-    }
-    match find_by_pages(device) {
-        Ok(found) => {
-            let listing = found.listing;
-            let named = NamedRecord {
-                is_open: found.is_open,
-                listing,
-            };
-            Ok(View {
-                blocks: BlockCount {
-                    number: found.number,
-                },
-                listing: Listing::Pages(named),
-            })
-        }
-        Err(fault) => Err(fault),
+    NamedRecord {
+        is_open: found.is_open,
+        listing: found.listing,
     }
 }

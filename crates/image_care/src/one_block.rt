@@ -2,7 +2,7 @@
 ghost use Rattle.std.specs.Prelude.{◌≡◌, ◌≢◌, ◌⊎◌, ◌<◌, ◌≤◌, ◌+◌, ◌*◌, true, false, None, Some, IsTrue, OnOk, IfOk, IfErr, IfSome, MatchBool, MatchOption, MatchResult};
 ghost use Rattle.sector_disk.specs.Counting.{count_up};
 ghost use Rattle.sector_disk.specs.Disk.{MayLeave};
-ghost use Rattle.journal.specs.Calls.{StopsLeave, BeginsAtMost, ReadsAtMost, CostsAtMost, Passes, Proceeds};
+ghost use Rattle.journal.specs.Calls.{StopsLeave, BeginsAtMost, ReadsAtMost, CostsAtMost, Proceeds, Reads};
 ghost use Rattle.journal.specs.Maps.{block_in};
 ghost use Rattle.recovery.specs.Label.{is_size};
 ghost use Rattle.recovery.specs.declared.fault.OpenFault.TheVariants.{BadSize, Device};
@@ -109,12 +109,7 @@ pub fn read_found<D: SectorDevice>(
     requires below { b < view.now.blocks.number }
     ensures bytes { IsTrue (D.keeps_model device.old)
         → IfOk result (λ bytes. bytes ≡ found_by view.now (D.disk device.old).content b) }
-    ensures disk { IsTrue (D.keeps_model device.old) → D.disk device.new ≡ D.disk device.old }
-    ensures stops { IsTrue (D.keeps_model device.old)
-        → StopsLeave D.SectorDevice device.old device.new (MayLeave (D.disk device.old)) }
-    ensures passes { Passes D.SectorDevice device.old device.new result }
-    ensures begins { BeginsAtMost D.SectorDevice device.old device.new 0 0 }
-    ensures reads { ReadsAtMost D.SectorDevice device.old device.new 2 }
+    ensures reads { Reads D.SectorDevice device.old device.new 2 result }
 {
     let mut bytes = [0; 1024];
     read_pair(device, view.place_of(b), &mut bytes)?;

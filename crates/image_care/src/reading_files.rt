@@ -135,6 +135,8 @@ impl<R: Files<File = File> + AllocGlobal> HostFiles<ReadOnlyFile> for ReadingFil
 
     ghost makes = { λ files path file. Unit {0} };
 
+    ghost named = { λ files path file. Unit {0} };
+
     // What is no file isn't opened: a folder can be, and a pipe would wait for its other end.
     fn open(&self, path: &str) -> Result<ReadOnlyFile, FileFault> {
         let named = fs::metadata(self.rt, path).map_err(|_| FileFault::Cannot)?;
@@ -167,9 +169,11 @@ impl<R: Files<File = File> + AllocGlobal> HostFiles<ReadOnlyFile> for ReadingFil
         Err(FileFault::Cannot)
     }
 
-    fn keep_name(&self, _path: &str) -> Result<(), HostFault> {
-        Err(HostFault::Failed)
+    fn keep_name(&self, _path: &str, _file: &ReadOnlyFile) -> Result<(), FileFault> {
+        Err(FileFault::Cannot)
     }
+
+    fn drop_made(&self, _path: &str, _file: &ReadOnlyFile) {}
 }
 
 // How many bytes a file has. One of this program's standard streams is in use.

@@ -42,7 +42,7 @@ impl Readings for FileReadings<'_> {
     ghost gives = { λ readings room k what. Unit {0} };
 
     // From another place the bytes would be no whole image, and then a look while a session saves finds none either
-    // (`.ci/pty-trial`).
+    // (`trials/terminal`).
     fn read(&mut self, bytes: &mut [u8]) -> Result<(), HostFault> {
         match self.file.read_exact_at(bytes, 0) {
             Ok(()) => Ok(()),

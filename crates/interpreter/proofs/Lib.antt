@@ -22,6 +22,7 @@ pub mod RoundContract
 pub mod Events
 pub mod LineContract
 pub mod Promised
+pub mod Undoing
 pub mod Serviced
 pub mod Reading
 pub mod Consulting

@@ -17,6 +17,8 @@ use Rattle.interpreter.specs.declared.lines.LineEnd.{LineEnd}
 use Rattle.interpreter.specs.declared.lines.LineEnd.TheVariants as end
 use Rattle.interpreter.specs.declared.forth.Forth.{Forth}
 use Rattle.interpreter.specs.Deeds.{Deed, then, before, after, mended, Fits}
+use Rattle.interpreter.specs.declared.place.LeftAt.{LeftAt}
+use Rattle.interpreter.specs.declared.place.LeftAt.TheVariants as left
 use Rattle.interpreter.specs.declared.place.Place.{Place}
 use Rattle.interpreter.specs.FaultNames.{fault_name}
 use Rattle.interpreter.specs.Law.{run_after, Grows, left}
@@ -45,7 +47,7 @@ use Rattle.interpreter.proofs.Wearing.{within_same, within_then}
 use Rattle.sector_disk.specs.Counting.{count_up}
 
 -- an end that isn't that of a failed terminal
-pub line_left : (start : Run → Ended) (deed : Deed) (e : LineEnd) (place : Option Place) (c : Core) (x : World) → is_broken e ≡ false → LineLeft start deed e place c x → LineComes start deed e place c x
+pub line_left : (start : Run → Ended) (deed : Deed) (e : LineEnd) (place : Option LeftAt) (c : Core) (x : World) → is_broken e ≡ false → LineLeft start deed e place c x → LineComes start deed e place c x
 line_left start deed end.Interpreting place c x well h = h
 line_left start deed end.Compiling place c x well h = h
 line_left start deed end.Quit place c x well h = h
@@ -61,11 +63,11 @@ heard_well end.Io well = absurd (let no : true ≡ false = well in cc)
 
 -- ---- what a terminal that fails leaves
 
-replied_run : (e : lines.LineEnd) (place : Option Place) (o : Outcome World) → (replied e place o).world.run ≡ run_after o
+replied_run : (e : lines.LineEnd) (place : Option LeftAt) (o : Outcome World) → (replied e place o).world.run ≡ run_after o
 replied_run e place (Did c x) = refl
 replied_run e place (Ends i c x) = refl
 
-pub replied_broke : (e : lines.LineEnd) (place : Option Place) (start : Run → Outcome World) (deed : Deed) (c : Core) (x : World) (h : Broke start deed c x) → LineBroke (λ r. replied e place (start r)) deed (with_empty_stack (at_rest h.core)) (dropped x)
+pub replied_broke : (e : lines.LineEnd) (place : Option LeftAt) (start : Run → Outcome World) (deed : Deed) (c : Core) (x : World) (h : Broke start deed c x) → LineBroke (λ r. replied e place (start r)) deed (with_empty_stack (at_rest h.core)) (dropped x)
 replied_broke e place start deed c x h = record {
   breaks = λ r fits none. let b : BreaksOff start deed h.core x r = h.breaks r fits none in record { run = b.run; ends = ap (λ o. replied e place o) b.ends; input = b.input; output = b.output; saves = b.saves };
   grows = λ r fits. subst (λ q. Grows (after (mended deed) r) q) (sym (replied_run e place (start (before (mended deed) r)))) (h.grows r fits);
@@ -80,7 +82,7 @@ same_model {D} {G} b c same model = subst (λ (b : Blocks D G). IsTrue (suits G 
 
 module _ {D T : Type 0} (G : Ghosts D) (H : TerminalGhosts T) (only_now : OnlyNow G) where
   -- it is printed
-  pub said_well : (e : LineEnd) (place : Option Place) (bytes : List ℕ) (forth : Forth D G) (t u : T) (c : Core) (x : World) → is_broken e ≡ false → SameStackAndSpace c forth → RepresentsWorld forth x
+  pub said_well : (e : LineEnd) (place : Option LeftAt) (bytes : List ℕ) (forth : Forth D G) (t u : T) (c : Core) (x : World) → is_broken e ≡ false → SameStackAndSpace c forth → RepresentsWorld forth x
       → H.input u ≡ H.input t → Appends (H.output t) (H.output u) bytes → H.calls u ≡ count_up (H.calls t)
       → RanLine H (λ r. replied (line_end e) place (print bytes c (with_run r x))) e forth (record forth { place = place }) t u x
   said_well e place bytes forth t u c x well same_core rests input printed counted = record {
@@ -96,7 +98,7 @@ module _ {D T : Type 0} (G : Ghosts D) (H : TerminalGhosts T) (only_now : OnlyNo
   }
 
   -- the terminal fails
-  pub said_broke : (e : lines.LineEnd) (place : Option Place) (bytes : List ℕ) (old new : Forth D G) (t u : T) (c : Core) (x : World) → RepresentsWorld old x → new.blocks ≡ old.blocks
+  pub said_broke : (e : lines.LineEnd) (place : Option LeftAt) (bytes : List ℕ) (old new : Forth D G) (t u : T) (c : Core) (x : World) → RepresentsWorld old x → new.blocks ≡ old.blocks
       → ((said : Core) → said.space ≡ c.space → SameStackAndSpace (with_empty_stack (at_rest said)) new) → RepresentsWorld new (dropped x)
       → H.input u ≡ H.input t → AppendsSome (H.output t) (H.output u) bytes → H.calls u ≡ count_up (H.calls t)
       → RanLine H (λ r. replied e place (print bytes c (with_run r x))) end.Io old new t u x
@@ -150,7 +152,7 @@ module _ {D T : Type 0} {G : Ghosts D} (H : TerminalGhosts T) where
 -- ---- what came before the reply
 
 line_comes_then : (start start2 : Run → Ended) (d e : Deed) (first : (r : Run) → Fits d r → start (before d r) ≡ start2 (after d r)) (none : d.met ≡ true → e.given ≡ [])
-    (how : LineEnd) (place : Option Place) (c : Core) (x : World) → LineComes start2 e how place c x → LineComes start (then d e) how place c x
+    (how : LineEnd) (place : Option LeftAt) (c : Core) (x : World) → LineComes start2 e how place c x → LineComes start (then d e) how place c x
 line_comes_then start start2 d e first none how place c x h = pick how h
   where
     comes_of : (r : Run) → Fits (then d e) r → start (before (then d e) r) ≡ start2 (before e (after d r))
@@ -216,12 +218,12 @@ follows_of : (p q : Run) (bytes : List ℕ) → q.output ≡ p.output ++ bytes �
 follows_of p q bytes out saves input failures wear =
     record { grows = record { output = (bytes, out); saves = ([], saves ∙ sym (append-nil p.saves)); wear = within_same p.wear q.wear wear }; input = input; failures = failures }
 
-call_follows : (e : lines.LineEnd) (place : Option Place) (o : Option ℕ) (c : Core) (bytes : List ℕ) (y : World) → Follows y.run (replied e place (terminal_call o c y (λ x. Did c (with_output (x.run.output ++ bytes) x)))).world.run
+call_follows : (e : lines.LineEnd) (place : Option LeftAt) (o : Option ℕ) (c : Core) (bytes : List ℕ) (y : World) → Follows y.run (replied e place (terminal_call o c y (λ x. Did c (with_output (x.run.output ++ bytes) x)))).world.run
 call_follows e place None c bytes y = follows_of y.run (record y.run { output = y.run.output ++ bytes }) bytes refl refl refl refl refl
 call_follows e place (Some zero) c bytes y = follows_of y.run y.run [] (sym (append-nil y.run.output)) refl refl refl refl
 call_follows e place (Some (suc k)) c bytes y = follows_of y.run (record y.run { output = y.run.output ++ bytes; terminal = Some k }) bytes refl refl refl refl refl
 
-said_follows : (e : lines.LineEnd) (place : Option Place) (bytes : List ℕ) (c : Core) (x : World) → Follows x.run (reply e place bytes c x).world.run
+said_follows : (e : lines.LineEnd) (place : Option LeftAt) (bytes : List ℕ) (c : Core) (x : World) → Follows x.run (reply e place bytes c x).world.run
 said_follows e place bytes c x = call_follows e place x.run.terminal c bytes x
 
 line_follows : (b : Bool) (c : Core) (x : World) → Follows x.run (end_of_line b c x).world.run
@@ -230,9 +232,9 @@ line_follows false c x = said_follows lines.LineEnd.Interpreting None (codes " o
 
 ends_follow : (e : Ending) (c : Core) (x : World) → Follows x.run (ended (Ends e c x)).world.run
 ends_follow Quits c x = said_follows lines.LineEnd.Quit None (10 ∷ []) (at_rest c) (dropped x)
-ends_follow Aborts c x = said_follows lines.LineEnd.Quit None (10 ∷ []) (with_empty_stack (at_rest c)) (dropped x)
+ends_follow Aborts c x = said_follows lines.LineEnd.Quit (Some left.Abort) (10 ∷ []) (with_empty_stack (at_rest c)) (dropped x)
 ends_follow Breaks c x = follows_of x.run x.run [] (sym (append-nil x.run.output)) refl refl refl refl
-ends_follow (Faults f) c x = said_follows (lines.LineEnd.Fails f) (Some (place_in c.space)) (codes " ? " ++ (fault_name f ++ 10 ∷ [])) (with_empty_stack (at_rest c)) (dropped x)
+ends_follow (Faults f) c x = said_follows (lines.LineEnd.Fails f) (Some (left.Fault (place_in c.space))) (codes " ? " ++ (fault_name f ++ 10 ∷ [])) (with_empty_stack (at_rest c)) (dropped x)
 
 ended_follows : (o : Outcome World) → Follows (run_after o) (ended o).world.run
 ended_follows (Did c x) = line_follows (compiling c) c x
@@ -334,13 +336,13 @@ module _ {D T : Type 0} (G : Ghosts D) (H : TerminalGhosts T) (counts_now : (d :
       → ((r : Run) → start' r ≡ ended (start r))
       → Lasts G H (Err (stop.Fault f)) (device old) (device mid) t u → Lasts G H (heard_of e) (device mid) (device new) u v
       → place ≡ place_in mid.space → next.blocks ≡ mid.blocks
-      → ((c : Core) → c.space ≡ mid.space → RanLine H (λ r. after_fault (Some place) (fault_of f) c (with_run r h.world)) e next new u v h.world)
+      → ((c : Core) → c.space ≡ mid.space → RanLine H (λ r. after_fault (Some (left.Fault place)) (fault_of f) c (with_run r h.world)) e next new u v h.world)
       → RanLine H start' e old new t v x
   fault_lined start' {e} f place {old} {mid} h opens on on_then is blocks k =
       ends_lined start' (stop.Fault f) refl h opens on on_then
       (λ c like.
       lined_as H (λ r. ended (Ends (Faults (fault_of f)) c (with_run r h.world))) e mid h.world
-      (λ r. ap (λ p. after_fault (Some p) (fault_of f) c (with_run r h.world)) (ap (λ s. place_in s) like ∙ sym is)) blocks refl (k c like))
+      (λ r. ap (λ p. after_fault (Some (left.Fault p)) (fault_of f) c (with_run r h.world)) (ap (λ s. place_in s) like ∙ sym is)) blocks refl (k c like))
 
   -- the terminal failed before the reply
   pub broke_lined : {start : Run → Outcome World} (start' : Run → Ended) {old mid : Forth D G} (new : Forth D G) {t u : T} {x : World} (h : Ran H start (Err stop.Io) old mid t u [] x)

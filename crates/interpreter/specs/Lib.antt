@@ -29,3 +29,4 @@ pub mod TextRounds
 pub mod Reading
 pub mod StopBetweenLines
 pub mod HeldReturns
+pub mod Undoing

@@ -8,7 +8,7 @@ use Rattle.interpreter.specs.declared.fault.Stop.TheVariants as stop
 use Rattle.interpreter.specs.declared.lines.LineEnd.{LineEnd}
 use Rattle.interpreter.specs.declared.lines.LineEnd.TheVariants as end
 use Rattle.interpreter.specs.declared.forth.Forth.{Forth}
-use Rattle.interpreter.specs.declared.place.Place.{Place}
+use Rattle.interpreter.specs.declared.place.LeftAt.{LeftAt}
 use Rattle.interpreter.specs.Deeds.{Deed, before, after, Fits, mended}
 use Rattle.interpreter.specs.Law.{Grows}
 use Rattle.interpreter.specs.Lines as lines
@@ -45,7 +45,7 @@ abbrev pub Counts : LineEnd → (before after : ℕ) → Type 0
 Counts e before after = CountsDevice (line_end e) before after
 
 -- the line ends so, in each run
-pub record LineLeft (start : Run → Ended) (deed : Deed) (e : LineEnd) (place : Option Place) (c : Core) (x : World) : Type 0 where
+pub record LineLeft (start : Run → Ended) (deed : Deed) (e : LineEnd) (place : Option LeftAt) (c : Core) (x : World) : Type 0 where
   pub ends : (r : Run) → Fits deed r → start (before deed r) ≡ record { ending = line_end e; place = place; core = c; world = with_run (after deed r) x }
 
 -- the terminal broke it off
@@ -62,7 +62,7 @@ pub record LineBroke (start : Run → Ended) (deed : Deed) (c : Core) (x : World
   pub input : (r : Run) → Fits deed r → r.terminal ≡ None → r.input ≡ [] → (start (before deed r)).world.run.input ≡ []
   pub failures : (r : Run) → Fits deed r → r.terminal ≡ None → r.answers ≡ [] → (start (before deed r)).world.run.failures ≡ (after deed r).failures
 
-abbrev pub LineComes : (start : Run → Ended) → Deed → LineEnd → Option Place → Core → World → Type 0
+abbrev pub LineComes : (start : Run → Ended) → Deed → LineEnd → Option LeftAt → Core → World → Type 0
 LineComes start deed end.Io place c x = LineBroke start deed c x
 LineComes start deed e place c x = LineLeft start deed e place c x
 
@@ -77,7 +77,8 @@ module _ {D : Type 0} {G : Ghosts D} where
 
   -- between two lines the system stands for this
   pub record RepresentsForth (opening : lines_state.Forth) (forth : Forth D G) : Type 0 where
-    pub budget : opening.budget ≡ forth.budget
+    pub budget : opening.budget ≡ forth.budget.steps
+    pub undoes : opening.undoes ≡ forth.budget.undoes
     pub same_core : SameStackAndSpace opening.core forth
     pub rests : RepresentsWorld forth opening.world
 

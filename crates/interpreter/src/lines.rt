@@ -2,11 +2,14 @@
 ghost use Rattle.std.specs.Prelude.{◌≡◌, ◌++◌, ◌∷◌, [], ◌≤◌, ◌+◌, None, Some, length, codes};
 ghost use Rattle.arrayvec.specs.ArrayVec.{array_vec_len};
 ghost use Rattle.interpreter.specs.FaultNames.{fault_name};
+ghost use Rattle.interpreter.specs.LineContract.{line_end};
+ghost use Rattle.interpreter.specs.Lines.{has_failed};
+ghost use Rattle.interpreter.specs.Told.{has_aborted};
 ghost use Rattle.interpreter.specs.Stops.{fault_of, fault_count};
 
 use crate::fault::{Fault, Stop};
 use crate::forth::Forth;
-use crate::place::Place;
+use crate::place::{LeftAt, Place};
 use crate::system_cells::{BLK, STATE, TIB, TIB_COUNT, TO_IN, cell_of};
 use crate::terminal::{IoFault, Terminal};
 use arrayvec::ArrayVec;
@@ -41,7 +44,7 @@ pub enum LineEnd {
     Interpreting,
     /// `STATE` isn't 0: the reply ended in a line feed.
     Compiling,
-    /// `QUIT`, `ABORT` or a true `ABORT"`.
+    /// `QUIT`, `ABORT` or a true `ABORT"`: which of them is told beside it.
     Quit,
     /// The reply ended in the fault's name.
     Fault(Fault),
@@ -49,17 +52,43 @@ pub enum LineEnd {
     Io,
 }
 
+impl LineEnd {
+    /// Whether a line that was left there failed: a fault, `ABORT`, a true `ABORT"` or a terminal that failed ended it.
+    pub(crate) fn has_failed(&self, place: Option<LeftAt>) -> bool
+        ensures { result ≡ has_failed (line_end self.now) place }
+    {
+        match self {
+            LineEnd::Interpreting => false,
+            LineEnd::Compiling => false,
+            LineEnd::Quit => is_aborted(place),
+            LineEnd::Fault(_) => true,
+            LineEnd::Io => true,
+        }
+    }
+}
+
+/// Whether `ABORT` or a true `ABORT"` left a line there.
+pub(crate) fn is_aborted(place: Option<LeftAt>) -> bool
+    ensures { result ≡ has_aborted place }
+{
+    match place {
+        Some(LeftAt::Fault(_)) => false,
+        Some(LeftAt::Abort) => true,
+        None => false,
+    }
+}
+
 impl<D: SectorDevice> Forth<D> {
-    ghost use Rattle.std.specs.Prelude.{ℕ, List, [], false};
+    ghost use Rattle.std.specs.Prelude.{ℕ, List, [], false, ◌&&◌};
     ghost use Rattle.cell_machine.specs.Frames.{Core};
     ghost use Rattle.cell_machine.specs.Fault.{Quits, Aborts};
     ghost use Rattle.cell_machine.specs.Value.{Ends};
     ghost use Rattle.interpreter.specs.Terminals.{print};
     ghost use Rattle.interpreter.specs.Text.{compiling};
-    ghost use Rattle.interpreter.specs.Lines.{replied, ended, after_fault, end_of_line, at_rest, dropped, with_empty_stack, with_line, line, place_in};
+    ghost use Rattle.interpreter.specs.Lines.{replied, ended, after_fault, end_of_line, at_rest, dropped, with_empty_stack, with_line, line, place_in, settled, settled_by, undone_by};
     ghost use Rattle.interpreter.specs.State.{World, Forth as Abstract, with_run, without_loads};
     ghost use Rattle.interpreter.specs.Representation.{core, device, RepresentsWorld, IsSoundBetweenLines, Represents};
-    ghost use Rattle.interpreter.specs.LineContract.{RanLine, LastsLine, line_end, SameStackAndSpace, SameSpace, RepresentsForth, IsSystem, Cleared, Clears, is_broken, Counts};
+    ghost use Rattle.interpreter.specs.LineContract.{RanLine, LastsLine, SameStackAndSpace, SameSpace, RepresentsForth, IsSystem, Cleared, Clears, is_broken, Counts};
     ghost use Rattle.block_words.specs.Words.{Save};
     ghost use Rattle.interpreter.specs.Promise.{Answers, Keeps, IsPlaced};
     ghost use Rattle.interpreter.specs.ServiceContract.{SparesAll};
@@ -111,7 +140,7 @@ impl<D: SectorDevice> Forth<D> {
         &mut self,
         bytes: &[u8],
         end: LineEnd,
-        place: Option<Place>,
+        place: Option<LeftAt>,
         terminal: &mut T,
     ) -> LineEnd
         requires { is_broken end ≡ false }
@@ -149,7 +178,13 @@ impl<D: SectorDevice> Forth<D> {
     }
 
     /// The end of a line that a fault stopped at this place, if it was at any.
-    fn fail<T: Terminal>(&mut self, fault: Fault, place: Option<Place>, terminal: &mut T) -> LineEnd
+    fn fail<T: Terminal>(
+        &mut self,
+        fault: Fault,
+        place: Option<LeftAt>,
+        terminal: &mut T,
+    ) -> LineEnd
+        requires { has_aborted place ≡ false }
         ensures lined { (c : Core) (x : World) → SameSpace c self.old → RepresentsWorld self.old x
             → RanLine T.Terminal (λ r. after_fault place (fault_of fault) c (with_run r x))
             result self.old self.new terminal.old terminal.new x }
@@ -197,7 +232,7 @@ impl<D: SectorDevice> Forth<D> {
         ensures budget { self.new.budget ≡ self.old.budget }
     {
         self.abandon();
-        self.say(b"\n", LineEnd::Quit, None, terminal)
+        self.say(b"\n", LineEnd::Quit, Some(LeftAt::Abort), terminal)
     }
 
     /// Are words compiled: is `STATE` not 0?
@@ -230,10 +265,10 @@ impl<D: SectorDevice> Forth<D> {
     /// Puts the line into the text input buffer. No load is under way.
     fn take_line(&mut self, text: &[u8])
         requires short { length text.now ≤ 1024 }
-        requires whole { self.old.steps ≡ self.old.budget }
+        requires whole { self.old.steps ≡ self.old.budget.steps }
         ensures stands { (x : World) → RepresentsWorld self.old x → Represents self.new [] (without_loads x) }
-        ensures taken { (c : Core) → SameStackAndSpace c self.old → core self.new ≡ with_line text.now self.old.budget c }
-        ensures steps { self.new.steps ≡ self.old.budget }
+        ensures taken { (c : Core) → SameStackAndSpace c self.old → core self.new ≡ with_line text.now self.old.budget.steps c }
+        ensures steps { self.new.steps ≡ self.old.budget.steps }
         ensures device { self.new.blocks ≡ self.old.blocks }
         ensures budget { self.new.budget ≡ self.old.budget }
     {
@@ -246,22 +281,38 @@ impl<D: SectorDevice> Forth<D> {
         self.space.set_cell(BLK, 0);
     }
 
+    /// Where lines are events, takes back what was changed since the last save, if the line failed.
+    pub(crate) fn take_back(&mut self, end: LineEnd)
+        ensures settles { (x : World) → RepresentsWorld self.old x
+            → RepresentsWorld self.new (settled (self.old.budget.undoes && has_failed (line_end end) self.old.place) x) }
+        ensures rest { self.new ≡ record self.old { blocks = self.new.blocks } }
+        ensures device { device self.new ≡ device self.old }
+    {
+        if !self.budget.undoes {
+            return;
+        }
+        if !end.has_failed(self.place) {
+            return;
+        }
+        self.blocks.discard_changes();
+    }
+
     /// A line as the trait promises it: as a turn. It adds no instruction.
     pub(crate) fn line_as_turn<T: Terminal>(&mut self, text: &[u8], terminal: &mut T) -> LineEnd
         requires sound { IsSoundBetweenLines self.old }
         ensures sound { IsSoundBetweenLines self.new }
         ensures runs { (opening : Abstract) → IsSystem self.old opening
-            → (closing : Abstract) × (made : List Save) × IsSystem self.new closing
-            × Answers D.SectorDevice (line_end result) self.new.place opening text.now closing
+            → (over : Abstract) × (made : List Save) × IsSystem self.new over
+            × Answers D.SectorDevice (line_end result) self.new.place (undone_by (line_end result) self.new.place over) opening text.now (settled_by (line_end result) self.new.place over)
             (T.input terminal.old) (T.input terminal.new) (T.output terminal.old) (T.output terminal.new)
             (T.calls terminal.old) (T.calls terminal.new) (device self.old) (device self.new) made
-            × Keeps D.SectorDevice opening closing (device self.old) (device self.new) made }
+            × Keeps D.SectorDevice opening over (device self.old) (device self.new) made }
         ensures lasts { LastsLine D.SectorDevice T.Terminal result (device self.old) (device self.new) terminal.old terminal.new }
         ensures tells { Counts result (D.failures (device self.old)) (D.failures (device self.new)) }
         ensures clears { Clears result self.new }
         ensures placed { IsPlaced (line_end result) self.new.place }
         ensures budget { self.new.budget ≡ self.old.budget }
-        ensures spends { self.new.steps ≤ self.new.budget }
+        ensures spends { self.new.steps ≤ self.new.budget.steps }
     {
         self.run_line(text, terminal)
     }
@@ -277,9 +328,9 @@ impl<D: SectorDevice> Forth<D> {
         ensures clears { Clears result self.new }
         ensures placed { IsPlaced (line_end result) self.new.place }
         ensures budget { self.new.budget ≡ self.old.budget }
-        ensures spends { self.new.steps ≤ self.new.budget }
+        ensures spends { self.new.steps ≤ self.new.budget.steps }
     {
-        self.steps = self.budget;
+        self.steps = self.budget.steps;
         if text.len() > LINE_LIMIT {
             return self.fail(Fault::LineLength, None, terminal);
         }
@@ -288,7 +339,7 @@ impl<D: SectorDevice> Forth<D> {
             Ok(()) => self.finish(terminal),
             Err(Stop::Fault(fault)) => {
                 let place = self.here_in_stream();
-                self.fail(fault, Some(place), terminal)
+                self.fail(fault, Some(LeftAt::Fault(place)), terminal)
             }
             Err(Stop::Quit) => self.quit(terminal),
             Err(Stop::Abort) => self.abort(terminal),

@@ -20,6 +20,15 @@ pub struct Place {
     pub to_in: u16,
 }
 
+/// Where a line was left before its end.
+#[derive(Clone, Copy, Debug, PartialEq, Eq)]
+pub enum LeftAt {
+    /// At the place of its fault.
+    Fault(Place),
+    /// By `ABORT` or a true `ABORT"`.
+    Abort,
+}
+
 /// How many loads are nested at most.
 pub(crate) const MOST_LOADS: usize = 8;
 

@@ -8,7 +8,6 @@ pub mod Layout
 pub mod Layout1
 pub mod Layouts
 pub mod Maps
-pub mod PageCalls
 pub mod PageClean
 pub mod PageImages
 pub mod PageLayout

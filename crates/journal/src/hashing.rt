@@ -1,8 +1,7 @@
 // Bytes on a device are added to a digest, so that no more than one sector of them lies on the stack.
 ghost use Rattle.std.specs.Prelude.{◌≡◌, ◌<◌, ◌+◌, ◌^◌, ◌++◌, ℕ, List, IsTrue, OnOk};
 ghost use Rattle.sha2.specs.Hashers.{Holds256};
-ghost use Rattle.sector_disk.specs.Disk.{MayLeave};
-ghost use Rattle.journal.specs.Calls.{StopsLeave, CostsAtMost, Passes};
+ghost use Rattle.journal.specs.Calls.{Reads};
 ghost use Rattle.journal.specs.Images.{pair_at};
 
 use sector_disk::{DeviceFault, SectorDevice};
@@ -17,11 +16,7 @@ fn add_sector<D: SectorDevice>(
     requires { k < D.sector_count device.old }
     ensures ok { IsTrue (D.keeps_model device.old)
         → OnOk result ((m : List ℕ) → Holds256 hasher.old m → Holds256 hasher.new (m ++ (D.disk device.old).content k)) }
-    ensures disk { IsTrue (D.keeps_model device.old) → D.disk device.new ≡ D.disk device.old }
-    ensures stops { IsTrue (D.keeps_model device.old)
-        → StopsLeave D.SectorDevice device.old device.new (MayLeave (D.disk device.old)) }
-    ensures passes { Passes D.SectorDevice device.old device.new result }
-    ensures costs { CostsAtMost D.SectorDevice device.old device.new 0 0 1 }
+    ensures reads { Reads D.SectorDevice device.old device.new 1 result }
 {
     let mut bytes = [0; 512];
     device.read(k, &mut bytes)?;
@@ -39,11 +34,7 @@ pub(crate) fn add_pair<D: SectorDevice>(
     requires within { k + 1 < D.sector_count device.old }
     ensures ok { IsTrue (D.keeps_model device.old)
         → OnOk result ((m : List ℕ) → Holds256 hasher.old m → Holds256 hasher.new (m ++ pair_at (D.disk device.old).content k)) }
-    ensures disk { IsTrue (D.keeps_model device.old) → D.disk device.new ≡ D.disk device.old }
-    ensures stops { IsTrue (D.keeps_model device.old)
-        → StopsLeave D.SectorDevice device.old device.new (MayLeave (D.disk device.old)) }
-    ensures passes { Passes D.SectorDevice device.old device.new result }
-    ensures costs { CostsAtMost D.SectorDevice device.old device.new 0 0 2 }
+    ensures reads { Reads D.SectorDevice device.old device.new 2 result }
 {
     add_sector(device, k, hasher)?;
     add_sector(device, k + 1, hasher)

@@ -6,7 +6,7 @@ ghost use Rattle.journal.specs.Costs.{each_reads, each_writes, more_writes, save
 ghost use Rattle.journal.specs.Images.{meaning};
 ghost use Rattle.journal.specs.Layout as journal_layout;
 ghost use Rattle.journal.specs.Layout.{fewest_blocks, most_blocks, listed, count_listed};
-ghost use Rattle.journal.specs.Maps.{Maps, contents, latest, fresh, spilled, committed, shut};
+ghost use Rattle.journal.specs.Maps.{Maps, contents, latest, fresh, spilled, committed, discarded, shut};
 ghost use Rattle.journal.specs.PageClean as pages_clean;
 ghost use Rattle.journal.specs.PageImages as pages_images;
 ghost use Rattle.journal.specs.PageLayout as pages_layout;
@@ -16,6 +16,7 @@ ghost use Rattle.journal.specs.declared.technique.NamedRecord.{NamedRecord};
 ghost use Rattle.journal.specs.declared.technique.Technique.TheVariants.{Journal, Pages};
 
 use crate::layout::{BlockCount, is_listed};
+use crate::listed::count_blocks;
 use crate::pages::layout::{list, sum};
 use crate::technique::{NamedRecord, Technique};
 use sector_disk::SectorDevice;
@@ -181,6 +182,14 @@ impl<D: SectorDevice> Store<D> {
         ensures { result ≡ nat_lt 0 (pending_count self.now) }
     {
         0 < count_blocks(&self.pending, self.blocks)
+    }
+
+    /// Whether block `b`, below `blocks()`, was spilled since the last save. Makes no device call.
+    pub fn is_pending(&self, b: u16) -> bool
+        requires below { b < blocks_of self.now }
+        ensures { result ≡ is_pending self.now b }
+    {
+        is_listed(&self.pending, b)
     }
 
     /// The device, as it is. What was spilled and not committed is given up.
@@ -418,6 +427,44 @@ impl<D: SectorDevice> Store<D> {
             }
         }
     }
+
+    /// Forgets what was spilled since the last commit: the blocks are again as they were saved last. Makes no device
+    /// call. A store that a fault has closed stays closed: which blocks are saved is told by its next opening.
+    /// Rule: MANUAL, Lines that are undone.
+    pub fn discard(&mut self)
+        ensures state { (m : Maps) → StandsFor self.old m → StandsFor self.new (discarded m) }
+        // A commit would save what is saved.
+        ensures latest { (m : Maps) → latest (discarded m) ≡ m.saved }
+        ensures pending { (b : ℕ) → is_pending self.new b ≡ false }
+        // A text that is kept stays at hand, unless its block was spilled.
+        ensures kept { (b : ℕ) → kept_of self.old ≡ Some b → b < blocks_of self.old
+            → is_pending self.old b ≡ false → kept_of self.new ≡ Some b }
+        ensures device { device_of self.new ≡ device_of self.old }
+        ensures blocks { blocks_of self.new ≡ blocks_of self.old }
+        ensures technique { technique_of self.new ≡ technique_of self.old }
+        ensures shuts { closed_of self.new ≡ closed_of self.old }
+    {
+        self.kept = self.saved_text();
+        self.next_sum = self.technique.record_sum();
+        self.pending = empty_record();
+    }
+
+    // The block whose text is kept, where that is its text as it was saved.
+    fn saved_text(&self) -> Option<u16>
+        ensures kept { (b : ℕ) → result ≡ Some b → kept_of self.now ≡ Some b }
+        ensures saved { (b : ℕ) → result ≡ Some b → is_pending self.now b ≡ false }
+        ensures stays { (b : ℕ) → kept_of self.now ≡ Some b → b < blocks_of self.now
+            → is_pending self.now b ≡ false → result ≡ Some b }
+    {
+        let b = self.kept?;
+        if b >= self.blocks.number {
+            return None;
+        }
+        if is_listed(&self.pending, b) {
+            return None;
+        }
+        Some(b)
+    }
 }
 
 // A record that lists no block.
@@ -425,17 +472,4 @@ fn empty_record() -> [u8; 512]
     ensures { (b : ℕ) → listed result b ≡ false }
 {
     [0; 512]
-}
-
-// How many of the first blocks a record lists.
-fn count_blocks(bytes: &[u8; 512], blocks: BlockCount) -> u16
-    ensures { result ≡ count_listed bytes.now blocks.number }
-{
-    let mut count = 0;
-    for b in 0..blocks.number {
-        if is_listed(bytes, b) {
-            count += 1;
-        }
-    }
-    count
 }

@@ -1,19 +1,21 @@
 -- How calls that make an image follow one another.
-use Rattle.std.proofs.Common.{◌≡◌, ◌≢◌, inl, inr, ⊎_elim, ℕ, zero, suc, ◌+◌, ◌*◌, ◌<◌, ◌≤◌, Bool, true, false, cond, List, Result, Ok, Err, refl, sym, ◌∙◌, ap, subst, arith, add-one, IsTrue}
-use Rattle.std.specs.Prelude.{◌==◌, IsOk, IsErr, OnOk, IfErr}
+use Rattle.std.proofs.Common.{◌≡◌, ◌≢◌, inl, inr, ⊎_elim, ℕ, zero, suc, ◌+◌, ◌*◌, ◌<◌, ◌≤◌, false, List, Result, Ok, Err, refl, sym, ◌∙◌, ap, subst, arith, add-one, IsTrue}
+use Rattle.std.specs.Prelude.{IsOk, IsErr, OnOk, IfErr}
 use Rattle.std.proofs.Math.Nat.{mul-suc, mul-le-mul_left}
 use Rattle.std.proofs.lemmas.Bool.{cases_eq}
-use Rattle.std.proofs.lemmas.Bool.Decides.{nat_tests}
 use Rattle.sector_disk.specs.Counting.{count_up}
-use Rattle.sector_disk.specs.Disk.{Image, Disk, MayLeave, MayLeaveEither, MayWrite, with_sector, written, settled}
+use Rattle.sector_disk.specs.Disk.{Image, Disk, MayLeave, with_sector, written, settled}
 use Rattle.sector_disk.specs.Pages.{IsPaged}
 use Rattle.sector_disk.specs.declared.device.SectorDevice.{Ghosts}
 use Rattle.sector_disk.proofs.Moments.{leaves_then, elapses_refl, sector_same, sector_other}
 use Rattle.journal.specs.Calls.{StopsLeave, BeginsAtMost, ReadsAtMost, Passes, Proceeds}
+use Rattle.journal.specs.Layouts.{asks}
 use Rattle.journal.specs.Steps.{WritesOnly, IsAsSynced}
+use Rattle.journal.specs.declared.sizes.Layout.{Layout}
+use Rattle.journal.specs.declared.sizes.Layout.TheVariants.{Journal, Pages}
 use Rattle.journal.proofs.Calls.{Widens, proceeds, proceeds_then}
-use Rattle.journal.proofs.Paging.{nothing_written, only_then, left_then, now_left}
-use Rattle.recovery.specs.Making.{InUnit, IsApart, IsUnlabelled, IsReady, IsMade, TakenAway, Sealed, WrittenLeaves, suits, KeepsUnits, Carries, reads_below}
+use Rattle.journal.proofs.Paging.{only_then, left_then}
+use Rattle.recovery.specs.Making.{InUnit, IsApart, IsUnlabelled, IsReady, IsMade, TakenAway, Sealed, WrittenLeaves, Carries, reads_below}
 use Rattle.recovery.specs.Steps.{OnlyRead, WentWell, TellsFault}
 use Rattle.recovery.specs.declared.fault.OpenFault.TheVariants.{Device}
 use Rattle.recovery.specs.declared.fault.UpgradeFault.{UpgradeFault}
@@ -21,40 +23,20 @@ use Rattle.recovery.specs.declared.fault.UpgradeFault.TheVariants.{New}
 use Rattle.recovery.proofs.Formats.{same_or_not}
 use Rattle.recovery.proofs.Upgrades.{only_read_then}
 
-unless : (a b : ℕ) (x : Bool) → a ≢ b → cond (a == b) true x ≡ x
-unless a b x other = grind (arith, nat_tests)
-
--- A write spoils its unit.
-module _ (old : Disk) (k : ℕ) where
-  wrote_unit : (bytes : List ℕ) → WritesOnly (InUnit old k) old (written old k bytes)
-  wrote_unit bytes = record {
-    content = λ j out. sector_other old.content k j bytes (λ same. out (ap old.unit same));
-    synced = λ j. refl;
-    unsynced = λ j out. unless (old.unit j) (old.unit k) (old.unsynced j) out;
-  }
-
-  pub may_unit : (new : Disk) → MayWrite k old new → WritesOnly (InUnit old k) old new
-  may_unit new = ⊎_elim
-      (λ same. subst (λ (d : Disk). WritesOnly (InUnit old k) old d) (sym same) (nothing_written (InUnit old k) old))
-      (λ some. subst (λ (d : Disk). WritesOnly (InUnit old k) old d) (sym some.1) (wrote_unit some.0))
-
-  pub unit_left : (new : Disk) (c : Image) → MayWrite k old new → MayLeaveEither old new c → IsAsSynced (InUnit old k) old c
-  unit_left new c may = ⊎_elim (λ left j out clear. left j clear) (λ left. now_left (InUnit old k) old new c (may_unit new may) left)
-
 -- The label lies apart from no image.
-pub not_apart : (by_sectors : Bool) → ¬ IsApart by_sectors 0
-not_apart true apart = apart refl
-not_apart false apart = absurd (omega (arith, apart))
+pub not_apart : (layout : Layout) → ¬ IsApart layout 0
+not_apart Journal apart = apart refl
+not_apart Pages apart = absurd (omega (arith, apart))
 
-apart_other : (by_sectors : Bool) (k : ℕ) → IsApart by_sectors k → k ≢ 0
-apart_other true k apart = apart
-apart_other false k apart = λ first. absurd (omega (arith, apart, first))
+apart_other : (layout : Layout) (k : ℕ) → IsApart layout k → k ≢ 0
+apart_other Journal k apart = apart
+apart_other Pages k apart = λ first. absurd (omega (arith, apart, first))
 
 -- What is written apart from the label stays beside its unit.
-pub apart_unit : (by_sectors : Bool) (disk : Disk) → (IsTrue by_sectors → (k : ℕ) → disk.unit k ≡ k) → IsPaged disk
-    → (k : ℕ) → IsApart by_sectors k → ¬ InUnit disk 0 k
-apart_unit true disk own paged k apart same = apart (sym (own refl k) ∙ same ∙ own refl 0)
-apart_unit false disk own paged k apart same = absurd (omega (arith, apart, paged k 0 same))
+pub apart_unit : (layout : Layout) (disk : Disk) → (layout ≡ Journal → (k : ℕ) → disk.unit k ≡ k) → IsPaged disk
+    → (k : ℕ) → IsApart layout k → ¬ InUnit disk 0 k
+apart_unit Journal disk own paged k apart same = apart (sym (own refl k) ∙ same ∙ own refl 0)
+apart_unit Pages disk own paged k apart same = absurd (omega (arith, apart, paged k 0 same))
 
 -- What a stop leaves.
 module _ (label : List ℕ) (disk : Disk) where
@@ -80,51 +62,48 @@ module _ (label : List ℕ) (disk : Disk) where
       (same_or_not (c 0) label)
 
   -- Apart from the label no write puts the good one there, and no stop does.
-  pub bad_left : (by_sectors : Bool) → MayLeave disk disk.content → IsUnlabelled label disk → (c : Image) → IsAsSynced (IsApart by_sectors) disk c → c 0 ≢ label
-  bad_left by_sectors present bad c is good =
-      bad.other (present 0 (bad.synced 0) ∙ sym (is 0 (not_apart by_sectors) (bad.synced 0)) ∙ good)
+  pub bad_left : (layout : Layout) → MayLeave disk disk.content → IsUnlabelled label disk → (c : Image) → IsAsSynced (IsApart layout) disk c → c 0 ≢ label
+  bad_left layout present bad c is good =
+      bad.other (present 0 (bad.synced 0) ∙ sym (is 0 (not_apart layout) (bad.synced 0)) ∙ good)
 
 module _ {D : Type 0} (device : Ghosts D) where
   -- What suits keeps the model, and goes on doing so.
-  pub suits_model : ((d : D) → IsTrue (device.keeps_sectors d) → IsTrue (device.keeps_model d)) → (by_sectors : Bool) (d : D)
-      → IsTrue (suits device by_sectors d) → IsTrue (device.keeps_model d)
-  suits_model both true d is = both d is
-  suits_model both false d is = is
+  pub suits_model : ((d : D) → IsTrue (device.keeps_sectors d) → IsTrue (device.keeps_model d)) → (layout : Layout) (d : D)
+      → IsTrue (asks device layout d) → IsTrue (device.keeps_model d)
+  suits_model both Journal d is = both d is
+  suits_model both Pages d is = is
 
-  pub suits_on : (by_sectors : Bool) (a b : D) → Proceeds device a b → IsTrue (suits device by_sectors a) → IsTrue (suits device by_sectors b)
-  suits_on true a b run is = subst IsTrue (sym run.units) is
-  suits_on false a b run is = subst IsTrue (sym run.model) is
+  pub suits_on : (layout : Layout) (a b : D) → Proceeds device a b → IsTrue (asks device layout a) → IsTrue (asks device layout b)
+  suits_on Journal a b run is = subst IsTrue (sym run.units) is
+  suits_on Pages a b run is = subst IsTrue (sym run.model) is
 
-  pub suits_before : (by_sectors : Bool) (a b : D) → Proceeds device a b → IsTrue (suits device by_sectors b) → IsTrue (suits device by_sectors a)
-  suits_before true a b run is = subst IsTrue run.units is
-  suits_before false a b run is = subst IsTrue run.model is
+  pub suits_before : (layout : Layout) (a b : D) → Proceeds device a b → IsTrue (asks device layout b) → IsTrue (asks device layout a)
+  suits_before Journal a b run is = subst IsTrue run.units is
+  suits_before Pages a b run is = subst IsTrue run.model is
 
   -- by sectors each unit is a sector
-  pub suits_own : ((d : D) (k : ℕ) → IsTrue (device.keeps_sectors d) → (device.disk d).unit k ≡ k) → (by_sectors : Bool) (d : D)
-      → IsTrue (suits device by_sectors d) → IsTrue by_sectors → (k : ℕ) → (device.disk d).unit k ≡ k
-  suits_own own true d is by k = own d k is
-  suits_own own false d is by k = cc
+  pub suits_own : ((d : D) (k : ℕ) → IsTrue (device.keeps_sectors d) → (device.disk d).unit k ≡ k) → (layout : Layout) (d : D)
+      → IsTrue (asks device layout d) → layout ≡ Journal → (k : ℕ) → (device.disk d).unit k ≡ k
+  suits_own own Journal d is by k = own d k is
+  suits_own own Pages d is by k = absurd (cc)
 
   -- one run of calls after another
-  pub only_on : (P : ℕ → Type 0) (by_sectors : Bool) (a b d : D) → Proceeds device a b
-      → (IsTrue (suits device by_sectors a) → WritesOnly P (device.disk a) (device.disk b))
-      → (IsTrue (suits device by_sectors b) → WritesOnly P (device.disk b) (device.disk d))
-      → IsTrue (suits device by_sectors a) → WritesOnly P (device.disk a) (device.disk d)
-  only_on P by_sectors a b d one early late is =
-      only_then P (device.disk a) (device.disk b) (device.disk d) (early is) (late (suits_on by_sectors a b one is))
+  pub only_on : (P : ℕ → Type 0) (layout : Layout) (a b d : D) → Proceeds device a b
+      → (IsTrue (asks device layout a) → WritesOnly P (device.disk a) (device.disk b))
+      → (IsTrue (asks device layout b) → WritesOnly P (device.disk b) (device.disk d))
+      → IsTrue (asks device layout a) → WritesOnly P (device.disk a) (device.disk d)
+  only_on P layout a b d one early late is =
+      only_then P (device.disk a) (device.disk b) (device.disk d) (early is) (late (suits_on layout a b one is))
 
-  pub stops_on : (P : ℕ → Type 0) (by_sectors : Bool) (a b d : D) → Proceeds device a b → Proceeds device b d
-      → (IsTrue (suits device by_sectors a) → WritesOnly P (device.disk a) (device.disk b))
-      → (IsTrue (suits device by_sectors a) → StopsLeave device a b (IsAsSynced P (device.disk a)))
-      → (IsTrue (suits device by_sectors b) → StopsLeave device b d (IsAsSynced P (device.disk b)))
-      → IsTrue (suits device by_sectors a) → StopsLeave device a d (IsAsSynced P (device.disk a))
-  stops_on P by_sectors a b d one two only early late is = leaves_then device.time device.left_since a b d
+  pub stops_on : (P : ℕ → Type 0) (layout : Layout) (a b d : D) → Proceeds device a b → Proceeds device b d
+      → (IsTrue (asks device layout a) → WritesOnly P (device.disk a) (device.disk b))
+      → (IsTrue (asks device layout a) → StopsLeave device a b (IsAsSynced P (device.disk a)))
+      → (IsTrue (asks device layout b) → StopsLeave device b d (IsAsSynced P (device.disk b)))
+      → IsTrue (asks device layout a) → StopsLeave device a d (IsAsSynced P (device.disk a))
+  stops_on P layout a b d one two only early late is = leaves_then device.time device.left_since a b d
       (IsAsSynced P (device.disk a)) (IsAsSynced P (device.disk b)) (IsAsSynced P (device.disk a))
-      one.time two.time (early is) (late (suits_on by_sectors a b one is))
+      one.time two.time (early is) (late (suits_on layout a b one is))
       (λ x at. at) (λ x at. left_then P (device.disk a) (device.disk b) x (only is) at)
-
-  pub units_on : (by_sectors : Bool) (a b d : D) → Proceeds device a b → KeepsUnits device by_sectors a b → KeepsUnits device by_sectors b d → KeepsUnits device by_sectors a d
-  units_on by_sectors a b d one early late is = late (suits_on by_sectors a b one is) ∙ early is
 
   pub begins_then : (a b d : D) (w s v t most_writes most_syncs : ℕ) → w + v ≤ most_writes → s + t ≤ most_syncs
       → BeginsAtMost device a b w s → BeginsAtMost device b d v t → BeginsAtMost device a d most_writes most_syncs
@@ -138,7 +117,7 @@ module _ {D : Type 0} (device : Ghosts D) where
   only_read_none only_now d = record {
     disk = λ keeps. refl;
     stops = λ keeps c since. only_now d c since;
-    passes = record { sectors = refl; model = refl; units = refl; time = elapses_refl device.time device.left_since d; failures = omega arith };
+    passes = record { sectors = refl; model = refl; units = refl; unit = λ keeps. refl; time = elapses_refl device.time device.left_since d; failures = omega arith };
     begins = record { few_writes = omega arith; few_syncs = omega arith };
   }
 
@@ -154,7 +133,7 @@ on_ok : {T E : Type 0} (r : Result T E) (P Q : Type 0) → (P → Q) → OnOk r 
 on_ok (Ok x) P Q f p = f p
 on_ok (Err e) P Q f p = p
 
-module _ {A B : Type 0} (G : Ghosts A) (H : Ghosts B) (by_sectors : Bool) where
+module _ {A B : Type 0} (G : Ghosts A) (H : Ghosts B) where
   tells_then : (a b d : A) (x y z : B) → WentWell G H a b x y → (e : UpgradeFault) → TellsFault G H b d y z e → TellsFault G H a d x z e
   tells_then a b d x y z well e = ⊎_elim
       (λ old. inl (old.0, old.1 ∙ ap count_up well.0, old.2 ∙ well.1))
@@ -163,12 +142,11 @@ module _ {A B : Type 0} (G : Ghosts A) (H : Ghosts B) (by_sectors : Bool) where
   -- one run of calls that went well, and then another
   pub carries_then : {T U : Type 0} {first : Result T UpgradeFault} {second : Result U UpgradeFault} (a b d : A) (x y z : B) → Widens G → Widens H
       → (w s r v t q most_writes most_syncs most_reads : ℕ) → w + v ≤ most_writes → s + t ≤ most_syncs → r + q ≤ most_reads
-      → WentWell G H a b x y → Carries G H by_sectors a b x y w s r first → Carries G H by_sectors b d y z v t q second
-      → Carries G H by_sectors a d x z most_writes most_syncs most_reads second
+      → WentWell G H a b x y → Carries G H a b x y w s r first → Carries G H b d y z v t q second
+      → Carries G H a d x z most_writes most_syncs most_reads second
   carries_then {second = second} a b d x y z widens widens' w s r v t q most_writes most_syncs most_reads few less fewer well one two = record {
     source = only_read_then G a b d widens one.source two.source;
     passes = proceeds_then H x y z widens' one.passes two.passes;
-    units = units_on H by_sectors x y z one.passes one.units two.units;
     begins = begins_then H x y z w s v t most_writes most_syncs few less one.begins two.begins;
     few_reads = omega (arith, fewer, one.few_reads, two.few_reads);
     faults = if_err second (TellsFault G H b d y z) (TellsFault G H a d x z) (tells_then a b d x y z well) two.faults;
@@ -177,12 +155,11 @@ module _ {A B : Type 0} (G : Ghosts A) (H : Ghosts B) (by_sectors : Bool) where
 
   -- A step of the target alone went well, or failed.
   pub carries_well : {T : Type 0} (a : A) (x y : B) → OnlyRead G a a → (w s r : ℕ)
-      → {U E : Type 0} {step : Result U E} → IsOk step → Passes H x y step → KeepsUnits H by_sectors x y → BeginsAtMost H x y w s → ReadsAtMost H x y r
-      → (value : T) → Carries G H by_sectors a a x y w s r (Ok value)
-  carries_well a x y none w s r is passes units begins reads value = record {
+      → {U E : Type 0} {step : Result U E} → IsOk step → Passes H x y step → BeginsAtMost H x y w s → ReadsAtMost H x y r
+      → (value : T) → Carries G H a a x y w s r (Ok value)
+  carries_well a x y none w s r is passes begins reads value = record {
     source = none;
     passes = proceeds H x y passes;
-    units = units;
     begins = begins;
     few_reads = reads;
     faults = tt;
@@ -190,12 +167,11 @@ module _ {A B : Type 0} (G : Ghosts A) (H : Ghosts B) (by_sectors : Bool) where
   }
 
   pub carries_failed : {T : Type 0} (a : A) (x y : B) → OnlyRead G a a → (w s r : ℕ)
-      → {U E : Type 0} {step : Result U E} → IsErr step → Passes H x y step → KeepsUnits H by_sectors x y → BeginsAtMost H x y w s → ReadsAtMost H x y r
-      → Carries G H {T = T} by_sectors a a x y w s r (Err (New Device))
-  carries_failed a x y none w s r is passes units begins reads = record {
+      → {U E : Type 0} {step : Result U E} → IsErr step → Passes H x y step → BeginsAtMost H x y w s → ReadsAtMost H x y r
+      → Carries G H {T = T} a a x y w s r (Err (New Device))
+  carries_failed a x y none w s r is passes begins reads = record {
     source = none;
     passes = proceeds H x y passes;
-    units = units;
     begins = begins;
     few_reads = reads;
     faults = inr (refl, refl, passes.failures.rises is);
@@ -203,24 +179,20 @@ module _ {A B : Type 0} (G : Ghosts A) (H : Ghosts B) (by_sectors : Bool) where
   }
 
 -- The label is written over what is ready.
-module _ (label : List ℕ) (is_filled : Image → Type 0) (by_sectors : Bool) (disk : Disk)
-    (own : IsTrue by_sectors → (k : ℕ) → disk.unit k ≡ k) (paged : IsPaged disk)
-    (kept : (old new : Image) → is_filled old → ((k : ℕ) → IsApart by_sectors k → new k ≡ old k) → is_filled new) (ready : IsReady label is_filled disk) where
+module _ (label : List ℕ) (is_filled : Image → Type 0) (layout : Layout) (disk : Disk)
+    (own : layout ≡ Journal → (k : ℕ) → disk.unit k ≡ k) (paged : IsPaged disk)
+    (kept : (old new : Image) → is_filled old → ((k : ℕ) → IsApart layout k → new k ≡ old k) → is_filled new) (ready : IsReady label is_filled disk) where
   pub sealed_leaves : (c : Image) → Sealed label disk c → WrittenLeaves label is_filled c
   sealed_leaves c = ⊎_elim
       (λ bad. inl bad)
-      (λ good. inr (good.0, kept disk.content c ready.filled (λ k apart. good.1 k (apart_unit by_sectors disk own paged k apart))))
+      (λ good. inr (good.0, kept disk.content c ready.filled (λ k apart. good.1 k (apart_unit layout disk own paged k apart))))
 
   pub made_of : IsMade label is_filled (settled (written disk 0 label))
   made_of = record {
-    filled = kept disk.content (with_sector disk.content 0 label) ready.filled (λ k apart. sector_other disk.content 0 k label (apart_other by_sectors k apart));
+    filled = kept disk.content (with_sector disk.content 0 label) ready.filled (λ k apart. sector_other disk.content 0 k label (apart_other layout k apart));
     labelled = sector_same disk.content 0 label;
     synced = λ k. refl;
   }
-
--- Where each sector is a unit of its own, the units stay.
-pub own_units : (d e : Disk) → ((k : ℕ) → d.unit k ≡ k) → ((k : ℕ) → e.unit k ≡ k) → e.unit ≡ d.unit
-own_units d e early late t k = (late k ∙ sym (early k)) t
 
 -- One block more is written.
 pub times_more : (w b : ℕ) → w * b + w ≤ w * (b + 1)

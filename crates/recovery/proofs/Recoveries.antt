@@ -6,7 +6,9 @@ use Rattle.sector_disk.specs.declared.device.SectorDevice.{Ghosts}
 use Rattle.journal.specs.Calls.{BeginsAtMost, ReadsAtMost}
 use Rattle.journal.specs.Chain.{HasMeaning, Follows}
 use Rattle.journal.specs.Images.{is_damaged}
-use Rattle.journal.specs.Layout.{fewest_blocks, most_blocks, gate_open, sectors_for, count_listed}
+use Rattle.journal.specs.Clean.{IsClean}
+use Rattle.journal.specs.Layout.{fewest_blocks, most_blocks, gate_open, label_by, sectors_for, count_listed}
+use Rattle.journal.specs.Steps.{HasRecovered}
 use Rattle.recovery.specs.Opened.{damage_refusal, first_of, image_refusal, RecoveryLeaves, writes_for, syncs_for, reads_for}
 use Rattle.recovery.specs.Label.{blocks_in, is_size, label_refusal, label_refusal_by}
 use Rattle.recovery.specs.Recovered.{damage_refusal_by, LeavesBy, recovery_refusal, record_reads, reads_by}
@@ -63,6 +65,14 @@ second_none None second is = is
 -- What isn't refused by layout 2 is whole.
 pub whole_by : (n : ℕ) (image : Image) → recovery_refusal 2 n image ≡ None → is_damaged n image ≡ false
 whole_by n image none = not_damaged n image (second_none (label_refusal n (image 0)) (damage_refusal n image) none)
+
+-- What is recovered under the good label is clean.
+pub clean_by : (n : ℕ) (old new : Disk) → fewest_blocks ≤ n → n ≤ most_blocks → old.content 0 ≡ label_by 2 n → HasRecovered n old new → IsClean n new
+clean_by n old new many few label done = record {
+  label = record { many = many; few = few; label = done.label ∙ label };
+  gate = done.gate;
+  synced = done.synced;
+}
 
 -- where the label has passed
 pub refusal_past : (version n : ℕ) (image : Image) → label_refusal_by version n (image 0) ≡ None

@@ -1,10 +1,13 @@
 -- How an image is made: its parts are laid under another label than its own, and then the label is written. Of every layout.
-use Rattle.std.specs.Prelude.{◌≡◌, ◌≢◌, ◌⊎◌, ◌+◌, ◌≤◌, ℕ, zero, suc, Bool, false, IsTrue, if◌then◌else◌, List, replicate, slice_index, Result, OnOk, IfErr, MatchBool}
+use Rattle.std.specs.Prelude.{◌≡◌, ◌≢◌, ◌⊎◌, ◌+◌, ◌≤◌, ◌<◌, ℕ, zero, suc, false, IsTrue, List, replicate, slice_index, Result, OnOk, IfErr}
 use Rattle.std.proofs.Common.{ap, arith}
 use Rattle.sector_disk.specs.Disk.{Disk, Image, MayLeave}
 use Rattle.sector_disk.specs.declared.device.SectorDevice.{Ghosts}
 use Rattle.journal.specs.Calls.{StopsLeave, BeginsAtMost, ReadsAtMost, Passes, Proceeds}
 use Rattle.journal.specs.Layout.{label_by}
+use Rattle.journal.specs.Layouts.{asks, label_of, sectors_for}
+use Rattle.journal.specs.declared.sizes.Layout.{Layout}
+use Rattle.journal.specs.declared.sizes.Layout.TheVariants.{Journal, Pages}
 use Rattle.journal.specs.Steps.{WritesOnly, IsAsSynced}
 use Rattle.recovery.specs.Steps.{OnlyRead, WentWell, TellsFault}
 use Rattle.recovery.specs.declared.fault.UpgradeFault.{UpgradeFault}
@@ -22,8 +25,9 @@ pub record MayLeaveAround (disk : Disk) (image : Image) : Type 0 where
   pub rest : (k : ℕ) → ¬ InUnit disk 0 k → image k ≡ from k
 
 -- A write of sector k leaves the label: by sectors each other one does, and else those past the page of the label.
-abbrev pub IsApart : Bool → ℕ → Type 0
-IsApart by_sectors k = MatchBool by_sectors (k ≢ 0) (8 ≤ k)
+abbrev pub IsApart : Layout → ℕ → Type 0
+IsApart Journal k = k ≢ 0
+IsApart Pages k = 8 ≤ k
 
 -- Another label stands, and nothing is unsynced.
 pub record IsUnlabelled (label : List ℕ) (disk : Disk) : Type 0 where
@@ -65,36 +69,34 @@ reads_below reads zero = 0
 reads_below reads (suc b) = reads_below reads b + reads b
 
 module _ {D : Type 0} (G : Ghosts D) where
-  -- A device keeps the model that a layout asks for: by sectors, or that of pages.
-  abbrev pub suits : Bool → D → Bool
-  suits by_sectors d = if by_sectors then G.keeps_sectors d else G.keeps_model d
-
-  -- The units stay.
-  abbrev pub KeepsUnits : Bool → D → D → Type 0
-  KeepsUnits by_sectors old new = IsTrue (suits by_sectors old) → (G.disk new).unit ≡ (G.disk old).unit
-
   -- Calls that lay a part of an image apart from its label: they sync and read nothing, begin so many writes at most, and end at the
   -- first failure. A stop of them spoils no other sector.
-  pub record Lays {T E : Type 0} (by_sectors : Bool) (old new : D) (writes : ℕ) (result : Result T E) : Type 0 where
-    pub only : IsTrue (suits by_sectors old) → WritesOnly (IsApart by_sectors) (G.disk old) (G.disk new)
-    pub stops : IsTrue (suits by_sectors old) → StopsLeave G old new (IsAsSynced (IsApart by_sectors) (G.disk old))
+  pub record Lays {T E : Type 0} (layout : Layout) (old new : D) (writes : ℕ) (result : Result T E) : Type 0 where
+    pub only : IsTrue (asks G layout old) → WritesOnly (IsApart layout) (G.disk old) (G.disk new)
+    pub stops : IsTrue (asks G layout old) → StopsLeave G old new (IsAsSynced (IsApart layout) (G.disk old))
     pub passes : Passes G old new result
-    pub units : KeepsUnits by_sectors old new
     pub begins : BeginsAtMost G old new writes 0
     pub reads : ReadsAtMost G old new 0
 
 module _ {A B : Type 0} (G : Ghosts A) (H : Ghosts B) where
   -- Calls that only read one device and work on another one, of which they begin so many at most. They end at the first failure, and
   -- tell whose it was.
-  pub record Carries {T : Type 0} (by_sectors : Bool) (from from' : A) (to to' : B) (writes syncs reads : ℕ) (result : Result T UpgradeFault) : Type 0 where
+  pub record Carries {T : Type 0} (from from' : A) (to to' : B) (writes syncs reads : ℕ) (result : Result T UpgradeFault) : Type 0 where
     pub source : OnlyRead G from from'
     pub passes : Proceeds H to to'
-    pub units : KeepsUnits H by_sectors to to'
     pub begins : BeginsAtMost H to to' writes syncs
     pub few_reads : ReadsAtMost H to to' reads
     pub faults : IfErr result (TellsFault G H from from' to to')
     pub well : OnOk result (WentWell G H from from' to to')
 
--- No label is all zeros.
+-- No label is all zeros, and each image has a sector for its label.
 pub labels_told : (version n : ℕ) → label_by version n ≢ replicate 512 0
 labels_told version n same = absurd (omega (arith, ap (λ bytes. slice_index bytes 0) same))
+
+pub label_told : (layout : Layout) (n : ℕ) → label_of layout n ≢ replicate 512 0
+label_told Journal n = labels_told 2 n
+label_told Pages n = labels_told 3 n
+
+pub has_label : (layout : Layout) (n : ℕ) → 0 < sectors_for layout n
+has_label Journal n = omega arith
+has_label Pages n = omega arith

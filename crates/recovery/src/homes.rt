@@ -1,16 +1,14 @@
 // Images of layout 2 are laid with each block in its home.
 ghost use Rattle.std.specs.Prelude.{◌≡◌, ◌≢◌, ◌<◌, ◌≤◌, ◌+◌, ℕ, true, List, IsTrue, OnOk, replicate};
-ghost use Rattle.std.proofs.Common.{rules};
 ghost use Rattle.sector_disk.specs.Disk.{Image, written};
 ghost use Rattle.journal.specs.Calls.{StopsLeave, CostsAtMost, Passes};
-ghost use Rattle.journal.specs.Layout.{sectors_for, label_of};
+ghost use Rattle.journal.specs.declared.sizes.Layout.TheVariants.{Journal};
 ghost use Rattle.journal.specs.Steps.{InSlots, WritesOnly, IsAsSynced};
 ghost use Rattle.recovery.specs.Homes.{HasHomesBelow, HasHomesOf, homes_apart, slots_apart};
-ghost use Rattle.recovery.specs.Making.{labels_told};
 
 use crate::targets::Target;
 use journal::layout::{BlockCount, GATE, RECORD, home_sector, label};
-use journal::write_pair;
+use journal::{write_pair, write_sector};
 use sector_disk::{DeviceFault, SectorDevice};
 
 /// Layout 2: blocks in their homes, under a closed gate and a record of zeros. The slots are left as they are.
@@ -18,11 +16,7 @@ use sector_disk::{DeviceFault, SectorDevice};
 pub struct Homes;
 
 impl Target for Homes {
-    ghost by_sectors = { true };
-
-    ghost sectors_for = { sectors_for };
-
-    ghost label_of = { label_of };
+    ghost layout = { Journal };
 
     ghost block_writes = { 2 };
 
@@ -35,10 +29,6 @@ impl Target for Homes {
     ghost has_laid = { λ target. HasHomesBelow };
 
     ghost has_filled = { λ target. HasHomesOf };
-
-    ghost has_label = { λ n. Prim.search rules };
-
-    ghost label_told = { λ n. labels_told 2 n };
 
     ghost left_apart = { slots_apart };
 
@@ -87,6 +77,6 @@ fn fill_head<D: SectorDevice>(device: &mut D) -> Result<(), DeviceFault>
     ensures passes { Passes D.SectorDevice device.old device.new result }
     ensures costs { CostsAtMost D.SectorDevice device.old device.new 2 0 0 }
 {
-    device.write(GATE, &[0; 512])?;
-    device.write(RECORD, &[0; 512])
+    write_sector(device, GATE, &[0; 512])?;
+    write_sector(device, RECORD, &[0; 512])
 }

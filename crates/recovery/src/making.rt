@@ -3,8 +3,9 @@ ghost use Rattle.std.specs.Prelude.{◌≡◌, ◌≢◌, ◌<◌, ◌+◌, ◌*
 ghost use Rattle.sector_disk.specs.Disk.{written, settled};
 ghost use Rattle.journal.specs.Calls.{StopsLeave, ReadsAtMost, CostsAtMost, Passes};
 ghost use Rattle.journal.specs.Layout.{most_blocks};
+ghost use Rattle.journal.specs.Layouts.{asks, label_of, sectors_for};
 ghost use Rattle.journal.specs.Steps.{WritesOnly, IsAsSynced};
-ghost use Rattle.recovery.specs.Making.{InUnit, IsApart, IsUnlabelled, IsReady, IsMade, TakenAway, Sealed, WrittenLeaves, MakingLeaves, KeepsUnits, Carries, suits, reads_below};
+ghost use Rattle.recovery.specs.Making.{InUnit, IsApart, IsUnlabelled, IsReady, IsMade, TakenAway, Sealed, WrittenLeaves, MakingLeaves, Carries, reads_below};
 
 use crate::settling::settle;
 use crate::sources::Source;
@@ -21,7 +22,6 @@ fn write_label<D: SectorDevice>(device: &mut D, bytes: &[u8; 512]) -> Result<(),
     ensures stops { IsTrue (D.keeps_model device.old)
         → StopsLeave D.SectorDevice device.old device.new (IsAsSynced (InUnit (D.disk device.old) 0) (D.disk device.old)) }
     ensures passes { Passes D.SectorDevice device.old device.new result }
-    ensures units { KeepsUnits D.SectorDevice false device.old device.new }
     ensures costs { CostsAtMost D.SectorDevice device.old device.new 1 1 0 }
 {
     device.write(LABEL, bytes)?;
@@ -38,7 +38,6 @@ fn unlabel<D: SectorDevice>(device: &mut D, label: &[u8; 512]) -> Result<(), Dev
     ensures stops { IsTrue (D.keeps_model device.old)
         → StopsLeave D.SectorDevice device.old device.new (TakenAway label.now (D.disk device.old)) }
     ensures passes { Passes D.SectorDevice device.old device.new result }
-    ensures units { KeepsUnits D.SectorDevice false device.old device.new }
     ensures costs { CostsAtMost D.SectorDevice device.old device.new 1 2 1 }
 {
     let mut found = [0; 512];
@@ -59,7 +58,6 @@ fn seal<D: SectorDevice>(device: &mut D, label: &[u8; 512]) -> Result<(), Device
     ensures stops { IsTrue (D.keeps_model device.old)
         → StopsLeave D.SectorDevice device.old device.new (Sealed label.now (D.disk device.old)) }
     ensures passes { Passes D.SectorDevice device.old device.new result }
-    ensures units { KeepsUnits D.SectorDevice false device.old device.new }
     ensures costs { CostsAtMost D.SectorDevice device.old device.new 1 1 0 }
 {
     write_label(device, label)
@@ -76,8 +74,8 @@ fn carry_block<S: Source, A: SectorDevice, T: Target, B: SectorDevice>(
 ) -> Result<(), UpgradeFault>
     requires below { b < blocks.number }
     requires from { A.sector_count old.old ≡ S.sectors_of source.old }
-    requires to { B.sector_count new.old ≡ T.sectors_for blocks.number }
-    ensures laid { IsTrue (A.keeps_model old.old) → IsTrue (suits B.SectorDevice T.by_sectors new.old)
+    requires to { B.sector_count new.old ≡ sectors_for T.layout blocks.number }
+    ensures laid { IsTrue (A.keeps_model old.old) → IsTrue (asks B.SectorDevice T.layout new.old)
         → T.has_laid target.old blocks.number b (S.bytes_in source.old (A.disk old.old).content) (B.disk new.old).content
         → OnOk result (T.has_laid target.new blocks.number (b + 1) (S.bytes_in source.old (A.disk old.old).content) (B.disk new.new).content) }
     ensures noted { IsTrue (A.keeps_model old.old) → (first : S) → S.has_noted first source.old (A.disk old.old).content b
@@ -85,13 +83,13 @@ fn carry_block<S: Source, A: SectorDevice, T: Target, B: SectorDevice>(
     ensures same_size { S.sectors_of source.new ≡ S.sectors_of source.old }
     ensures same_bytes { S.bytes_in source.new ≡ S.bytes_in source.old }
     ensures same_reads { S.reads_in source.new ≡ S.reads_in source.old }
-    ensures left { IsTrue (suits B.SectorDevice T.by_sectors new.old) → OnOk result
+    ensures left { IsTrue (asks B.SectorDevice T.layout new.old) → OnOk result
         ((k : ℕ) → T.is_left blocks.number k → (B.disk new.new).content k ≡ (B.disk new.old).content k) }
-    ensures only { IsTrue (suits B.SectorDevice T.by_sectors new.old)
-        → WritesOnly (IsApart T.by_sectors) (B.disk new.old) (B.disk new.new) }
-    ensures stops { IsTrue (suits B.SectorDevice T.by_sectors new.old)
-        → StopsLeave B.SectorDevice new.old new.new (IsAsSynced (IsApart T.by_sectors) (B.disk new.old)) }
-    ensures carries { Carries A.SectorDevice B.SectorDevice T.by_sectors old.old old.new new.old new.new T.block_writes 0 0 result }
+    ensures only { IsTrue (asks B.SectorDevice T.layout new.old)
+        → WritesOnly (IsApart T.layout) (B.disk new.old) (B.disk new.new) }
+    ensures stops { IsTrue (asks B.SectorDevice T.layout new.old)
+        → StopsLeave B.SectorDevice new.old new.new (IsAsSynced (IsApart T.layout) (B.disk new.old)) }
+    ensures carries { Carries A.SectorDevice B.SectorDevice old.old old.new new.old new.new T.block_writes 0 0 result }
     ensures reads { IsTrue (A.keeps_model old.old)
         → ReadsAtMost A.SectorDevice old.old old.new (S.reads_in source.old (A.disk old.old).content b) }
 {
@@ -114,21 +112,21 @@ fn carry_blocks<S: Source, A: SectorDevice, T: Target, B: SectorDevice>(
     blocks: BlockCount,
 ) -> Result<(), UpgradeFault>
     requires from { A.sector_count old.old ≡ S.sectors_of source.old }
-    requires to { B.sector_count new.old ≡ T.sectors_for blocks.number }
-    requires begun { IsTrue (suits B.SectorDevice T.by_sectors new.old)
+    requires to { B.sector_count new.old ≡ sectors_for T.layout blocks.number }
+    requires begun { IsTrue (asks B.SectorDevice T.layout new.old)
         → (given : ℕ → List ℕ) → T.has_laid target.old blocks.number 0 given (B.disk new.old).content }
     requires unnoted { S.has_noted source.old source.old (A.disk old.old).content 0 }
-    ensures laid { IsTrue (A.keeps_model old.old) → IsTrue (suits B.SectorDevice T.by_sectors new.old)
+    ensures laid { IsTrue (A.keeps_model old.old) → IsTrue (asks B.SectorDevice T.layout new.old)
         → OnOk result (T.has_laid target.new blocks.number blocks.number (S.bytes_in source.old (A.disk old.old).content) (B.disk new.new).content) }
     ensures noted { IsTrue (A.keeps_model old.old)
         → OnOk result (S.has_noted source.old source.new (A.disk old.old).content blocks.number) }
-    ensures left { IsTrue (suits B.SectorDevice T.by_sectors new.old) → OnOk result
+    ensures left { IsTrue (asks B.SectorDevice T.layout new.old) → OnOk result
         ((k : ℕ) → T.is_left blocks.number k → (B.disk new.new).content k ≡ (B.disk new.old).content k) }
-    ensures only { IsTrue (suits B.SectorDevice T.by_sectors new.old)
-        → WritesOnly (IsApart T.by_sectors) (B.disk new.old) (B.disk new.new) }
-    ensures stops { IsTrue (suits B.SectorDevice T.by_sectors new.old)
-        → StopsLeave B.SectorDevice new.old new.new (IsAsSynced (IsApart T.by_sectors) (B.disk new.old)) }
-    ensures carries { Carries A.SectorDevice B.SectorDevice T.by_sectors old.old old.new new.old new.new (T.block_writes * blocks.number) 0 0 result }
+    ensures only { IsTrue (asks B.SectorDevice T.layout new.old)
+        → WritesOnly (IsApart T.layout) (B.disk new.old) (B.disk new.new) }
+    ensures stops { IsTrue (asks B.SectorDevice T.layout new.old)
+        → StopsLeave B.SectorDevice new.old new.new (IsAsSynced (IsApart T.layout) (B.disk new.old)) }
+    ensures carries { Carries A.SectorDevice B.SectorDevice old.old old.new new.old new.new (T.block_writes * blocks.number) 0 0 result }
     ensures reads { IsTrue (A.keeps_model old.old) → ReadsAtMost A.SectorDevice old.old old.new
         (reads_below (S.reads_in source.old (A.disk old.old).content) blocks.number) }
 {
@@ -147,21 +145,21 @@ fn fill_on<S: Source, A: SectorDevice, T: Target, B: SectorDevice>(
     blocks: BlockCount,
 ) -> Result<(), UpgradeFault>
     requires from { A.sector_count old.old ≡ S.sectors_of source.old }
-    requires to { B.sector_count new.old ≡ T.sectors_for blocks.number }
-    requires begun { IsTrue (suits B.SectorDevice T.by_sectors new.old)
+    requires to { B.sector_count new.old ≡ sectors_for T.layout blocks.number }
+    requires begun { IsTrue (asks B.SectorDevice T.layout new.old)
         → (given : ℕ → List ℕ) → T.has_laid target.old blocks.number 0 given (B.disk new.old).content }
     requires unnoted { S.has_noted source.old source.old (A.disk old.old).content 0 }
-    ensures filled { IsTrue (A.keeps_model old.old) → IsTrue (suits B.SectorDevice T.by_sectors new.old)
+    ensures filled { IsTrue (A.keeps_model old.old) → IsTrue (asks B.SectorDevice T.layout new.old)
         → OnOk result (T.has_filled target.new blocks.number (S.bytes_in source.old (A.disk old.old).content) (B.disk new.new).content) }
     ensures noted { IsTrue (A.keeps_model old.old)
         → OnOk result (S.has_noted source.old source.new (A.disk old.old).content blocks.number) }
-    ensures left { IsTrue (suits B.SectorDevice T.by_sectors new.old) → OnOk result
+    ensures left { IsTrue (asks B.SectorDevice T.layout new.old) → OnOk result
         ((k : ℕ) → T.is_left blocks.number k → (B.disk new.new).content k ≡ (B.disk new.old).content k) }
-    ensures only { IsTrue (suits B.SectorDevice T.by_sectors new.old)
-        → WritesOnly (IsApart T.by_sectors) (B.disk new.old) (B.disk new.new) }
-    ensures stops { IsTrue (suits B.SectorDevice T.by_sectors new.old)
-        → StopsLeave B.SectorDevice new.old new.new (IsAsSynced (IsApart T.by_sectors) (B.disk new.old)) }
-    ensures carries { Carries A.SectorDevice B.SectorDevice T.by_sectors old.old old.new new.old new.new
+    ensures only { IsTrue (asks B.SectorDevice T.layout new.old)
+        → WritesOnly (IsApart T.layout) (B.disk new.old) (B.disk new.new) }
+    ensures stops { IsTrue (asks B.SectorDevice T.layout new.old)
+        → StopsLeave B.SectorDevice new.old new.new (IsAsSynced (IsApart T.layout) (B.disk new.old)) }
+    ensures carries { Carries A.SectorDevice B.SectorDevice old.old old.new new.old new.new
         (T.block_writes * blocks.number + T.last_writes) 0 0 result }
     ensures reads { IsTrue (A.keeps_model old.old) → ReadsAtMost A.SectorDevice old.old old.new
         (reads_below (S.reads_in source.old (A.disk old.old).content) blocks.number) }
@@ -182,19 +180,19 @@ fn fill<S: Source, A: SectorDevice, T: Target, B: SectorDevice>(
     blocks: BlockCount,
 ) -> Result<(), UpgradeFault>
     requires from { A.sector_count old.old ≡ S.sectors_of source.old }
-    requires to { B.sector_count new.old ≡ T.sectors_for blocks.number }
+    requires to { B.sector_count new.old ≡ sectors_for T.layout blocks.number }
     requires unnoted { S.has_noted source.old source.old (A.disk old.old).content 0 }
-    ensures filled { IsTrue (A.keeps_model old.old) → IsTrue (suits B.SectorDevice T.by_sectors new.old)
+    ensures filled { IsTrue (A.keeps_model old.old) → IsTrue (asks B.SectorDevice T.layout new.old)
         → OnOk result (T.has_filled target.new blocks.number (S.bytes_in source.old (A.disk old.old).content) (B.disk new.new).content) }
     ensures noted { IsTrue (A.keeps_model old.old)
         → OnOk result (S.has_noted source.old source.new (A.disk old.old).content blocks.number) }
-    ensures left { IsTrue (suits B.SectorDevice T.by_sectors new.old) → OnOk result
+    ensures left { IsTrue (asks B.SectorDevice T.layout new.old) → OnOk result
         ((k : ℕ) → T.is_left blocks.number k → (B.disk new.new).content k ≡ (B.disk new.old).content k) }
-    ensures only { IsTrue (suits B.SectorDevice T.by_sectors new.old)
-        → WritesOnly (IsApart T.by_sectors) (B.disk new.old) (B.disk new.new) }
-    ensures stops { IsTrue (suits B.SectorDevice T.by_sectors new.old)
-        → StopsLeave B.SectorDevice new.old new.new (IsAsSynced (IsApart T.by_sectors) (B.disk new.old)) }
-    ensures carries { Carries A.SectorDevice B.SectorDevice T.by_sectors old.old old.new new.old new.new
+    ensures only { IsTrue (asks B.SectorDevice T.layout new.old)
+        → WritesOnly (IsApart T.layout) (B.disk new.old) (B.disk new.new) }
+    ensures stops { IsTrue (asks B.SectorDevice T.layout new.old)
+        → StopsLeave B.SectorDevice new.old new.new (IsAsSynced (IsApart T.layout) (B.disk new.old)) }
+    ensures carries { Carries A.SectorDevice B.SectorDevice old.old old.new new.old new.new
         (T.block_writes * blocks.number + T.first_writes + T.last_writes) 0 0 result }
     ensures reads { IsTrue (A.keeps_model old.old) → ReadsAtMost A.SectorDevice old.old old.new
         (reads_below (S.reads_in source.old (A.disk old.old).content) blocks.number) }
@@ -214,21 +212,21 @@ fn prepare<S: Source, A: SectorDevice, T: Target, B: SectorDevice>(
     blocks: BlockCount,
 ) -> Result<(), UpgradeFault>
     requires from { A.sector_count old.old ≡ S.sectors_of source.old }
-    requires to { B.sector_count new.old ≡ T.sectors_for blocks.number }
+    requires to { B.sector_count new.old ≡ sectors_for T.layout blocks.number }
     requires unnoted { S.has_noted source.old source.old (A.disk old.old).content 0 }
-    requires unlabelled { IsTrue (suits B.SectorDevice T.by_sectors new.old) → IsUnlabelled (T.label_of blocks.number) (B.disk new.old) }
-    ensures ready { IsTrue (A.keeps_model old.old) → IsTrue (suits B.SectorDevice T.by_sectors new.old)
-        → OnOk result (IsReady (T.label_of blocks.number)
+    requires unlabelled { IsTrue (asks B.SectorDevice T.layout new.old) → IsUnlabelled (label_of T.layout blocks.number) (B.disk new.old) }
+    ensures ready { IsTrue (A.keeps_model old.old) → IsTrue (asks B.SectorDevice T.layout new.old)
+        → OnOk result (IsReady (label_of T.layout blocks.number)
         (T.has_filled target.new blocks.number (S.bytes_in source.old (A.disk old.old).content)) (B.disk new.new)) }
     ensures synced { IsTrue (B.keeps_model new.old)
         → OnOk result ((k : ℕ) → (B.disk new.new).unsynced k ≡ false) }
     ensures noted { IsTrue (A.keeps_model old.old)
         → OnOk result (S.has_noted source.old source.new (A.disk old.old).content blocks.number) }
-    ensures left { IsTrue (suits B.SectorDevice T.by_sectors new.old) → OnOk result
+    ensures left { IsTrue (asks B.SectorDevice T.layout new.old) → OnOk result
         ((k : ℕ) → T.is_left blocks.number k → (B.disk new.new).content k ≡ (B.disk new.old).content k) }
-    ensures stops { IsTrue (suits B.SectorDevice T.by_sectors new.old)
-        → StopsLeave B.SectorDevice new.old new.new (λ image. image 0 ≢ T.label_of blocks.number) }
-    ensures carries { Carries A.SectorDevice B.SectorDevice T.by_sectors old.old old.new new.old new.new
+    ensures stops { IsTrue (asks B.SectorDevice T.layout new.old)
+        → StopsLeave B.SectorDevice new.old new.new (λ image. image 0 ≢ label_of T.layout blocks.number) }
+    ensures carries { Carries A.SectorDevice B.SectorDevice old.old old.new new.old new.new
         (T.block_writes * blocks.number + T.first_writes + T.last_writes) 1 0 result }
     ensures reads { IsTrue (A.keeps_model old.old) → ReadsAtMost A.SectorDevice old.old old.new
         (reads_below (S.reads_in source.old (A.disk old.old).content) blocks.number) }
@@ -250,21 +248,21 @@ fn write_image<S: Source, A: SectorDevice, T: Target, B: SectorDevice>(
     label: &[u8; 512],
 ) -> Result<(), UpgradeFault>
     requires from { A.sector_count old.old ≡ S.sectors_of source.old }
-    requires to { B.sector_count new.old ≡ T.sectors_for blocks.number }
+    requires to { B.sector_count new.old ≡ sectors_for T.layout blocks.number }
     requires unnoted { S.has_noted source.old source.old (A.disk old.old).content 0 }
-    requires unlabelled { IsTrue (suits B.SectorDevice T.by_sectors new.old) → IsUnlabelled (T.label_of blocks.number) (B.disk new.old) }
-    requires label { label.now ≡ T.label_of blocks.number }
-    ensures made { IsTrue (A.keeps_model old.old) → IsTrue (suits B.SectorDevice T.by_sectors new.old)
-        → OnOk result (IsMade (T.label_of blocks.number)
+    requires unlabelled { IsTrue (asks B.SectorDevice T.layout new.old) → IsUnlabelled (label_of T.layout blocks.number) (B.disk new.old) }
+    requires label { label.now ≡ label_of T.layout blocks.number }
+    ensures made { IsTrue (A.keeps_model old.old) → IsTrue (asks B.SectorDevice T.layout new.old)
+        → OnOk result (IsMade (label_of T.layout blocks.number)
         (T.has_filled target.new blocks.number (S.bytes_in source.old (A.disk old.old).content)) (B.disk new.new)) }
     ensures noted { IsTrue (A.keeps_model old.old)
         → OnOk result (S.has_noted source.old source.new (A.disk old.old).content blocks.number) }
-    ensures left { IsTrue (suits B.SectorDevice T.by_sectors new.old) → OnOk result
+    ensures left { IsTrue (asks B.SectorDevice T.layout new.old) → OnOk result
         ((k : ℕ) → T.is_left blocks.number k → (B.disk new.new).content k ≡ (B.disk new.old).content k) }
-    ensures stops { IsTrue (A.keeps_model old.old) → IsTrue (suits B.SectorDevice T.by_sectors new.old)
-        → StopsLeave B.SectorDevice new.old new.new (WrittenLeaves (T.label_of blocks.number)
+    ensures stops { IsTrue (A.keeps_model old.old) → IsTrue (asks B.SectorDevice T.layout new.old)
+        → StopsLeave B.SectorDevice new.old new.new (WrittenLeaves (label_of T.layout blocks.number)
         (T.has_filled target.new blocks.number (S.bytes_in source.old (A.disk old.old).content))) }
-    ensures carries { Carries A.SectorDevice B.SectorDevice T.by_sectors old.old old.new new.old new.new
+    ensures carries { Carries A.SectorDevice B.SectorDevice old.old old.new new.old new.new
         (T.block_writes * blocks.number + T.first_writes + T.last_writes + 1) 2 0 result }
     ensures reads { IsTrue (A.keeps_model old.old) → ReadsAtMost A.SectorDevice old.old old.new
         (reads_below (S.reads_in source.old (A.disk old.old).content) blocks.number) }
@@ -290,22 +288,22 @@ pub fn make<S: Source, A: SectorDevice, T: Target, B: SectorDevice>(
     blocks: BlockCount,
 ) -> Result<(), UpgradeFault>
     requires from { A.sector_count old.old ≡ S.sectors_of source.old }
-    requires to { B.sector_count new.old ≡ T.sectors_for blocks.number }
+    requires to { B.sector_count new.old ≡ sectors_for T.layout blocks.number }
     requires unnoted { S.has_noted source.old source.old (A.disk old.old).content 0 }
     // All blocks are laid, under the label.
-    ensures made { IsTrue (A.keeps_model old.old) → IsTrue (suits B.SectorDevice T.by_sectors new.old)
-        → OnOk result (IsMade (T.label_of blocks.number)
+    ensures made { IsTrue (A.keeps_model old.old) → IsTrue (asks B.SectorDevice T.layout new.old)
+        → OnOk result (IsMade (label_of T.layout blocks.number)
         (T.has_filled target.new blocks.number (S.bytes_in source.old (A.disk old.old).content)) (B.disk new.new)) }
     ensures noted { IsTrue (A.keeps_model old.old)
         → OnOk result (S.has_noted source.old source.new (A.disk old.old).content blocks.number) }
-    ensures left { IsTrue (suits B.SectorDevice T.by_sectors new.old) → OnOk result
+    ensures left { IsTrue (asks B.SectorDevice T.layout new.old) → OnOk result
         ((k : ℕ) → T.is_left blocks.number k → (B.disk new.new).content k ≡ (B.disk new.old).content k) }
     // What a stop at any moment leaves.
-    ensures stops { IsTrue (A.keeps_model old.old) → IsTrue (suits B.SectorDevice T.by_sectors new.old)
-        → StopsLeave B.SectorDevice new.old new.new (MakingLeaves (T.label_of blocks.number)
+    ensures stops { IsTrue (A.keeps_model old.old) → IsTrue (asks B.SectorDevice T.layout new.old)
+        → StopsLeave B.SectorDevice new.old new.new (MakingLeaves (label_of T.layout blocks.number)
         (T.has_filled target.new blocks.number (S.bytes_in source.old (A.disk old.old).content)) (B.disk new.old)) }
     // At most zeros over a label, all parts of the image and its label are written.
-    ensures carries { Carries A.SectorDevice B.SectorDevice T.by_sectors old.old old.new new.old new.new
+    ensures carries { Carries A.SectorDevice B.SectorDevice old.old old.new new.old new.new
         (T.block_writes * blocks.number + T.first_writes + T.last_writes + 2) 4 1 result }
     ensures reads { IsTrue (A.keeps_model old.old) → ReadsAtMost A.SectorDevice old.old old.new
         (reads_below (S.reads_in source.old (A.disk old.old).content) blocks.number) }

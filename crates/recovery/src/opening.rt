@@ -7,7 +7,7 @@ ghost use Rattle.journal.specs.Calls.{StopsLeave, BeginsAtMost, ReadsAtMost, Pro
 ghost use Rattle.journal.specs.Chain.{HasMeaning};
 ghost use Rattle.journal.specs.Clean.{IsClean};
 ghost use Rattle.journal.specs.Images.{meaning, Means};
-ghost use Rattle.journal.specs.Layout.{fewest_blocks, most_blocks, sectors_for};
+ghost use Rattle.journal.specs.Layout.{sectors_for};
 ghost use Rattle.journal.specs.Maps.{fresh};
 ghost use Rattle.journal.specs.Store.{device_of, disk_of, blocks_of, closed_of, technique_of, is_pending, StandsFor};
 ghost use Rattle.journal.specs.declared.technique.Technique.TheVariants.{Journal};
@@ -22,68 +22,14 @@ use journal::Store;
 use journal::layout::{BlockCount, MOST_BLOCKS, VERSION, blocks_of_size};
 use sector_disk::SectorDevice;
 
-/// Makes an image of layout 2 ready for a store after a stop, and answers how many blocks it has. What an open gate
-/// asks for is done, so a stop within this call, however often, loses nothing. An open gate becomes zeros, and a closed
-/// one is left as it is. Takes no memory.
+/// Opens an image of layout 2 after a stop, and answers a store of its blocks. What an open gate asks for is done, so a
+/// stop within this call, however often, loses nothing. An open gate becomes zeros, and a closed one is left as it is.
+/// An error hands the device back. Takes no memory.
 ///
 /// It refuses, in this order, a device of a size that no image of layout 2 has (BadSize, with no device call), one
 /// without the name and zeros of a label (NoLabel), a label of another version (OtherVersion) or of another number of
 /// blocks (WrongCount), and an open gate over a record whose digest isn't that of its bits and slots (Damaged). Device
 /// comes where a call of the device failed.
-/// Rule: IMAGE, A recovery; IMAGE, The bytes.
-#[inline(never)] // what it reads isn't to lie on the stack below a store
-pub fn ready<D: SectorDevice>(device: &mut D) -> Result<u16, OpenFault>
-    // Nothing is left to do, and the blocks are those that the image meant.
-    ensures clean { IsTrue (D.keeps_sectors device.old) → IfOk result (λ n. IsClean n (D.disk device.new)) }
-    ensures blocks { IsTrue (D.keeps_sectors device.old)
-        → IfOk result (λ n. meaning n (D.disk device.new).content ≡ meaning n (D.disk device.old).content) }
-    ensures gate { IsTrue (D.keeps_sectors device.old)
-        → OnOk result ((D.disk device.new).content 1 ≡ gate_after ((D.disk device.old).content 1)) }
-    ensures size { IfOk result (λ n. D.sector_count device.old ≡ sectors_for n) }
-    ensures many { IfOk result (λ n. fewest_blocks ≤ n) }
-    ensures few { IfOk result (λ n. n ≤ most_blocks) }
-
-    // BadSize comes exactly where no image has this size, over any device and with no call of it.
-    ensures sized { OnOk result (is_size (D.sector_count device.old) ≡ true) }
-    ensures bad_size { IfErr result (λ e. MatchBool (is_size (D.sector_count device.old)) (e ≢ BadSize) (e ≡ BadSize)) }
-    ensures unasked { IfErr result (λ e. e ≡ BadSize → device.new ≡ device.old) }
-    // Each refusal tells the first test that the image fails.
-    ensures exact { IsTrue (D.keeps_sectors device.old) → MatchResult result
-        (λ _. image_refusal (D.sector_count device.old) (D.disk device.old).content ≡ None)
-        (λ e. (e ≡ Device) ⊎ (image_refusal (D.sector_count device.old) (D.disk device.old).content ≡ Some e)) }
-    // What is made ready has a meaning, and what has one is refused only by a fault of the device.
-    ensures meaning { IsTrue (D.keeps_sectors device.old) → IfOk result (λ n. HasMeaning n (D.disk device.old).content) }
-    ensures good { IsTrue (D.keeps_sectors device.old) → (n : ℕ) → D.sector_count device.old ≡ sectors_for n
-        → HasMeaning n (D.disk device.old).content → IfErr result (λ e. e ≡ Device) }
-    ensures device { IfErr result (λ e. e ≡ Device → D.failures device.new ≡ count_up (D.failures device.old)) }
-    ensures refused { IfErr result (λ e. e ≢ Device → D.failures device.new ≡ D.failures device.old) }
-    ensures well { OnOk result (D.failures device.new ≡ D.failures device.old) }
-    // Another refusal wrote nothing.
-    ensures unwritten { IfErr result (λ e. e ≢ Device → BeginsAtMost D.SectorDevice device.old device.new 0 1) }
-    ensures content { IsTrue (D.keeps_model device.old)
-        → IfErr result (λ e. e ≢ Device → (D.disk device.new).content ≡ (D.disk device.old).content) }
-
-    // A stop at any moment leaves an image that follows one which a stop before could leave.
-    ensures stops { IsTrue (D.keeps_sectors device.old) → (n : ℕ) → D.sector_count device.old ≡ sectors_for n
-        → StopsLeave D.SectorDevice device.old device.new (RecoveryLeaves n (D.disk device.old)) }
-    ensures passes { Proceeds D.SectorDevice device.old device.new }
-    ensures begins { IsTrue (D.keeps_sectors device.old) → (n : ℕ) → D.sector_count device.old ≡ sectors_for n
-        → BeginsAtMost D.SectorDevice device.old device.new (writes_for n (D.disk device.old).content)
-        (syncs_for (D.disk device.old).content) }
-    ensures reads { IsTrue (D.keeps_sectors device.old) → (n : ℕ) → D.sector_count device.old ≡ sectors_for n
-        → ReadsAtMost D.SectorDevice device.old device.new (reads_for n (D.disk device.old).content) }
-{
-    let Some(number) = blocks_of_size(device.sectors(), MOST_BLOCKS) else {
-        return Err(OpenFault::BadSize);
-    };
-    match recover(device, VERSION, BlockCount { number }) {
-        Ok(()) => Ok(number),
-        Err(fault) => Err(fault),
-    }
-}
-
-/// Opens an image of layout 2 after a stop, and answers a store of its blocks, for which `ready` makes it ready. It
-/// refuses as that does. An error hands the device back. Takes no memory.
 /// Rule: IMAGE, A recovery; IMAGE, The bytes.
 pub fn open<D: SectorDevice>(mut device: D) -> Result<Store<D>, (OpenFault, D)>
     // The store has the blocks that the image meant.
@@ -136,8 +82,11 @@ pub fn open<D: SectorDevice>(mut device: D) -> Result<Store<D>, (OpenFault, D)>
     ensures reads { IsTrue (D.keeps_sectors device) → (n : ℕ) → D.sector_count device ≡ sectors_for n
         → ReadsAtMost D.SectorDevice device (end_of result) (reads_for n (D.disk device).content) }
 {
-    match ready(&mut device) {
-        Ok(number) => Ok(Store::adopt(device, number)),
+    let Some(number) = blocks_of_size(device.sectors(), MOST_BLOCKS) else {
+        return Err((OpenFault::BadSize, device));
+    };
+    match recover(&mut device, VERSION, BlockCount { number }) {
+        Ok(()) => Ok(Store::adopt(device, number)),
         Err(fault) => Err((fault, device)),
     }
 }

@@ -87,8 +87,10 @@ fn finish<D: SectorDevice>(
 }
 
 /// Recovers an image of so many blocks, of the layout of this version. A label that isn't its own is refused, and so
-/// is, by layout 2 and under an open gate, a record that isn't that of its slots.
-pub(crate) fn recover<D: SectorDevice>(
+/// is, by layout 2 and under an open gate, a record that isn't that of its slots. Device comes where a call of the
+/// device failed.
+/// Rule: IMAGE, A recovery.
+pub fn recover<D: SectorDevice>(
     device: &mut D,
     version: u16,
     blocks: BlockCount,

@@ -1,7 +1,9 @@
 // How a new image is laid on a device.
-ghost use Rattle.std.specs.Prelude.{◌≡◌, ◌≢◌, ◌<◌, ◌+◌, ℕ, Bool, List, IsTrue, OnOk, replicate};
+ghost use Rattle.std.specs.Prelude.{◌≡◌, ◌≢◌, ◌<◌, ◌+◌, ℕ, List, IsTrue, OnOk};
 ghost use Rattle.sector_disk.specs.Disk.{Image};
-ghost use Rattle.recovery.specs.Making.{IsApart, Lays, suits};
+ghost use Rattle.recovery.specs.Making.{IsApart, Lays};
+ghost use Rattle.journal.specs.Layouts.{asks, label_of, sectors_for};
+ghost use Rattle.journal.specs.declared.sizes.Layout.{Layout};
 
 use journal::layout::BlockCount;
 use sector_disk::{DeviceFault, SectorDevice};
@@ -10,14 +12,8 @@ use sector_disk::{DeviceFault, SectorDevice};
 /// rising order, and what goes after them.
 /// Rule: IMAGE, A format; IMAGE, Layout 3, A format; DECISIONS, The device and the image.
 pub trait Target {
-    /// Whether the layout asks for the disk model by sectors.
-    ghost by_sectors: { Bool };
-
-    /// How many sectors an image of so many blocks has.
-    ghost sectors_for: { ℕ → ℕ };
-
-    /// The label of such an image.
-    ghost label_of: { ℕ → List ℕ };
+    /// The layout of the image.
+    ghost layout: { Layout };
 
     /// How many writes lay a block.
     ghost block_writes: { ℕ };
@@ -38,7 +34,7 @@ pub trait Target {
 
     /// The label of an image with so many blocks.
     fn label(&self, blocks: BlockCount) -> [u8; 512]
-        ensures { result ≡ label_of blocks.number };
+        ensures { result ≡ label_of layout blocks.number };
 
     /// Writes what goes before the blocks of an image with so many. Nothing is synced. `DeviceFault` where a write
     /// failed; it ends there.
@@ -47,12 +43,12 @@ pub trait Target {
         device: &mut D,
         blocks: BlockCount,
     ) -> Result<(), DeviceFault>
-        requires { D.sector_count device.old ≡ sectors_for blocks.number }
-        ensures begun { IsTrue (suits D.SectorDevice by_sectors device.old)
+        requires { D.sector_count device.old ≡ sectors_for layout blocks.number }
+        ensures begun { IsTrue (asks D.SectorDevice layout device.old)
             → OnOk result ((given : ℕ → List ℕ) → has_laid self.new blocks.number 0 given (D.disk device.new).content) }
-        ensures left { IsTrue (suits D.SectorDevice by_sectors device.old) → OnOk result
+        ensures left { IsTrue (asks D.SectorDevice layout device.old) → OnOk result
             ((k : ℕ) → is_left blocks.number k → (D.disk device.new).content k ≡ (D.disk device.old).content k) }
-        ensures lays { Lays D.SectorDevice by_sectors device.old device.new first_writes result };
+        ensures lays { Lays D.SectorDevice layout device.old device.new first_writes result };
 
     /// Writes the 1,024 bytes of block `b`, which is one of so many. Nothing is synced. `DeviceFault` where a write
     /// failed; it ends there.
@@ -64,13 +60,13 @@ pub trait Target {
         bytes: &[u8; 1024],
     ) -> Result<(), DeviceFault>
         requires below { b < blocks.number }
-        requires size { D.sector_count device.old ≡ sectors_for blocks.number }
-        ensures laid { IsTrue (suits D.SectorDevice by_sectors device.old)
+        requires size { D.sector_count device.old ≡ sectors_for layout blocks.number }
+        ensures laid { IsTrue (asks D.SectorDevice layout device.old)
             → (given : ℕ → List ℕ) → bytes.now ≡ given b → has_laid self.old blocks.number b given (D.disk device.old).content
             → OnOk result (has_laid self.new blocks.number (b + 1) given (D.disk device.new).content) }
-        ensures left { IsTrue (suits D.SectorDevice by_sectors device.old) → OnOk result
+        ensures left { IsTrue (asks D.SectorDevice layout device.old) → OnOk result
             ((k : ℕ) → is_left blocks.number k → (D.disk device.new).content k ≡ (D.disk device.old).content k) }
-        ensures lays { Lays D.SectorDevice by_sectors device.old device.new block_writes result };
+        ensures lays { Lays D.SectorDevice layout device.old device.new block_writes result };
 
     /// Writes what goes after the blocks of an image with so many. Nothing is synced. `DeviceFault` where a write
     /// failed; it ends there.
@@ -79,24 +75,18 @@ pub trait Target {
         device: &mut D,
         blocks: BlockCount,
     ) -> Result<(), DeviceFault>
-        requires { D.sector_count device.old ≡ sectors_for blocks.number }
-        ensures filled { IsTrue (suits D.SectorDevice by_sectors device.old)
+        requires { D.sector_count device.old ≡ sectors_for layout blocks.number }
+        ensures filled { IsTrue (asks D.SectorDevice layout device.old)
             → (given : ℕ → List ℕ) → has_laid self.old blocks.number blocks.number given (D.disk device.old).content
             → OnOk result (has_filled self.new blocks.number given (D.disk device.new).content) }
-        ensures left { IsTrue (suits D.SectorDevice by_sectors device.old) → OnOk result
+        ensures left { IsTrue (asks D.SectorDevice layout device.old) → OnOk result
             ((k : ℕ) → is_left blocks.number k → (D.disk device.new).content k ≡ (D.disk device.old).content k) }
-        ensures lays { Lays D.SectorDevice by_sectors device.old device.new last_writes result };
-
-    /// An image has a sector for its label.
-    ghost has_label: { (n : ℕ) → 0 < sectors_for n };
-
-    /// The label isn't all zeros.
-    ghost label_told: { (n : ℕ) → label_of n ≢ replicate 512 0 };
+        ensures lays { Lays D.SectorDevice layout device.old device.new last_writes result };
 
     /// The label isn't left as it was.
     ghost left_apart: { (n k : ℕ) → is_left n k → k ≢ 0 };
 
     /// What an image holds lies apart from its label.
     ghost filled_apart: { (target : Self) (n : ℕ) (given : ℕ → List ℕ) (old new : Image)
-        → has_filled target n given old → ((k : ℕ) → IsApart by_sectors k → new k ≡ old k) → has_filled target n given new };
+        → has_filled target n given old → ((k : ℕ) → IsApart layout k → new k ≡ old k) → has_filled target n given new };
 }

@@ -55,7 +55,7 @@ fn carry<A: SectorDevice, B: SectorDevice>(
     ensures stops { IsTrue (A.keeps_model source.old) → IsTrue (B.keeps_sectors target.old)
         → StopsLeave B.SectorDevice target.old target.new
         (MakingLeaves blocks.number (blocks_below (home_of blocks.number (A.disk source.old).content) blocks.number) (B.disk target.old)) }
-    ensures carries { Carries A.SectorDevice B.SectorDevice true source.old source.new target.old target.new (2 * blocks.number + 4) 4 1 result }
+    ensures carries { Carries A.SectorDevice B.SectorDevice source.old source.new target.old target.new (2 * blocks.number + 4) 4 1 result }
     ensures reads { IsTrue (A.keeps_model source.old) → ReadsAtMost A.SectorDevice source.old source.new (2 * blocks.number) }
 {
     let mut homes = JournalBlocks {

@@ -116,20 +116,43 @@ pub trait HostFile {
 }
 
 /// A file of this system. Each call is one of the system's: `pread`, `pwrite`, `fdatasync`. Its length is asked for
-/// once, by who opens it.
+/// once, by who opens it. After an `fdatasync` that failed what was written last is written again.
 ///
 /// It is safe whatever the file holds. That it keeps the model of a file is assumed, not proved.
+/// Rule: IMAGE, After a failed sync.
 #[derive(Drop)]
 pub struct StdFile {
     file: File,
     len: u64,
+    // Where the sector begins that was written last, if no sync has made it stay.
+    unsynced: Option<u64>,
 }
 
 impl StdFile {
     pub(crate) fn new(file: File, len: u64) -> StdFile
         ensures { IsTrue (⟦<StdFile as HostFile>⟧.syncs_settle result) }
     {
-        StdFile { file, len }
+        StdFile {
+            file,
+            len,
+            unsynced: None,
+        }
+    }
+
+    pub(crate) fn file(&self) -> &File {
+        &self.file
+    }
+
+    // After a failed sync the system may hold what wasn't written as written. Written again it is held as unwritten: so a
+    // sync of the next opening writes it, or fails. The one sector that decides what an image means, its gate or its label,
+    // is written alone between two syncs: it is the last one.
+    fn write_last_again(&mut self) {
+        if let Some(position) = self.unsynced {
+            let mut bytes = [0; 512];
+            if self.file.read_exact_at(&mut bytes, position).is_ok() {
+                let _ = self.file.write_all_at(&bytes, position);
+            }
+        }
     }
 }
 
@@ -183,10 +206,20 @@ impl HostFile for StdFile {
     }
 
     fn write_at(&mut self, position: u64, buffer: &[u8]) -> Result<usize, HostFault> {
+        self.unsynced = Some(position - position % 512);
         self.file.write_at(buffer, position).map_err(fault_of)
     }
 
     fn sync(&mut self) -> Result<(), HostFault> {
-        self.file.sync_data().map_err(fault_of)
+        match self.file.sync_data() {
+            Ok(()) => {
+                self.unsynced = None;
+                Ok(())
+            }
+            Err(error) => {
+                self.write_last_again();
+                Err(fault_of(error))
+            }
+        }
     }
 }

@@ -6,7 +6,7 @@ ghost use Rattle.sector_disk.specs.SectorFile.{file_of, has_failed_sync, sectors
 
 use crate::sector_file::SECTOR;
 use crate::whole::write_whole;
-use crate::{DeviceFault, HostFault, HostFile, SectorDevice, SectorFile};
+use crate::{DeviceFault, HostFile, SectorDevice, SectorFile};
 
 /// How many zeros a call writes into a new file, at most.
 const PIECE: usize = 65_536;
@@ -34,6 +34,9 @@ pub trait HostFiles<H: HostFile> {
     /// What `make` gives under a name.
     ghost makes: { Self → List ℕ → H → Type 0 };
 
+    /// What `keep_name` has given a name, and as it was then.
+    ghost named: { Self → List ℕ → H → Type 0 };
+
     /// Opens a file that is there. `InUse` where it isn't given since another has it, or since it is one of this
     /// program's standard streams, and `Cannot` where the system refuses.
     fn open(&self, path: &str) -> Result<H, FileFault>
@@ -41,15 +44,21 @@ pub trait HostFiles<H: HostFile> {
         ensures settle { IfOk result (λ file. IsTrue (H.syncs_settle file)) }
         ensures opens { IfOk result (λ file. opens self.now path.now file) };
 
-    /// Makes a file, without bytes, for reading and writing. `Exists` where something has that name, `InUse` where the
-    /// file isn't to be had alone, and `Cannot` where the system refuses. After `InUse` and `Cannot` a file may stay.
+    /// Makes a file, without bytes, for reading and writing, which is to have this name: until `keep_name` has given it
+    /// the name it has another one. `Exists` where something has the name already, `InUse` where another program is
+    /// making a file of this name, and `Cannot` where the system refuses. Nothing has the name afterwards that hadn't.
     fn make(&self, path: &str) -> Result<H, FileFault>
         ensures settle { IfOk result (λ file. IsTrue (H.syncs_settle file)) }
         ensures makes { IfOk result (λ file. makes self.now path.now file) };
 
-    /// Asks that the name of a file that was made stays. That it does once this answers Ok is assumed, and no clause
-    /// says it. An error where the system refuses; the file may stay then.
-    fn keep_name(&self, path: &str) -> Result<(), HostFault>;
+    /// Gives a file that `make` made for this name its name, in one step, and asks that it stays. That it does once this
+    /// answers Ok is assumed, and no clause says it. `Exists` where something else has got the name meanwhile, which
+    /// stays as it is, and `Cannot` where the system refuses; the file may have its name then.
+    fn keep_name(&self, path: &str, file: &H) -> Result<(), FileFault>
+        ensures named { OnOk result (named self.now path.now file.now) };
+
+    /// Lets go of a file that `make` made for this name, and that isn't to have it.
+    fn drop_made(&self, path: &str, file: &H);
 }
 
 /// Opens a file that is there. One whose length isn't a multiple of 512 bytes, or is 2^32 sectors or more, has no
@@ -73,11 +82,10 @@ pub fn open_disk<H: HostFile, O: HostFiles<H>>(
     Ok(SectorFile::new(file, sectors))
 }
 
-/// Makes a file of this many sectors of zeros. `Exists` where something has that name, `InUse` where the file isn't to
-/// be had alone, and `Cannot` where it can't be made, filled or synced, or its name can't be kept. Its bytes are on the
-/// disk when it answers Ok, so there is room for each later write; that its name is there too is assumed of
-/// `keep_name`, and no clause says it. After `InUse` and `Cannot` a file may stay: where `make` gave it, it is handed
-/// back with `Cannot`, as a device without sectors.
+/// Makes a file of this many sectors of zeros, which has its name once `keep_name` has given it. `Exists` where something
+/// has that name, `InUse` where another program is making a file of it, and `Cannot` where it can't be made, filled or
+/// synced. Its bytes are on the disk when it answers Ok, so there is room for each later write. A file that `make` gave
+/// and that can't be finished is handed back with `Cannot`, as a device without sectors, to be let go of by `drop_made`.
 /// Rule: IMAGE, The file; DECISIONS, The device and the image.
 pub fn create_disk<H: HostFile, O: HostFiles<H>>(
     files: &O,
@@ -103,17 +111,15 @@ pub fn create_disk<H: HostFile, O: HostFiles<H>>(
     ensures refused { IfErr result (λ e. IfSome e.1 (λ _. e.0 ≡ FileFault.Cannot)) }
 {
     match files.make(path) {
-        Ok(file) => finish(files, path, sectors, file),
+        Ok(file) => finish(file, sectors),
         Err(fault) => Err((fault, None)),
     }
 }
 
-// Fills a file that was made with zeros, and makes them and its name stay.
-fn finish<H: HostFile, O: HostFiles<H>>(
-    files: &O,
-    path: &str,
-    sectors: u32,
+// Fills a file that was made with zeros, and makes them stay.
+fn finish<H: HostFile>(
     mut file: H,
+    sectors: u32,
 ) -> Result<SectorFile<H>, (FileFault, Option<SectorFile<H>>)>
     requires { IsTrue (H.syncs_settle file) }
     ensures goes { IfOk result (λ d. KeepsGoing H.HostFile file (file_of d)) }
@@ -132,10 +138,7 @@ fn finish<H: HostFile, O: HostFiles<H>>(
     ensures cannot { IfErr result (λ e. e.0 ≡ FileFault.Cannot) }
 {
     match fill_and_sync(&mut file, sectors) {
-        Ok(()) => match files.keep_name(path) {
-            Ok(()) => Ok(SectorFile::new(file, sectors)),
-            Err(_) => Err((FileFault::Cannot, Some(SectorFile::unfinished(file)))),
-        },
+        Ok(()) => Ok(SectorFile::new(file, sectors)),
         Err(_) => Err((FileFault::Cannot, Some(SectorFile::unfinished(file)))),
     }
 }

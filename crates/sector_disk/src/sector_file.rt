@@ -53,6 +53,13 @@ impl<H: HostFile> SectorFile<H> {
         }
     }
 
+    /// The file within.
+    pub fn file(&self) -> &H
+        ensures { result.now ≡ file_of self.now }
+    {
+        &self.file
+    }
+
     /// A file that was made and not finished, as a device without sectors. It isn't written or synced.
     pub(crate) fn unfinished(file: H) -> SectorFile<H>
         ensures file { file_of result ≡ file }

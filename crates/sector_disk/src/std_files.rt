@@ -2,9 +2,8 @@
 ghost use Rattle.std.specs.Prelude.{◌≡◌, ◌≢◌, IfOk, IfErr, false};
 ghost use Rattle.sector_disk.specs.SectorFile.{has_failed_sync};
 
-use crate::{
-    FileFault, HostFault, HostFiles, SectorDevice, SectorFile, StdFile, create_disk, open_disk,
-};
+use crate::{FileFault, HostFiles, SectorDevice, SectorFile, StdFile, create_disk, open_disk};
+use std::alloc::Global;
 use std::fs::{File, Files, Metadata, OpenOptions, Permissions, TryLockError};
 use std::io::ErrorKind;
 use std::os::unix::fs::{MetadataExt, OpenOptionsExt, PermissionsExt};
@@ -58,10 +57,12 @@ impl<'a, R: Files<File = File>> StdFiles<'a, R> {
     }
 }
 
-impl<R: Files<File = File>> HostFiles<StdFile> for StdFiles<'_, R> {
+impl<R: Files<File = File> + AllocGlobal> HostFiles<StdFile> for StdFiles<'_, R> {
     ghost opens = { λ files path file. Unit {0} };
 
     ghost makes = { λ files path file. Unit {0} };
+
+    ghost named = { λ files path file. Unit {0} };
 
     fn open(&self, path: &str) -> Result<StdFile, FileFault> {
         let file = OpenOptions::new()
@@ -77,30 +78,40 @@ impl<R: Files<File = File>> HostFiles<StdFile> for StdFiles<'_, R> {
         Ok(StdFile::new(file, of.len()))
     }
 
+    // As long as the file is locked, another making of this name ends as in use.
     fn make(&self, path: &str) -> Result<StdFile, FileFault> {
+        if fs::symlink_metadata(self.rt, path).is_ok() {
+            return Err(FileFault::Exists);
+        }
+        let part = part_of(self.rt.alloc(), path)?;
+        clear(self.rt, part.as_str())?;
         let rights = self.rights();
-        let file = OpenOptions::new()
-            .read(true)
-            .write(true)
-            .create_new(true)
-            .mode(rights.unwrap_or(ANY_RIGHTS))
-            .open(self.rt, path)
-            .map_err(|error| match error.kind() {
-                ErrorKind::AlreadyExists => FileFault::Exists,
-                _ => FileFault::Cannot,
-            })?;
+        let file = new_file(self.rt, part.as_str(), rights.unwrap_or(ANY_RIGHTS))?;
         // Those that the system took away when it made the file come back.
         if let Some(rights) = rights {
             let _ = file.set_permissions(Permissions::from_mode(rights));
         }
         lock(&file)?;
+        if !is_named(self.rt, part.as_str(), &file) {
+            return Err(FileFault::InUse);
+        }
         Ok(StdFile::new(file, 0))
     }
 
-    fn keep_name(&self, path: &str) -> Result<(), HostFault> {
-        match sync_folder(self.rt, path) {
-            Ok(()) => Ok(()),
-            Err(_) => Err(HostFault::Failed),
+    fn keep_name(&self, path: &str, file: &StdFile) -> Result<(), FileFault> {
+        let part = part_of(self.rt.alloc(), path)?;
+        if !is_named(self.rt, part.as_str(), file.file()) {
+            return Err(FileFault::Cannot);
+        }
+        give_name(self.rt, part.as_str(), path)?;
+        sync_folder(self.rt, path).map_err(|_| FileFault::Cannot)
+    }
+
+    fn drop_made(&self, path: &str, file: &StdFile) {
+        if let Ok(part) = part_of(self.rt.alloc(), path)
+            && is_named(self.rt, part.as_str(), file.file())
+        {
+            let _ = fs::remove_file(self.rt, part.as_str());
         }
     }
 }
@@ -111,7 +122,10 @@ impl SectorFile<StdFile> {
     /// standard stream of this one, and `Cannot` where it can't be opened for reading and writing, or its file system
     /// has no locks. Nothing of it is read then.
     /// Rule: IMAGE, The file; DECISIONS, The device and the image.
-    pub fn open(rt: &impl Files<File = File>, path: &str) -> Result<FileDisk, FileFault>
+    pub fn open(
+        rt: &(impl Files<File = File> + AllocGlobal),
+        path: &str,
+    ) -> Result<FileDisk, FileFault>
         ensures refusal { IfErr result (λ fault. fault ≢ FileFault.Exists) }
         ensures counts { IfOk result (λ d. ⟦<SectorFile<StdFile> as SectorDevice>⟧.counts d
             ≡ record { reads = 0; writes = 0; syncs = 0 }) }
@@ -122,12 +136,12 @@ impl SectorFile<StdFile> {
     }
 
     /// Makes a file of this many sectors of zeros. `Exists` where something has that name, `InUse` where another
-    /// program took its lock first, and `Cannot` where it can't be made, locked, filled or synced, or its folder can't
-    /// be synced. When it answers Ok file and folder were synced; that both are on the disk then is assumed. After
-    /// `InUse` and `Cannot` a file may stay.
+    /// program is making a file of it, and `Cannot` where it can't be made, locked, filled or synced, or its name can't
+    /// be given or its folder synced. When it answers Ok file and folder were synced; that both are on the disk then is
+    /// assumed. Until its bytes were synced nothing has the name.
     /// Rule: IMAGE, The file; DECISIONS, The device and the image.
     pub fn create(
-        rt: &impl Files<File = File>,
+        rt: &(impl Files<File = File> + AllocGlobal),
         path: &str,
         sectors: u32,
     ) -> Result<FileDisk, FileFault>
@@ -137,10 +151,106 @@ impl SectorFile<StdFile> {
         ensures failures { IfOk result (λ d. ⟦<SectorFile<StdFile> as SectorDevice>⟧.failures d ≡ 0) }
         ensures sync { IfOk result (λ d. has_failed_sync d ≡ false) }
     {
-        match create_disk(&StdFiles::new(rt), path, sectors) {
-            Ok(disk) => Ok(disk),
-            Err((fault, _)) => Err(fault),
+        let files = StdFiles::new(rt);
+        match create_disk(&files, path, sectors) {
+            Ok(disk) => match kept(&files, path, &disk) {
+                Ok(()) => Ok(disk),
+                Err(fault) => Err(fault),
+            },
+            Err((fault, unfinished)) => {
+                if let Some(disk) = unfinished {
+                    files.drop_made(path, disk.file());
+                }
+                Err(fault)
+            }
         }
+    }
+}
+
+// Gives a file that was made its name, or lets go of it.
+fn kept<R: Files<File = File> + AllocGlobal>(
+    files: &StdFiles<'_, R>,
+    path: &str,
+    disk: &FileDisk,
+) -> Result<(), FileFault> {
+    match files.keep_name(path, disk.file()) {
+        Ok(()) => Ok(()),
+        Err(fault) => {
+            files.drop_made(path, disk.file());
+            Err(fault)
+        }
+    }
+}
+
+// The name that a file has as long as it is being made.
+fn part_of(alloc: Global, path: &str) -> Result<String, FileFault> {
+    format!(in alloc; "{path}.part").map_err(|_| FileFault::Cannot)
+}
+
+// Makes a file of a name that nothing has. Where something got it just now another program makes one too.
+fn new_file(rt: &impl Files<File = File>, part: &str, rights: u32) -> Result<File, FileFault> {
+    OpenOptions::new()
+        .read(true)
+        .write(true)
+        .create_new(true)
+        .mode(rights)
+        .open(rt, part)
+        .map_err(|error| match error.kind() {
+            ErrorKind::AlreadyExists => FileFault::InUse,
+            _ => FileFault::Cannot,
+        })
+}
+
+// Removes what a making that was cut has left: a file that no program has locked. Of one that has another name too, as
+// where its image has been given its own, this name alone goes. What is no file stays.
+fn clear(rt: &impl Files<File = File>, part: &str) -> Result<(), FileFault> {
+    let Ok(of) = fs::symlink_metadata(rt, part) else {
+        return Ok(());
+    };
+    if !of.is_file() {
+        return Err(FileFault::Cannot);
+    }
+    // (its lock holds until the name is gone)
+    let _left = if of.nlink() == 1 {
+        Some(left_of(rt, part)?)
+    } else {
+        None
+    };
+    fs::remove_file(rt, part).map_err(|_| FileFault::Cannot)
+}
+
+// What a making that was cut has left, locked.
+fn left_of(rt: &impl Files<File = File>, part: &str) -> Result<File, FileFault> {
+    let left = OpenOptions::new()
+        .read(true)
+        .write(true)
+        .open(rt, part)
+        .map_err(|_| FileFault::Cannot)?;
+    lock(&left)?;
+    if !is_named(rt, part, &left) {
+        return Err(FileFault::InUse);
+    }
+    Ok(left)
+}
+
+// Whether a name is that of a file, by its device and number.
+fn is_named(rt: &impl Files, path: &str, file: &File) -> bool {
+    match (file.metadata(), fs::symlink_metadata(rt, path)) {
+        (Ok(of), Ok(named)) => of.dev() == named.dev() && of.ino() == named.ino(),
+        _ => false,
+    }
+}
+
+// Gives a file a second name in one step, which nothing has, and takes the first one away. A file system without such
+// names has it renamed: what gets the name at that very moment is replaced there.
+fn give_name(rt: &impl Files, part: &str, path: &str) -> Result<(), FileFault> {
+    match fs::hard_link(rt, part, path) {
+        Ok(()) => {
+            let _ = fs::remove_file(rt, part);
+            Ok(())
+        }
+        Err(_) if fs::symlink_metadata(rt, path).is_ok() => Err(FileFault::Exists),
+        Err(_) => fs::rename(rt, part, path).map_err(|_| FileFault::Cannot),
     }
 }
 

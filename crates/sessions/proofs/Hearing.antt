@@ -1,10 +1,11 @@
 -- Lines that a tracer is told of one after another.
 use Rattle.std.proofs.Common.{◌≡◌, ℕ, List, [], ◌∷◌, ◌++◌, Option, refl, subst, sym, ap, ◌∙◌, append-nil}
 use Rattle.interpreter.specs.Lines.{LineEnd, Turn}
+use Rattle.interpreter.specs.declared.place.LeftAt.{LeftAt}
 use Rattle.interpreter.specs.declared.place.Place.{Place}
 use Rattle.sessions.specs.Heard.{HearsTurn, HearsAll}
 
-module _ {T : Type 0} (hears : (old new : T) → LineEnd → Option Place → List ℕ → List Place → Type 0) where
+module _ {T : Type 0} (hears : (old new : T) → LineEnd → Option LeftAt → Option Place → List ℕ → List Place → List ℕ → Type 0) where
   -- it was told of some, and then of others
   pub hears_then : (old mid new : T) (turns more : List Turn) → HearsAll hears old turns mid → HearsAll hears mid more new → HearsAll hears old (turns ++ more) new
   hears_then old mid new [] more none h = subst (λ s. HearsAll hears s more new) none h
@@ -33,3 +34,9 @@ module _ {T : Type 0} (hears : (old new : T) → LineEnd → Option Place → Li
 
   pub hears_as : (old new : T) (turn line : Turn) → line ≡ turn → HearsTurn hears old turn new → HearsTurn hears old line new
   hears_as old new turn line is h = subst (λ t. HearsTurn hears old t new) (sym is) h
+
+  -- of a line that ended so, and was left there
+  pub heard_as : (old new : T) (ending ending' : LineEnd) (left left' : Option LeftAt) {start : Option Place} {word : List ℕ} {loads : List Place} {undone : List ℕ}
+      → ending ≡ ending' → left ≡ left' → hears old new ending left start word loads undone → hears old new ending' left' start word loads undone
+  heard_as old new ending ending' left left' {start} {word} {loads} {undone} by at h =
+      subst (λ l. hears old new ending' l start word loads undone) at (subst (λ e. hears old new e left start word loads undone) by h)

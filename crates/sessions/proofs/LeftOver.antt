@@ -5,7 +5,7 @@ use Rattle.block_words.specs.Words.{Save}
 use Rattle.interpreter.specs.State.{Forth}
 use Rattle.interpreter.specs.Lines.{Turn}
 use Rattle.sessions.specs.declared.run_fault.RunFault.{RunFault}
-use Rattle.sessions.specs.Sessions.{BreaksOff, Completes, CutShort, InReading, InLine, InFlushing, StopsAtFault}
+use Rattle.sessions.specs.Sessions.{BreaksOff, Completes, CutShort, InReading, InLine, InFlushing, StopsAtFailure}
 use Rattle.sessions.specs.Streams.{left_of, bound}
 
 -- where the reader's bytes are not known, nothing is said of what it left
@@ -105,7 +105,7 @@ module _ {D : Type 0} (G : Ghosts D) (opening closing : Forth) (written written'
 
 module _ {D : Type 0} (G : Ghosts D) (opening closing : Forth) (written written' : Option (List ℕ)) (before after : D) (give : ℕ) (made : List Save) (P : List Turn → Type 0) where
   abbrev Stopped : (left left' : Option (List ℕ)) → Type 0
-  Stopped left left' = (stop : StopsAtFault G opening closing left left' written written' before after made) × P (stop.turns ++ stop.last ∷ [])
+  Stopped left left' = (stop : StopsAtFailure G opening closing left left' written written' before after made) × P (stop.turns ++ stop.last ∷ [])
 
   stopped_unknown : Stopped None (Some []) → Stopped None None
   stopped_unknown s = (
@@ -113,7 +113,7 @@ module _ {D : Type 0} (G : Ghosts D) (opening closing : Forth) (written written'
       input = s.0.input;
       turns = s.0.turns;
       last = s.0.last;
-      faultless = s.0.faultless;
+      unfailed = s.0.unfailed;
       fails = s.0.fails;
       session = s.0.session;
       goes_on = λ rest more end left_is session. absurd (cc);

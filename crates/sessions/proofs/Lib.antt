@@ -15,3 +15,4 @@ pub mod TraceLemmas
 pub mod Hearing
 pub mod Strict
 pub mod Freely
+mod EventLemmas

@@ -8,7 +8,8 @@ use Rattle.block_words.specs.Words.{Save}
 use Rattle.interpreter.specs.State.{Forth}
 use Rattle.interpreter.specs.Lines.{Turn}
 use Rattle.sessions.specs.declared.run_fault.RunFault.{RunFault}
-use Rattle.sessions.specs.Sessions.{AreFaultless, Session, Completes, BreaksOff, StopsAtFault, Told, has_fault, output_of, saves_of}
+use Rattle.sessions.specs.Sessions.{Session, Completes, BreaksOff, StopsAtFailure, Told, output_of, saves_of}
+use Rattle.sessions.specs.Strict.{NoneFailed, is_failed}
 use Rattle.sessions.specs.Calls.{TurnDone}
 use Rattle.sessions.proofs.Known.{Consumes-none, empty-parts, none-left}
 use Rattle.sessions.proofs.Rising.{told_then, told_once}
@@ -131,14 +132,14 @@ so_far_end G opening now start left left' output written written' before after m
 
 pub so_far_stop : {D : Type 0} (G : Ghosts D) (opening now : Forth) (start left output written : Option (List ℕ)) (before after : D) (made : List Save)
     → (so_far : SoFar G opening now start left output written before after made) (turns : List Turn) (last : Turn)
-    → so_far.turns ≡ turns ++ last ∷ [] → AreFaultless turns → has_fault last.ending ≡ true
-    → (stop : StopsAtFault G opening now start left output written before after made) × (stop.turns ++ stop.last ∷ [] ≡ so_far.turns)
-so_far_stop G opening now start left output written before after made so_far turns last is faultless fails = (
+    → so_far.turns ≡ turns ++ last ∷ [] → NoneFailed turns → is_failed last ≡ true
+    → (stop : StopsAtFailure G opening now start left output written before after made) × (stop.turns ++ stop.last ∷ [] ≡ so_far.turns)
+so_far_stop G opening now start left output written before after made so_far turns last is unfailed fails = (
   record {
     input = so_far.taken;
     turns = turns;
     last = last;
-    faultless = faultless;
+    unfailed = unfailed;
     fails = fails;
     session =
         let whole : Session opening (so_far.taken ++ []) (so_far.turns ++ []) now = so_far.goes_on [] [] now (λ _. refl) (refl, refl) in

@@ -10,7 +10,7 @@ use Rattle.sector_disk.proofs.Moments.{elapses_refl}
 use Rattle.sector_disk.specs.declared.device.SectorDevice.{Ghosts}
 use Rattle.block_words.specs.Words.{Save}
 use Rattle.interpreter.specs.State.{Forth}
-use Rattle.interpreter.specs.declared.place.Place.{Place}
+use Rattle.interpreter.specs.declared.place.LeftAt.{LeftAt}
 use Rattle.interpreter.specs.Lines.{LineEnd, Interpreting, Compiling, Quit, Io, Fails, Turn, Line, Broken, line}
 use Rattle.interpreter.specs.Promise.{HasRisenBy, Replied, Stopped, Answers, OnIo}
 use Rattle.interpreter.specs.Law.{HasTurn, LongLinesAreAlike}
@@ -27,22 +27,30 @@ use Rattle.sessions.proofs.Kept.{Kept, TakenLine, taken_line, first_turn, kept_a
 
 module _ {D : Type 0} (G : Ghosts D) (opening : Forth) (bytes : List ℕ) (closing : Forth) (input left output printed : Option (List ℕ)) (calls calls' : ℕ) (before after : D) (made : List Save) (f g : ℕ) where
   -- the terminal failed in it
-  pub was_stopped : (ending : LineEnd) (place : Option Place) → Answers G ending place opening bytes closing input left output printed calls calls' before after made
+  pub was_stopped : (ending : LineEnd) (place : Option LeftAt) (undone : List ℕ) → Answers G ending place undone opening bytes closing input left output printed calls calls' before after made
       → OnIo ending (g ≡ count_up f) (g ≡ f) → f ≡ 0 → 0 < g → Stopped G opening bytes closing input left output printed calls calls' before after made
-  was_stopped Io place h k zero some = h
-  was_stopped Interpreting place h k zero some = absurd (omega (arith, k, zero, some))
-  was_stopped Compiling place h k zero some = absurd (omega (arith, k, zero, some))
-  was_stopped Quit place h k zero some = absurd (omega (arith, k, zero, some))
-  was_stopped (Fails e) place h k zero some = absurd (omega (arith, k, zero, some))
+  was_stopped Io place undone h k zero some = h
+  was_stopped Interpreting place undone h k zero some = absurd (omega (arith, k, zero, some))
+  was_stopped Compiling place undone h k zero some = absurd (omega (arith, k, zero, some))
+  was_stopped Quit place undone h k zero some = absurd (omega (arith, k, zero, some))
+  was_stopped (Fails e) place undone h k zero some = absurd (omega (arith, k, zero, some))
 
   -- the terminal did not fail
-  pub was_replied : (ending : LineEnd) (place : Option Place) → Answers G ending place opening bytes closing input left output printed calls calls' before after made
-      → OnIo ending (g ≡ count_up f) (g ≡ f) → f ≡ 0 → g ≡ 0 → Replied G ending place opening bytes closing input left output printed before after made
-  was_replied Io place h k zero none = absurd (let e : 1 ≡ 0 = sym (k ∙ ap count_up zero) ∙ none in omega (arith, e))
-  was_replied Interpreting place h k zero none = h
-  was_replied Compiling place h k zero none = h
-  was_replied Quit place h k zero none = h
-  was_replied (Fails e) place h k zero none = h
+  pub was_replied : (ending : LineEnd) (place : Option LeftAt) (undone : List ℕ) → Answers G ending place undone opening bytes closing input left output printed calls calls' before after made
+      → OnIo ending (g ≡ count_up f) (g ≡ f) → f ≡ 0 → g ≡ 0 → Replied G ending place undone opening bytes closing input left output printed before after made
+  was_replied Io place undone h k zero none = absurd (let e : 1 ≡ 0 = sym (k ∙ ap count_up zero) ∙ none in omega (arith, e))
+  was_replied Interpreting place undone h k zero none = h
+  was_replied Compiling place undone h k zero none = h
+  was_replied Quit place undone h k zero none = h
+  was_replied (Fails e) place undone h k zero none = h
+
+-- so it ended otherwise
+pub answered : {f g : ℕ} (ending : LineEnd) → OnIo ending (g ≡ count_up f) (g ≡ f) → f ≡ 0 → g ≡ 0 → ending ≢ Io
+answered Io k zero none is = (let e : 1 ≡ 0 = sym (k ∙ ap count_up zero) ∙ none in omega (arith, e))
+answered Interpreting k zero none is = cc
+answered Compiling k zero none is = cc
+answered Quit k zero none is = cc
+answered (Fails e) k zero none is = cc
 
 -- ---- the line was read
 
@@ -92,7 +100,7 @@ module _ {D : Type 0} (G : Ghosts D) (long_lines : LongLinesAreAlike) (opening :
         refl,
       )
 
-  module _ (ending : LineEnd) (place : Option Place) (r : Replied G ending place opening text closing b c during written f g made) (d flushed : Option (List ℕ)) (left : d ≡ c) (kept_on : Keeps written flushed) where
+  module _ (ending : LineEnd) (place : Option LeftAt) (undone : List ℕ) (r : Replied G ending place undone opening text closing b c during written f g made) (d flushed : Option (List ℕ)) (left : d ≡ c) (kept_on : Keeps written flushed) where
     abbrev taken_r : TakenLine r.turn.given bytes a c
     taken_r = taken_by r.turn.given r.given
 

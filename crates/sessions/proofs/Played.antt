@@ -79,9 +79,9 @@ play_is (suc n) s (b ∷ input) answers short whole =
     let rest = drop 1 (from 10 (b ∷ input)) in
     let k = takes s bytes rest answers in
     let e = line_on s bytes (take k rest) answers in
-    let later = play n (between_lines s.budget e) (drop k rest) e.world.run.answers in (
+    let later = play n (between_lines s e) (drop k rest) e.world.run.answers in (
       drop k rest,
-      between_lines s.budget e,
+      between_lines s e,
       record {
         bytes = up_to 10 (b ∷ input);
         rest = rest;
@@ -93,6 +93,7 @@ play_is (suc n) s (b ∷ input) answers short whole =
           ends = refl;
           placed = refl;
           led = refl;
+          undone = refl;
           leaves = refl;
           taken = is_none e.world.run.input (both_first (is_empty e.world.run.input) later.whole whole);
           met = refl;
@@ -102,7 +103,7 @@ play_is (suc n) s (b ∷ input) answers short whole =
           worn = refl;
         };
       },
-      play_is n (between_lines s.budget e) (drop k rest) e.world.run.answers (drop_shorter k n rest (let r = rest_shorter b input in omega (arith, r, short))) (both_second (is_empty e.world.run.input) later.whole whole),
+      play_is n (between_lines s e) (drop k rest) e.world.run.answers (drop_shorter k n rest (let r = rest_shorter b input in omega (arith, r, short))) (both_second (is_empty e.world.run.input) later.whole whole),
     )
 
 pub played_is : (s : Forth) (input : List ℕ) (answers : List Answer) → (session s input answers).whole ≡ true → Session s input (session s input answers).turns (session s input answers).forth

@@ -1,6 +1,7 @@
 pub mod Devices
 pub mod Cut
 pub mod Calls
+pub mod Strict
 pub mod Sessions
 pub mod OverStore
 pub mod Playing
@@ -8,3 +9,4 @@ pub mod Streams
 pub mod Held
 pub mod Traces
 pub mod Heard
+pub mod Events

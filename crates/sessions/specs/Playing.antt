@@ -4,7 +4,7 @@ use Rattle.std.specs.Prelude.{◌≡◌, ℕ, zero, suc, Bool, true, false, ◌&
 use Rattle.number_io.specs.Taking.{up_to, from}
 use Rattle.block_words.specs.Words.{Answer}
 use Rattle.interpreter.specs.State.{Forth}
-use Rattle.interpreter.specs.Lines.{Ended, line_on, between_lines, Turn}
+use Rattle.interpreter.specs.Lines.{Ended, line_on, after_line, between_lines, undone_by, Turn}
 use Rattle.interpreter.specs.Told.{loads_told}
 use Rattle.sessions.specs.Cut.{line_text}
 use Rattle.sessions.specs.Sessions.{Session}
@@ -29,8 +29,8 @@ tried (suc k) n s bytes rest answers =
 abbrev pub takes : Forth → (bytes rest : List ℕ) → List Answer → ℕ
 takes s bytes rest answers = tried (length rest) 0 s bytes rest answers
 
-abbrev pub turn_of : List ℕ → Ended → Turn
-turn_of given e =
+abbrev pub turn_of : Forth → List ℕ → Ended → Turn
+turn_of s given e =
     record {
       given = given;
       at_end = e.world.run.at_end;
@@ -38,14 +38,15 @@ turn_of given e =
       ending = e.ending;
       place = e.place;
       loads = loads_told e.place e.world.loads;
+      undone = undone_by e.ending e.place (after_line s e);
       saves = e.world.run.saves;
       failures = e.world.run.failures;
       wear = e.world.run.wear;
     }
 
-abbrev pub with_turn : List ℕ → Ended → Played → Played
-with_turn given e p =
-    record { turns = turn_of given e ∷ p.turns; forth = p.forth; left = p.left; whole = is_empty e.world.run.input && p.whole }
+abbrev pub with_turn : Forth → List ℕ → Ended → Played → Played
+with_turn s given e p =
+    record { turns = turn_of s given e ∷ p.turns; forth = p.forth; left = p.left; whole = is_empty e.world.run.input && p.whole }
 
 -- at most n lines, until the input is used up; what the device will answer is used up too
 abbrev pub play : ℕ → Forth → (input : List ℕ) → List Answer → Played
@@ -56,7 +57,7 @@ play (suc n) s (b ∷ input) answers =
     let rest = drop 1 (from 10 (b ∷ input)) in
     let k = takes s bytes rest answers in
     let e = line_on s bytes (take k rest) answers in
-    with_turn (take k rest) e (play n (between_lines s.budget e) (drop k rest) e.world.run.answers)
+    with_turn s (take k rest) e (play n (between_lines s e) (drop k rest) e.world.run.answers)
 
 abbrev pub session : Forth → (input : List ℕ) → List Answer → Played
 session s input answers = play (length input) s input answers

@@ -7,11 +7,12 @@ use Rattle.sector_disk.specs.declared.device.SectorDevice.{Ghosts}
 use Rattle.block_words.specs.Words.{Save, Wear, no_wear, add_wear}
 use Rattle.block_words.specs.Calls.{WearsAtMost}
 use Rattle.interpreter.specs.State.{Forth}
-use Rattle.interpreter.specs.Lines.{Fails, LineEnd, Turn, Line, Broken}
+use Rattle.interpreter.specs.Lines.{Turn, Line, Broken}
 use Rattle.interpreter.specs.Promise.{HasRisenBy, Keeps}
 use Rattle.interpreter.specs.Terminal.{Begins}
 use Rattle.interpreter.specs.Law.{IsCalm}
 use Rattle.sessions.specs.Cut.{IsFirstLine, IsWhole, line_text}
+use Rattle.sessions.specs.Strict.{NoneFailed, is_failed}
 use Rattle.sessions.specs.declared.run_fault.RunFault.{RunFault}
 use Rattle.sessions.specs.declared.run_fault.RunFault.TheVariants.{Read, Write}
 
@@ -79,30 +80,20 @@ pub record Completes {D : Type 0} (G : Ghosts D) (opening closing : Forth) (left
   pub saves : made ≡ saves_of turns
   pub told : Told G old turns new
 
--- ---- a run that ends with the first fault
-
--- a fault ended the line
-abbrev pub has_fault : LineEnd → Bool
-has_fault (Fails fault) = true
-has_fault ending = false
-
--- no fault ended any of these lines
-abbrev pub AreFaultless : List Turn → Type 0
-AreFaultless turns = AllByRecursion (λ turn. has_fault turn.ending ≡ false) turns
+-- ---- a run that ends with the first line that fails
 
 -- whatever session the rest of the input has, the one of the whole input begins with these turns
 abbrev pub GoesOn : (opening : Forth) (input : List ℕ) (turns : List Turn) (closing : Forth) (left : Option (List ℕ)) → Type 0
 GoesOn opening input turns closing left =
     (rest : List ℕ) (more : List Turn) (end : Forth) → left ≡ Some rest → Session closing rest more end → Session opening (input ++ rest) (turns ++ more) end
 
--- A fault ended the last line, and none a line before it. Nothing behind that line was read, and the output of the session up to
--- there was written.
-pub record StopsAtFault {D : Type 0} (G : Ghosts D) (opening closing : Forth) (left left' written written' : Option (List ℕ)) (old new : D) (made : List Save) : Type 0 where
+-- The last line failed, and none before it. Nothing behind that line was read, and the output of the session up to there was written.
+pub record StopsAtFailure {D : Type 0} (G : Ghosts D) (opening closing : Forth) (left left' written written' : Option (List ℕ)) (old new : D) (made : List Save) : Type 0 where
   pub input : List ℕ
   pub turns : List Turn
   pub last : Turn
-  pub faultless : AreFaultless turns
-  pub fails : has_fault last.ending ≡ true
+  pub unfailed : NoneFailed turns
+  pub fails : is_failed last ≡ true
   pub session : Session opening input (turns ++ last ∷ []) closing
   pub goes_on : GoesOn opening input (turns ++ last ∷ []) closing left'
   pub read : Consumes left left' input

@@ -1,11 +1,13 @@
--- What is told, beside the reply, of a line that a fault ended.
-use Rattle.std.specs.Prelude.{◌≡◌, ℕ, zero, suc, ◌+◌, ◌/◌, ◌%◌, ◌==◌, ◌&&◌, nat_lt, if◌then◌else◌, List, [], ◌∷◌, ◌++◌, map, take, codes, Option, Some, None}
+-- What is told, beside the reply, of a line that a fault ended or ABORT left.
+use Rattle.std.specs.Prelude.{◌≡◌, ℕ, zero, suc, ◌+◌, ◌/◌, ◌%◌, ◌==◌, ◌&&◌, nat_lt, if◌then◌else◌, List, [], ◌∷◌, ◌++◌, map, take, codes, MatchBool, Option, Some, None}
 use Rattle.std.specs.Io.KnownBytes.{Appends}
 use Rattle.number_io.specs.Writing.{number_text}
 use Rattle.cell_machine.specs.Fault.{Fault}
+use Rattle.interpreter.specs.declared.place.LeftAt.{LeftAt}
 use Rattle.interpreter.specs.declared.place.Place.{Place}
 use Rattle.interpreter.specs.FaultNames.{fault_name}
 use Rattle.interpreter.specs.Lines.{LineEnd, Fails}
+use Rattle.interpreter.specs.Told.{has_aborted}
 
 -- the number of the line after the n-th: the largest one stays
 abbrev pub next_number : ℕ → ℕ
@@ -58,7 +60,24 @@ loads_text (load ∷ loads) = load_text load ++ loads_text loads
 abbrev pub trace_of : ℕ → Fault → Option Place → List ℕ → List Place → List ℕ
 trace_of number fault place word loads = ((fault_told number fault place ++ word_text word) ++ loads_text loads) ++ 10 ∷ []
 
--- This was written for the line: its trace, where a fault ended it. Else nothing.
-abbrev pub Writes : ℕ → LineEnd → Option Place → List ℕ → List Place → (written written' : Option (List ℕ)) → Type 0
-Writes number (Fails fault) place word loads written written' = Appends written written' (trace_of number fault place word loads)
-Writes number ending place word loads written written' = written' ≡ written
+-- of a line that ABORT or a true ABORT" left
+abbrev pub abort_line : ℕ → List ℕ
+abort_line number = (codes "line " ++ decimal number) ++ codes ": ABORT" ++ 10 ∷ []
+
+-- This was written of the line: the trace of the fault that ended it, or that it was aborted. Else nothing.
+abbrev pub WritesFailure : ℕ → LineEnd → Option LeftAt → Option Place → List ℕ → List Place → (written written' : Option (List ℕ)) → Type 0
+WritesFailure number (Fails fault) left place word loads written written' = Appends written written' (trace_of number fault place word loads)
+WritesFailure number ending left place word loads written written' = MatchBool (has_aborted left) (Appends written written' (abort_line number)) (written' ≡ written)
+
+-- of each block whose changes were taken back one line
+abbrev pub undone_line : ℕ → ℕ → List ℕ
+undone_line number block = ((codes "line " ++ decimal number) ++ codes ": undone: block ") ++ decimal block ++ 10 ∷ []
+
+abbrev pub undone_text : ℕ → List ℕ → List ℕ
+undone_text number [] = []
+undone_text number (block ∷ blocks) = undone_line number block ++ undone_text number blocks
+
+-- This was written for the line: first of its failure, and then of the blocks that were undone.
+abbrev pub Writes : ℕ → LineEnd → Option LeftAt → Option Place → List ℕ → List Place → (undone : List ℕ) → (written written' : Option (List ℕ)) → Type 0
+Writes number ending left place word loads undone written written' =
+    (mid : Option (List ℕ)) × WritesFailure number ending left place word loads written mid × Appends mid written' (undone_text number undone)

@@ -6,6 +6,7 @@ pub use over_store::{run_over, run_over_traced, run_over_until};
 pub use run_end::RunEnd;
 pub use run_fault::RunFault;
 pub use session::{run, run_traced, run_until};
+pub use strictness::Strictness;
 pub use tracing::{Tracer, Traces, Untraced};
 
 mod byte_reader;
@@ -16,5 +17,6 @@ mod run_end;
 mod run_fault;
 mod session;
 pub mod streams;
+mod strictness;
 mod trace_text;
 mod tracing;

@@ -5,6 +5,6 @@
 pub enum RunEnd {
     /// The input: each of its lines was run.
     Input,
-    /// A fault: it ended the line that was run last.
-    Fault,
+    /// A line that failed: a fault, `ABORT` or a true `ABORT"` ended it. It was run last.
+    Failure,
 }

@@ -2,7 +2,7 @@
 ghost use Rattle.std.specs.Prelude.{◌≡◌, ◌≤◌, ◌+◌, ◌*◌, ◌++◌, length, map};
 ghost use Rattle.arrayvec.specs.ArrayVec.{array_vec_len};
 ghost use Rattle.interpreter.specs.Stops.{fault_of};
-ghost use Rattle.sessions.specs.Traces.{at_place, decimal, fault_told, in_block, in_line, load_text, loads_text, place_text, shown, trace_of, word_text};
+ghost use Rattle.sessions.specs.Traces.{abort_line, at_place, decimal, fault_told, in_block, in_line, load_text, loads_text, place_text, shown, trace_of, undone_line, word_text};
 
 use arrayvec::ArrayVec;
 use interpreter::{Fault, Place};
@@ -187,6 +187,30 @@ pub(super) fn trace_text(
     let mut text = told_of(number, fault, place);
     append_word(&mut text, word);
     append_loads(&mut text, loads);
+    append(&mut text, b"\n");
+    text
+}
+
+/// What is told of a line that `ABORT` or a true `ABORT"` left: which line of the input that was.
+pub(super) fn abort_line(number: u32) -> Text
+    ensures { result.items ≡ abort_line number }
+{
+    let mut text = ArrayVec::new();
+    append(&mut text, b"line ");
+    append_number(&mut text, number);
+    append(&mut text, b": ABORT\n");
+    text
+}
+
+/// What is told of a block whose changes are taken back: in which line of the input that was.
+pub(super) fn undone_line(number: u32, block: u16) -> Text
+    ensures { result.items ≡ undone_line number block }
+{
+    let mut text = ArrayVec::new();
+    append(&mut text, b"line ");
+    append_number(&mut text, number);
+    append(&mut text, b": undone: block ");
+    append_number(&mut text, u32::from(block));
     append(&mut text, b"\n");
     text
 }

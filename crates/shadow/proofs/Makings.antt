@@ -3,14 +3,13 @@ use Rattle.std.proofs.Common.{◌≡◌, inl, inr, ⊎_elim, ℕ, ◌<◌, ◌�
 use Rattle.std.specs.Prelude.{OnOk}
 use Rattle.sector_disk.specs.Disk.{Disk, Image}
 use Rattle.sector_disk.specs.declared.device.SectorDevice.{Ghosts}
-use Rattle.journal.specs.Calls as journal
 use Rattle.journal.specs.Layout.{fewest_blocks, most_blocks}
 use Rattle.journal.proofs.Blocks.{at_below, length-below}
 use Rattle.recovery.specs.Found.{given_in}
 use Rattle.recovery.specs.Making as making
-use Rattle.recovery.specs.Making.{KeepsUnits}
 use Rattle.recovery.proofs.HomesMade.{given_below}
-use Rattle.journal.specs.PageCalls.{Passes, Proceeds}
+use Rattle.journal.specs.Calls.{BeginsAtMost, ReadsAtMost, Passes}
+use Rattle.journal.specs.declared.sizes.Layout.TheVariants as layouts
 use Rattle.shadow.specs.Formatted.{MakingLeaves, HasFirst, IsFilled, IsMade, PastLabel, Spoils}
 use Rattle.journal.specs.PageLayout.{label_of, gate_bytes}
 use Rattle.shadow.specs.Places.{HasNamed}
@@ -53,18 +52,13 @@ pub all_ok : {T E : Type 0} (r : Result T E) {P Q R S : Type 0} → (P → Q →
 all_ok (Ok x) f p q s = f p q s
 all_ok (Err e) f p q s = p
 
--- the units besides
-pub with_units : {D : Type 0} (device : Ghosts D) (a b : D) → journal.Proceeds device a b → KeepsUnits device false a b → Proceeds device a b
-with_units device a b run units = record { sectors = run.sectors; model = run.model; units = run.units; unit = units; time = run.time; failures = run.failures }
-
 -- What is written past the label's page is laid apart from the label.
 pub lays_of : {D T E : Type 0} (device : Ghosts D) {result : Result T E} (a b : D) (writes : ℕ) → Spoils device PastLabel a b → Passes device a b result
-    → journal.BeginsAtMost device a b writes 0 → journal.ReadsAtMost device a b 0 → making.Lays device false a b writes result
+    → BeginsAtMost device a b writes 0 → ReadsAtMost device a b 0 → making.Lays device layouts.Pages a b writes result
 lays_of device a b writes spoils passes begins reads = record {
   only = spoils.only;
   stops = spoils.stops;
-  passes = record { sectors = passes.sectors; model = passes.model; units = passes.units; time = passes.time; failures = passes.failures };
-  units = passes.unit;
+  passes = passes;
   begins = begins;
   reads = reads;
 }

@@ -3,27 +3,25 @@ ghost use Rattle.std.specs.Prelude.{◌≡◌, ◌≢◌, ◌<◌, ◌≤◌, �
 ghost use Rattle.sector_disk.specs.Counting.{count_up};
 ghost use Rattle.sector_disk.specs.Disk.{Image, MayLeave, written};
 ghost use Rattle.sector_disk.specs.Moments.{Elapses};
-ghost use Rattle.journal.specs.Calls.{StopsLeave, BeginsAtMost, ReadsAtMost, CostsAtMost};
+ghost use Rattle.journal.specs.Calls.{StopsLeave, BeginsAtMost, ReadsAtMost, CostsAtMost, Passes};
 ghost use Rattle.journal.specs.Layout.{most_blocks};
 ghost use Rattle.journal.specs.Maps.{fresh};
 ghost use Rattle.recovery.specs.Formatted.{blank_blocks};
 ghost use Rattle.recovery.specs.declared.fault.OpenFault.TheVariants.{BadSize, Device};
-ghost use Rattle.journal.specs.PageCalls.{Passes};
 ghost use Rattle.shadow.specs.Formatted.{FormatLeaves, HasFirst, IsBlank, KeepsRest, IsMade, PastLabel, Spoils, placed};
 ghost use Rattle.journal.specs.PageImages.{Means};
 ghost use Rattle.shadow.specs.Label.{is_size_for};
 ghost use Rattle.journal.specs.PageLayout.{sectors_for, label_of, gate_at, gate_bytes, record_at, sum_in};
-ghost use Rattle.shadow.specs.Opened.{end_of};
+ghost use Rattle.recovery.specs.Opened.{end_of};
 ghost use Rattle.journal.specs.Store.{device_of, disk_of, blocks_of, closed_of, technique_of, is_pending, StandsFor};
 ghost use Rattle.journal.specs.Technique.{is_journal};
 ghost use Rattle.journal.specs.Tags.{tag_of, xor_bytes};
 
 use crate::places::Places;
-use journal::Store;
 use journal::layout::BlockCount;
 use journal::pages::layout::{GATE, fits, gate, place_sector, record_sector, sum, tag_sector};
 use journal::pages::tags::{add, tag_of};
-use journal::pages::{write_pair, write_sector};
+use journal::{Store, write_pair, write_sector};
 use recovery::{Blanks, NullDevice, OpenFault, make};
 use sector_disk::{DeviceFault, SectorDevice};
 
@@ -36,7 +34,6 @@ fn write_place<D: SectorDevice>(
 ) -> Result<(), DeviceFault>
     requires past { 32 ≤ k }
     requires small { k < 2 ^ 16 }
-    requires page { k % 8 ≡ 0 }
     requires within { k + 2 < D.sector_count device.old }
     ensures ok { IsTrue (D.keeps_model device.old) → OnOk result (D.disk device.new
         ≡ written (written (written (D.disk device.old) k (take 512 bytes.now)) (k + 1) (drop 512 bytes.now)) (k + 2) (tag.now ++ replicate 480 0)) }

@@ -8,12 +8,11 @@ mod label;
 pub mod laws;
 mod opening;
 mod places;
-mod settling;
 mod upgrading;
 
 pub use checking::read_record;
 pub use formatting::format;
 pub use label::read_count;
-pub use opening::{Found, look, open, ready};
+pub use opening::{Found, look, survey};
 pub use places::Places;
 pub use upgrading::upgrade;

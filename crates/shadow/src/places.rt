@@ -1,10 +1,8 @@
 // Images of layout 3 are laid with each block in its first place.
 ghost use Rattle.std.specs.Prelude.{◌≡◌, ◌<◌, ℕ, false, List, replicate};
-ghost use Rattle.std.proofs.Common.{rules};
 ghost use Rattle.sector_disk.specs.Disk.{Image};
-ghost use Rattle.recovery.specs.Making.{labels_told};
 ghost use Rattle.shadow.specs.Formatted.{IsLeft};
-ghost use Rattle.journal.specs.PageLayout.{sectors_for, label_of};
+ghost use Rattle.journal.specs.declared.sizes.Layout.TheVariants.{Pages};
 ghost use Rattle.shadow.specs.Places.{HasPlaces, HasNamed, places_apart, left_apart};
 
 use crate::formatting::{fill_head, write_block};
@@ -35,11 +33,7 @@ impl Places {
 }
 
 impl Target for Places {
-    ghost by_sectors = { false };
-
-    ghost sectors_for = { sectors_for };
-
-    ghost label_of = { label_of };
+    ghost layout = { Pages };
 
     ghost block_writes = { 4 };
 
@@ -52,10 +46,6 @@ impl Target for Places {
     ghost has_laid = { λ target n count given image. HasPlaces count given target.sum image };
 
     ghost has_filled = { λ target n given image. HasNamed n given target.listing image };
-
-    ghost has_label = { λ n. Prim.search rules };
-
-    ghost label_told = { λ n. labels_told 3 n };
 
     ghost left_apart = { left_apart };
 

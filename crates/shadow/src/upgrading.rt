@@ -2,8 +2,7 @@
 ghost use Rattle.std.specs.Prelude.{◌≡◌, ◌≢◌, ◌⊎◌, ◌<◌, ◌+◌, ◌*◌, ◌==◌, ℕ, true, false, Some, None, IsTrue, OnOk, IfOk, IfErr, MatchResult, replicate};
 ghost use Rattle.sector_disk.specs.Counting.{count_up};
 ghost use Rattle.sector_disk.specs.Disk.{Image, MayLeave, settled};
-ghost use Rattle.journal.specs.Calls as journal;
-ghost use Rattle.journal.specs.Calls.{StopsLeave, BeginsAtMost, ReadsAtMost, CostsAtMost};
+ghost use Rattle.journal.specs.Calls.{StopsLeave, BeginsAtMost, ReadsAtMost, CostsAtMost, Proceeds};
 ghost use Rattle.journal.specs.Images as older;
 ghost use Rattle.journal.specs.Layout as older_layout;
 ghost use Rattle.journal.specs.Layout.{most_blocks};
@@ -14,21 +13,19 @@ ghost use Rattle.recovery.specs.declared.fault.OpenFault.{OpenFault};
 ghost use Rattle.recovery.specs.declared.fault.OpenFault.TheVariants.{BadSize, Device};
 ghost use Rattle.recovery.specs.declared.fault.UpgradeFault.{UpgradeFault};
 ghost use Rattle.recovery.specs.declared.fault.UpgradeFault.TheVariants.{Old, New};
-ghost use Rattle.journal.specs.PageCalls.{Proceeds};
 ghost use Rattle.shadow.specs.Formatted.{MakingLeaves, KeepsRest, IsFilled};
 ghost use Rattle.journal.specs.PageImages.{Means};
 ghost use Rattle.journal.specs.PageLayout.{sectors_for, label_of};
 ghost use Rattle.shadow.specs.Upgraded.{known_blocks, older_version, most_by, older_label_refusal, older_refusal, upgrade_size_refusal, upgrade_refusal, listing_of, reads_to_list};
 
 use crate::carrying::carry;
-use crate::settling::settle;
 use byteorder::{ByteOrder, LittleEndian};
 use journal::layout::{
     BlockCount, GATE, MOST_BLOCKS, MOST_BLOCKS_1, VERSION, VERSION_1, blocks_of_size, gate_is_open,
 };
 use journal::pages::layout::fits;
 use journal::sizes::known_blocks;
-use recovery::{OpenFault, UpgradeFault, check_label, read_record};
+use recovery::{OpenFault, UpgradeFault, check_label, read_record, settle};
 use sector_disk::SectorDevice;
 
 // How many blocks both images have.
@@ -103,7 +100,7 @@ fn start<D: SectorDevice>(device: &mut D, blocks: u16) -> Result<u16, OpenFault>
     ensures tells { Tells D.SectorDevice device.old device.new 1 result }
     ensures stops { IsTrue (D.keeps_model device.old)
         → StopsLeave D.SectorDevice device.old device.new (MayLeave (D.disk device.old)) }
-    ensures passes { journal.Proceeds D.SectorDevice device.old device.new }
+    ensures passes { Proceeds D.SectorDevice device.old device.new }
     ensures costs { CostsAtMost D.SectorDevice device.old device.new 0 1 1 }
 {
     let mut label = [0; 512];
@@ -157,7 +154,7 @@ fn find<D: SectorDevice>(
     ensures tells { Tells D.SectorDevice device.old device.new 1 result }
     ensures stops { IsTrue (D.keeps_model device.old)
         → StopsLeave D.SectorDevice device.old device.new (MayLeave (D.disk device.old)) }
-    ensures passes { journal.Proceeds D.SectorDevice device.old device.new }
+    ensures passes { Proceeds D.SectorDevice device.old device.new }
     ensures begins { BeginsAtMost D.SectorDevice device.old device.new 0 1 }
     ensures reads { IsTrue (D.keeps_model device.old)
         → ReadsAtMost D.SectorDevice device.old device.new (reads_to_list blocks.number (D.disk device.old).content + 1) }
@@ -207,7 +204,7 @@ pub fn upgrade<A: SectorDevice, B: SectorDevice>(
     ensures old_content { IsTrue (A.keeps_model old.old)
         → IfErr result (λ e. e ≢ Old Device → (A.disk old.new).content ≡ (A.disk old.old).content) }
     ensures old_begins { BeginsAtMost A.SectorDevice old.old old.new 0 1 }
-    ensures old_passes { journal.Proceeds A.SectorDevice old.old old.new }
+    ensures old_passes { Proceeds A.SectorDevice old.old old.new }
     // What a stop at any moment leaves of the new one, and what one leaves of it once the call has returned.
     ensures new_stops { IsTrue (A.keeps_model old.old) → IsTrue (B.keeps_model new.old) → (n : ℕ)
         → B.sector_count new.old ≡ sectors_for n

@@ -1,5 +1,5 @@
 -- The test for damage by layout 3 is exact.
-use Rattle.std.proofs.Common.{◌≡◌, ◌∙◌, inl, inr, ℕ, zero, suc, ◌<◌, Bool, true, false, List, Option, Some, None, refl, sym, ap, subst, arith, nat_eq}
+use Rattle.std.proofs.Common.{◌≡◌, ◌∙◌, inl, inr, ℕ, zero, suc, ◌<◌, Bool, true, false, List, Some, None, refl, sym, ap, subst, arith, nat_eq}
 use Rattle.std.specs.Prelude.{◌&&◌, if◌then◌else◌}
 use Rattle.std.specs.Cmp.Lexicographic.{pointwise}
 use Rattle.std.proofs.lemmas.Bool.{cases_eq}
@@ -10,12 +10,12 @@ use Rattle.recovery.specs.Opened.{first_of}
 use Rattle.recovery.specs.declared.fault.OpenFault.{OpenFault}
 use Rattle.recovery.specs.declared.fault.OpenFault.TheVariants.{Damaged}
 use Rattle.journal.specs.PageImages.{current_of, current_tag, record_of, IsWholeUnder}
-use Rattle.shadow.specs.Label.{blocks_in, refusal}
 use Rattle.journal.specs.PageLayout.{sum_in}
-use Rattle.shadow.specs.Opened.{Refuses}
+use Rattle.shadow.specs.Opened.{Passes, Refuses}
 use Rattle.journal.specs.Tags.{tag_of, sum_below}
 use Rattle.stores.specs.Damage.{are_tagged, is_whole, is_whole_under}
-use Rattle.stores.specs.Opened.{newer_refusal}
+use Rattle.stores.specs.ByLayout.{damage_by, refusal_by}
+use Rattle.journal.specs.declared.sizes.Layout.TheVariants.{Pages}
 
 same_bytes : (xs ys : List ℕ) → pointwise nat_eq xs ys ≡ true → xs ≡ ys
 same_bytes xs ys is = (slice_eq-Decides Decides-eqb xs ys (pointwise nat_eq xs ys) refl).0 is
@@ -68,31 +68,18 @@ module _ (listing : List ℕ) (image : Image) where
       let last = pointwise nat_eq (sum_in listing) sum in
       record { tags = tested_tags n (first_is first last is); sum = same_bytes (sum_in listing) sum (second_is first last is) }
 
--- A refusal by layout 3, and none, are told by the function that computes it.
-module _ (sectors : ℕ) (image : Image) where
-  abbrev Damaging : Bool → Option OpenFault
-  Damaging whole = if whole then None else Some Damaged
+-- What passes an opening by layout 3, and what is refused there, is told by the function that computes it.
+module _ (n : ℕ) (image : Image) where
+  pub passes_none : Passes n image → refusal_by Pages n image ≡ None
+  passes_none passes =
+      ap (λ r. first_of r (damage_by Pages n image)) passes.label
+      ∙ ap (λ whole. if whole then None else Some Damaged) (whole_tested (record_of image) image n passes.whole)
 
-  pub refusal_told : (fault : OpenFault) → Refuses sectors image fault → newer_refusal sectors image ≡ Some fault
-  refusal_told fault (inl label) = ap (λ r. first_of r (Damaging (is_whole (blocks_in sectors) image))) label
-  refusal_told fault (inr damaged) =
-      ap (λ r. first_of r (Damaging (is_whole (blocks_in sectors) image))) damaged.0 ∙ pick (is_whole (blocks_in sectors) image) refl
+  pub refused_some : (fault : OpenFault) → Refuses n image fault → refusal_by Pages n image ≡ Some fault
+  refused_some fault (inl label) = ap (λ r. first_of r (damage_by Pages n image)) label
+  refused_some fault (inr damaged) =
+      ap (λ r. first_of r (damage_by Pages n image)) damaged.0 ∙ pick (is_whole n image) refl
     where
-      pick : (whole : Bool) → is_whole (blocks_in sectors) image ≡ whole → Damaging whole ≡ Some fault
-      pick true is = absurd (damaged.2 (tested_whole (record_of image) image (blocks_in sectors) is))
+      pick : (whole : Bool) → is_whole n image ≡ whole → (if whole then None else Some Damaged) ≡ Some fault
+      pick true is = absurd (damaged.2 (tested_whole (record_of image) image n is))
       pick false is = ap Some (sym damaged.1)
-
-  pub none_told : ((fault : OpenFault) → ¬ Refuses sectors image fault) → newer_refusal sectors image ≡ None
-  none_told never = by_label (refusal sectors (image 0)) refl
-    where
-      by_damage : refusal sectors (image 0) ≡ None → (whole : Bool) → is_whole (blocks_in sectors) image ≡ whole → Damaging whole ≡ None
-      by_damage label true is = refl
-      by_damage label false is = absurd (never Damaged (inr (
-        label,
-        refl,
-        λ whole. absurd (let no : true ≡ false = sym (whole_tested (record_of image) image (blocks_in sectors) whole) ∙ is in cc),
-      )))
-
-      by_label : (r : Option OpenFault) → refusal sectors (image 0) ≡ r → newer_refusal sectors image ≡ None
-      by_label None is = ap (λ r. first_of r (Damaging (is_whole (blocks_in sectors) image))) is ∙ by_damage is (is_whole (blocks_in sectors) image) refl
-      by_label (Some fault) is = absurd (never fault (inl is))

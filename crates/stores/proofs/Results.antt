@@ -1,6 +1,6 @@
 -- What is told of a result.
 use Rattle.std.proofs.Common.{Result, Ok, Err}
-use Rattle.std.specs.Prelude.{IfOk, IfErr, MatchResult}
+use Rattle.std.specs.Prelude.{IfOk, IfErr, OnOk, MatchResult}
 
 module _ {T E : Type 0} where
   pub if_ok : (result : Result T E) {P Q : T → Type 0} → ((x : T) → P x → Q x) → IfOk result P → IfOk result Q
@@ -20,6 +20,6 @@ module _ {T E : Type 0} where
   either (Ok x) f g p = f x p
   either (Err e) f g p = g e p
 
-  pub any_err : (result : Result T E) {Q : E → Type 0} → ((e : E) → Q e) → IfErr result Q
-  any_err (Ok x) f = tt
-  any_err (Err e) f = f e
+  pub ok_of : (result : Result T E) {P : Type 0} {Q : T → Type 0} (R : E → Type 0) → ((x : T) → Q x → P) → MatchResult result Q R → OnOk result P
+  ok_of (Ok x) R f q = f x q
+  ok_of (Err e) R f r = tt

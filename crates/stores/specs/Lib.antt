@@ -1,3 +1,4 @@
+pub mod ByLayout
 pub mod Damage
 pub mod Images
 pub mod Opened

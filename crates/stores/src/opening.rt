@@ -10,15 +10,42 @@ ghost use Rattle.recovery.specs.declared.fault.OpenFault.TheVariants.{BadSize, D
 ghost use Rattle.shadow.specs.Label.{is_known_size};
 ghost use Rattle.shadow.specs.Upgraded.{known_blocks};
 ghost use Rattle.journal.specs.BySize.{Means};
+ghost use Rattle.journal.specs.Layouts.{sectors_for};
+ghost use Rattle.journal.specs.declared.sizes.Layout.TheVariants.{Journal};
+ghost use Rattle.stores.specs.ByLayout.{Opens};
 ghost use Rattle.stores.specs.Images.{HasMeaning, meaning};
 ghost use Rattle.stores.specs.Opened.{image_refusal, IsReady, OpeningLeaves, end_of, writes_for, syncs_for, reads_for};
 ghost use Rattle.journal.specs.Suits.{suits};
 ghost use Rattle.journal.specs.Store.{device_of, disk_of, blocks_of, sectors_of, closed_of, is_pending, StandsFor};
 
 use journal::Store;
-use journal::sizes::is_older;
-use recovery::OpenFault;
+use journal::layout::VERSION;
+use journal::sizes::{Layout, Size, is_older, size_of};
+use recovery::{OpenFault, recover};
 use sector_disk::SectorDevice;
+use shadow::survey;
+
+// What an opening does to an image of this size. It answers whether the gate is open.
+#[inline(never)] // what it reads isn't to lie on the stack below a store
+fn ready_by<D: SectorDevice>(
+    device: &mut D,
+    size: Size,
+    listing: &mut [u8; 512],
+) -> Result<bool, OpenFault>
+    requires { D.sector_count device.old ≡ sectors_for size.layout size.blocks.number }
+    ensures opens { Opens D.SectorDevice size.layout size.blocks.number device.old device.new listing.new result }
+    // Of layout 2 no more is told.
+    ensures gate { size.layout ≡ Journal → IfOk result (λ is_open. is_open ≡ false) }
+    ensures left { size.layout ≡ Journal → listing.new ≡ listing.old }
+{
+    match size.layout {
+        Layout::Journal => match recover(device, VERSION, size.blocks) {
+            Ok(()) => Ok(false),
+            Err(fault) => Err(fault),
+        },
+        Layout::Pages => survey(device, size.blocks, listing),
+    }
+}
 
 /// Makes an image of either layout ready for a store after a stop, and answers how many blocks it has, and whether its
 /// gate is open. How many sectors the device has tells the layout. Of layout 2 what an open gate asks for is done, so
@@ -76,13 +103,12 @@ pub fn ready<D: SectorDevice>(
     ensures reads { IsTrue (suits D.SectorDevice device.old) → is_known_size (D.sector_count device.old) ≡ true
         → ReadsAtMost D.SectorDevice device.old device.new (reads_for (D.sector_count device.old) (D.disk device.old).content) }
 {
-    if is_older(device) {
-        match recovery::ready(device) {
-            Ok(number) => Ok((number, false)),
+    match size_of(device.sectors()) {
+        Some(size) => match ready_by(device, size, listing) {
+            Ok(is_open) => Ok((size.blocks.number, is_open)),
             Err(fault) => Err(fault),
-        }
-    } else {
-        shadow::ready(device, listing)
+        },
+        None => Err(OpenFault::BadSize),
     }
 }
 

@@ -18,12 +18,6 @@ module _ {T U E : Type 0} where
   done_of (Ok t) (Err e) is P Q f p = tt
   done_of (Err e) r is P Q f p = subst (λ (r : Result U E). OnOk r Q) (sym is) tt
 
-  pub failed_of : (outcome : Result T E) (r : Result U E) → MatchResult outcome (λ _. IsOk r) (λ e. r ≡ Err e)
-      → (P Q : E → Type 0) → ((e : E) → P e → Q e) → IfErr outcome P → IfErr r Q
-  failed_of (Ok t) (Ok u) is P Q f p = tt
-  failed_of (Ok t) (Err e) is P Q f p = absurd (cc)
-  failed_of (Err e) r is P Q f p = subst (λ (r : Result U E). IfErr r Q) (sym is) (f e p)
-
 module _ {T U D : Type 0} (G : Ghosts D) where
   -- A session over blocks in memory, of which no call fails.
   pub failed_in_memory : (outcome : Result T Failure) (r : Result U Failure) → MatchResult outcome (λ _. IsOk r) (λ e. r ≡ Err e)

@@ -34,7 +34,7 @@ use Rattle.terminal.specs.Done.{LeavesBlocks}
 use Rattle.terminal.specs.Failed.{CallFailed, IsUntold, TellsRefusal}
 use Rattle.terminal.specs.Failures.{of_upgrade}
 use Rattle.terminal.specs.declared.failure.Failure.{Failure}
-use Rattle.terminal.specs.declared.failure.Failure.TheVariants.{CannotWrite, Device, NoMemory, Stopped}
+use Rattle.terminal.specs.declared.failure.Failure.TheVariants.{CannotWrite, Device, NoMemory}
 use Rattle.journal.proofs.Suited.{stays}
 
 pub both_true : (a b : Bool) → (a && b) ≡ true → (a ≡ true) × (b ≡ true)
@@ -128,21 +128,6 @@ never_memory (New image.OtherVersion) is = cc
 never_memory (New image.WrongCount) is = cc
 never_memory (New image.Damaged) is = cc
 never_memory (New image.Device) is = cc
-
--- And none is a session that was stopped.
-pub never_stopped : (fault : UpgradeFault) → of_upgrade fault ≢ Stopped
-never_stopped (Old image.BadSize) is = cc
-never_stopped (Old image.NoLabel) is = cc
-never_stopped (Old image.OtherVersion) is = cc
-never_stopped (Old image.WrongCount) is = cc
-never_stopped (Old image.Damaged) is = cc
-never_stopped (Old image.Device) is = cc
-never_stopped (New image.BadSize) is = cc
-never_stopped (New image.NoLabel) is = cc
-never_stopped (New image.OtherVersion) is = cc
-never_stopped (New image.WrongCount) is = cc
-never_stopped (New image.Damaged) is = cc
-never_stopped (New image.Device) is = cc
 
 -- None is for an output that failed either.
 never_written : (fault : UpgradeFault) → of_upgrade fault ≢ CannotWrite

@@ -3,7 +3,8 @@ use Rattle.std.proofs.Common.{◌≡◌, ◌≢◌, ◌⊎◌, ℕ, IsTrue, List
 use Rattle.std.specs.Prelude.{IfErr, MatchResult, OnOk, option_map}
 use Rattle.sector_disk.specs.declared.device.SectorDevice.{Ghosts}
 use Rattle.recovery.specs.Steps.{OnlyRead, WentWell}
-use Rattle.terminal.specs.Compared.{DiffDone, OneFailed, refusal_of_either}
+use Rattle.terminal.specs.Compared.{OneFailed, refusal_of_either}
+use Rattle.terminal.specs.Shapes.{DiffDone}
 use Rattle.terminal.specs.Failed.{DiffFailed}
 use Rattle.terminal.specs.Failures.{of_image}
 use Rattle.terminal.specs.declared.failure.Failure.{Failure}
@@ -16,7 +17,7 @@ module _ {D E T : Type 0} (G : Ghosts D) where
   pub diff_done : (r : Result T Failure) (left : Left E D) (before : D) (first second : D → Type 0) (written written' : Option (List ℕ)) → first before
       → OnOk r (DiffDone G (λ device. device ≡ before) second written written' left) → OnOk r (DiffDone G first second written written' left)
   diff_done (Ok t) left before first second written written' is done =
-      (done.0, done.1, done.2, (done.3.0, subst first (sym done.3.1) is, done.3.2, done.3.3, done.3.4))
+      (done.0, done.1, done.2, done.3, subst first (sym done.4) is, done.5, done.6, done.7)
   diff_done (Err e) left before first second written written' is done = tt
 
   -- Both were opened, and only read.

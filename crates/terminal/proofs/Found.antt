@@ -27,12 +27,11 @@ use Rattle.shadow.specs.Label as newer
 use Rattle.shadow.specs.Opened as newer_opened
 use Rattle.stores.specs.Images.{HasMeaning, meaning}
 use Rattle.stores.specs.Opened.{OpeningLeaves}
-use Rattle.interpreter.specs.Lines.{new_forth}
 use Rattle.sessions.specs.Devices.{Becomes}
 use Rattle.command_line.specs.declared.orders.Layout.{Layout}
 use Rattle.command_line.specs.declared.orders.Layout.TheVariants.{Two, Three}
 use Rattle.terminal.specs.Again.{AnyMomentImportThenRun, AnyMomentPutThenRun, AnyMomentThenRun, BrokenRunThenRun, Chain, EndedIsFound, ExportsFrom, FaultThenRun, GivesBlocks, ImportThenRun, ImportsOver, IsFoundAgain, IsFoundAsItEnded, MakesBy, NewThenImport, PutThenRun, RunThenExport, RunThenRun, RunsOver, StoppedImportThenRun, StoppedIsFound, StoppedPutThenRun, StoppedRecovery, StoppedRunThenRun, with_files}
-use Rattle.terminal.specs.Done.{LeavesBlocks, MeansOn, Recovers, RunsFrom, maps_on, meant_by}
+use Rattle.terminal.specs.Done.{LeavesBlocks, MeansOn, Recovers, RunsFrom, maps_on, meant_by, new_system}
 use Rattle.terminal.specs.Findings.{said_all}
 use Rattle.terminal.specs.Transfer.{as_blocks, exports as exported, spilled_from}
 
@@ -138,9 +137,9 @@ module _ {D : Type 0} (G : Ghosts D) (present : (d : D) → IsTrue (G.keeps_mode
   -- ---- what a command does over blocks that it finds
 
   runs_over : (next : D) (blocks : List (List ℕ)) → IsTrue (suits G next) → GivesBlocks G next blocks → RunsOver G next blocks
-  runs_over next blocks keeps given = λ steps left left' written written' after ran. (
+  runs_over next blocks keeps given = λ allowed left left' written written' after ran. (
     ran.begun,
-    subst (λ (blocks : List (List ℕ)). RunsFrom G (new_forth steps (fresh blocks)) left left' written written' ran.begun after)
+    subst (λ (blocks : List (List ℕ)). RunsFrom G (new_system allowed (fresh blocks)) left left' written written' ran.begun after)
         (given (ran.meant keeps)) (ran.runs keeps),
   )
 
@@ -217,12 +216,12 @@ module _ {D : Type 0} (G : Ghosts D) (present : (d : D) → IsTrue (G.keeps_mode
       )
 
   pub run_then_run : RunThenRun G
-  run_then_run steps left left' written written' device after next ran found keeps live =
+  run_then_run allowed left left' written written' device after next ran found keeps live =
       then_runs after next (ran.runs keeps).closing.world.maps.saved ((ran.runs keeps).saved live) found
       (suits_after device ran.begun after ran.recovers.goes ran.goes keeps)
 
   pub run_then_export : RunThenExport G
-  run_then_export steps left left' written written' device after next ran found keeps live =
+  run_then_export allowed left left' written written' device after next ran found keeps live =
       let now = suits_after device ran.begun after ran.recovers.goes ran.goes keeps in
       exports_from next (ran.runs keeps).closing.world.maps.saved (still (G.time after) after next found now)
       (ended after next (ran.runs keeps).closing.world.maps.saved ((ran.runs keeps).saved live) found now).0
@@ -272,13 +271,13 @@ module _ {D : Type 0} (G : Ghosts D) (present : (d : D) → IsTrue (G.keeps_mode
       ((imports.saves keeps).stops refl (G.disk next).content since)
 
   pub stopped_run_then_run : StoppedRunThenRun G
-  stopped_run_then_run steps left left' written written' device after ran keeps =
+  stopped_run_then_run allowed left left' written written' device after ran keeps =
       kept_runs ran.begun after (suits_after device ran.begun after ran.recovers.goes ran.goes keeps)
       (ran.goes.sectors (suits_begun device ran.begun ran.recovers.goes keeps))
       (meant_by G device) (ran.runs keeps).made (G.time ran.begun) (ran.runs keeps).keeps.kept.leaves
 
   pub any_moment_then_run : AnyMomentThenRun G
-  any_moment_then_run steps left left' written written' device after ran keeps leaves =
+  any_moment_then_run allowed left left' written written' device after ran keeps leaves =
       let now = suits_after device ran.begun after ran.recovers.goes ran.goes keeps in
       let sized = ran.goes.sectors (suits_begun device ran.begun ran.recovers.goes keeps) in
       kept_runs ran.begun after now sized (meant_by G device) (ran.runs keeps).made (G.time device)
@@ -318,7 +317,7 @@ module _ {D : Type 0} (G : Ghosts D) (present : (d : D) → IsTrue (G.keeps_mode
       )
 
   pub broken_then_run : BrokenRunThenRun G
-  broken_then_run steps is_strict left left' written written' failure device after broke keeps =
+  broken_then_run allowed strictness left left' written written' failure device after broke keeps =
       let now = suits_after device broke.begun after broke.recovers.goes broke.goes keeps in (
         λ next found live. then_runs after next (broke.done.breaks keeps).closing.world.maps.saved ((broke.done.breaks keeps).saved live) found now,
         kept_runs broke.begun after now (broke.goes.sectors (suits_begun device broke.begun broke.recovers.goes keeps))
@@ -344,10 +343,10 @@ module _ {D : Type 0} (G : Ghosts D) (present : (d : D) → IsTrue (G.keeps_mode
       let same = found_kept.0 (two.session.meant keeps') in
       let leaves = subst (λ (blocks : List (List ℕ)). LeavesBlocks G again blocks) (sym same) found_kept.1 in (
         then_runs filled opened (with_files (blank_blocks n) form first imports.files) files_in found_opened filled_suits,
-        run_then_run one.steps one.input one.input_after one.output one.output_after opened saved again one.session found_again keeps live,
+        run_then_run one.allowed one.input one.input_after one.output one.output_after opened saved again one.session found_again keeps live,
         subst (λ (blocks : List (List ℕ)). KeptFrom (RunsOver G) (λ since next. IsFoundAgain G since stopped_run next) (G.time stopped_run)
             blocks (two.session.runs keeps').made (G.time again))
             same
-            (any_moment_then_run two.steps two.input two.input_after two.output two.output_after again stopped_run two.session keeps' leaves),
-        run_then_export three.steps three.input three.input_after three.output three.output_after later done last three.session found_last keeps'' live',
+            (any_moment_then_run two.allowed two.input two.input_after two.output two.output_after again stopped_run two.session keeps' leaves),
+        run_then_export three.allowed three.input three.input_after three.output three.output_after later done last three.session found_last keeps'' live',
       )

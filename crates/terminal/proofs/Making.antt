@@ -1,6 +1,6 @@
 -- How a command ended that was to make an image.
-use Rattle.std.proofs.Common.{◌≡◌, ◌∙◌, ◌⊎◌, ◌≤◌, ℕ, true, Result, Ok, Err, inr, subst, sym, arith}
-use Rattle.std.specs.Prelude.{⊤, IsOk, IfErr, IfOk, OnOk}
+use Rattle.std.proofs.Common.{◌≡◌, ◌≤◌, ℕ, true, Result, Ok, Err, subst, sym, arith}
+use Rattle.std.specs.Prelude.{IsOk, IfErr, IfOk, OnOk}
 use Rattle.std.proofs.lemmas.Bool.Decides.{nat_tests}
 use Rattle.sector_disk.specs.declared.device.SectorDevice.{Ghosts}
 use Rattle.journal.specs.Layout as older_layout
@@ -9,10 +9,7 @@ use Rattle.journal.specs.Store.{device_of}
 use Rattle.journal.specs.declared.store.Store.{Store}
 use Rattle.recovery.specs.Label as older_label
 use Rattle.shadow.specs.Label as newer_label
-use Rattle.terminal.specs.Done.{DoneOn, EachLeft}
 use Rattle.terminal.specs.declared.failure.Failure.{Failure}
-use Rattle.terminal.specs.declared.left.Left.{Left}
-use Rattle.terminal.specs.declared.left.Left.TheVariants.{Made}
 
 -- The size of a file that was made for so many blocks is that of an image.
 pub older_size : (n sectors : ℕ) → 32 ≤ n → n ≤ 3840 → sectors ≡ older_layout.sectors_for n → older_label.is_size_for n sectors ≡ true
@@ -35,30 +32,19 @@ of_none : {T E : Type 0} (P : E → Type 0) (r : Result T E) → IsOk r → IfEr
 of_none P (Ok t) is = tt
 of_none P (Err e) is = absurd cc
 
-module _ {D E T : Type 0} (G : Ghosts D) where
+-- The device is given back, and what it was told as.
+module _ {D T : Type 0} (G : Ghosts D) where
   -- The image was made.
-  pub made_done : (first : D → Type 0) (P : D → D → Type 0) (device : D) (outcome : Result (Store D G) (Failure × D)) (left : Left D E)
-      (r : Result T Failure) → first device → IfOk outcome (λ store. left ≡ Made (device_of store)) → IfErr outcome (λ e. r ≡ Err e.0)
-      → IfOk outcome (λ store. P device (device_of store)) → OnOk r (DoneOn G (λ d. Made d) first P left)
-  made_done first P device (Ok store) left r is at failed done = on_any r (device_of store, at, (device, is, done))
-  made_done first P device (Err e) left r is at failed done = subst (λ (r : Result T Failure). OnOk r (DoneOn G (λ d. Made d) first P left)) (sym failed) tt
+  pub given_done : (P : D → D → Type 0) (device : D) (outcome : Result (Store D G) (Failure × D)) (after : D) (r : Result T Failure)
+      → IfOk outcome (λ store. after ≡ device_of store) → IfErr outcome (λ e. r ≡ Err e.0) → IfOk outcome (λ store. P device (device_of store))
+      → OnOk r (P device after)
+  given_done P device (Ok store) after r at failed done = on_any r (subst (λ (d : D). P device d) (sym at) done)
+  given_done P device (Err e) after r at failed done = subst (λ (r : Result T Failure). OnOk r (P device after)) (sym failed) tt
 
   -- It wasn't, or not to its end.
-  pub made_failed : (first : D → Type 0) (P : Failure → D → D → Type 0) (N : Failure → Type 0) (device : D) (outcome : Result (Store D G) (Failure × D))
-      (left : Left D E) (r : Result T Failure) → first device → IfErr outcome (λ e. left ≡ Made e.1) → OnOk outcome (IsOk r)
-      → IfErr outcome (λ e. r ≡ Err e.0) → IfErr outcome (λ e. P e.0 device e.1)
-      → IfErr r (λ failure. N failure ⊎ DoneOn G (λ d. Made d) first (P failure) left)
-  made_failed first P N device (Ok store) left r is at well failed done = of_none _ r well
-  made_failed first P N device (Err e) left r is at well failed done =
-      subst (λ (r : Result T Failure). IfErr r (λ failure. N failure ⊎ DoneOn G (λ d. Made d) first (P failure) left)) (sym failed)
-      (inr (e.1, at, (device, is, done)))
-
-  -- No call of what was made failed, where none had failed before.
-  pub made_well : (device : D) (outcome : Result (Store D G) (Failure × D)) (left : Left D E) (r : Result T Failure) → G.failures device ≡ 0
-      → IfOk outcome (λ store. left ≡ Made (device_of store)) → IfErr outcome (λ e. r ≡ Err e.0)
-      → IfOk outcome (λ store. G.failures (device_of store) ≡ G.failures device)
-      → OnOk r (EachLeft (λ (d : D). G.failures d ≡ 0) (λ (other : E). ⊤) left)
-  made_well device (Ok store) left r zero at failed well =
-      on_any r (subst (λ (left : Left D E). EachLeft (λ (d : D). G.failures d ≡ 0) (λ (other : E). ⊤) left) (sym at) (well ∙ zero))
-  made_well device (Err e) left r zero at failed well =
-      subst (λ (r : Result T Failure). OnOk r (EachLeft (λ (d : D). G.failures d ≡ 0) (λ (other : E). ⊤) left)) (sym failed) tt
+  pub given_failed : (P : Failure → D → D → Type 0) (device : D) (outcome : Result (Store D G) (Failure × D)) (after : D) (r : Result T Failure)
+      → IfErr outcome (λ e. after ≡ e.1) → OnOk outcome (IsOk r) → IfErr outcome (λ e. r ≡ Err e.0) → IfErr outcome (λ e. P e.0 device e.1)
+      → IfErr r (λ failure. P failure device after)
+  given_failed P device (Ok store) after r at well failed done = of_none _ r well
+  given_failed P device (Err e) after r at well failed done =
+      subst (λ (r : Result T Failure). IfErr r (λ failure. P failure device after)) (sym failed) (subst (λ (d : D). P e.0 device d) (sym at) done)

@@ -96,6 +96,7 @@ module _ {D : Type 0} (G : Ghosts D) (only_now : (d : D) (c : Image) → G.left_
       sectors = refl;
       model = refl;
       units = refl;
+      unit = λ keeps. refl;
       time = elapses_refl G.time G.left_since device;
       failures = omega arith;
     };

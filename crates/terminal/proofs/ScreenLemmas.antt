@@ -1,9 +1,9 @@
 -- How a text is cut into the rows of a screen.
-use Rattle.std.proofs.Common.{◌≡◌, ◌≤◌, ◌<◌, ◌+◌, ◌-◌, ◌&&◌, ◌==◌, ℕ, zero, suc, Bool, true, false, List, [], ◌∷◌, ◌++◌, length, take, drop, map, Option, Some, None, option_map, refl, ap, sym, ◌∙◌, arith, append-nil, length-append, ◌*◌, length-take, if◌then◌else◌, nat_lt, nat_le}
+use Rattle.std.proofs.Common.{◌≡◌, ◌≤◌, ◌<◌, ◌+◌, ◌-◌, ◌&&◌, ◌==◌, ℕ, zero, suc, Bool, true, false, List, [], ◌∷◌, ◌++◌, length, take, drop, map, Option, Some, None, option_map, refl, ap, sym, ◌∙◌, arith, ◌*◌, length-take, if◌then◌else◌, nat_lt, nat_le}
 use Rattle.std.proofs.lemmas.List.{length-drop, length-map, take-map}
 use Rattle.std.proofs.Math.ListN.{get_or-map}
 use Rattle.std.proofs.lemmas.Grind.{common_steps}
-use Rattle.std.proofs.lemmas.Bool.{leb-true, ltb-true, ltb-false}
+use Rattle.std.proofs.lemmas.Bool.{leb-true}
 use Rattle.std.specs.Io.KnownBytes.{Consumes, IsAtEnd}
 use Rattle.std.specs.Prelude.{IfSome, slice_index}
 use Rattle.std.specs.Io.BufRead.{strip_last, ends_with_byte}
@@ -163,18 +163,3 @@ pub screen_whole : (before after : Option (List ℕ)) (items block : List ℕ) �
     → screen_of items ≡ Some block → IfSome before (λ left. items ≡ left)
 screen_whole before after items block read end said =
     let short = rows_length 16 items block said in read_whole before after items read (end (omega (arith, short)))
-
--- as many bytes of a text as there is room for say what the whole text says
-pub same_screen : (input items : List ℕ) (left : Option (List ℕ)) → Consumes (Some input) left items → (length items < 1057 → IsAtEnd left)
-    → screen_of items ≡ screen_of input
-same_screen input items None read end = absurd read
-same_screen input items (Some rest) read end = go (nat_lt (length items) 1057) refl
-  where
-    go : (t : Bool) → nat_lt (length items) 1057 ≡ t → screen_of items ≡ screen_of input
-    go true few =
-        let none : rest ≡ [] = end (ltb-true _ _ few) in
-        ap screen_of (sym (read ∙ ap (λ l. items ++ l) none ∙ append-nil items))
-    go false many =
-        let long : 1056 < length items = omega (arith, ltb-false _ _ many) in
-        let longer : 1056 < length input = omega (arith, ap length read, length-append items rest, long) in
-        too_long items long ∙ sym (too_long input longer)

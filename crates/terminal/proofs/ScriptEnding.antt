@@ -1,51 +1,42 @@
 -- The session of a script, from the store that is opened to how it ended.
-use Rattle.std.proofs.Common.{◌≡◌, ◌∙◌, ℕ, Bool, true, List, Option, None, Some, Result, Ok, Err, IsTrue, ap, inl, inr, refl, subst, sym}
-use Rattle.std.specs.Prelude.{◌≢◌, IfErr, IfOk, MatchResult, OnOk}
+use Rattle.std.proofs.Common.{◌≡◌, ◌≢◌, ◌∙◌, ℕ, Bool, List, Option, Result, Ok, Err, IsTrue, ap, inl, inr, refl, subst, sym}
+use Rattle.std.specs.Prelude.{IfErr, IfOk, MatchResult}
 use Rattle.sector_disk.specs.declared.device.SectorDevice.{Ghosts}
 use Rattle.journal.specs.Maps.{Maps}
 use Rattle.journal.specs.Store.{StandsFor, device_of}
 use Rattle.journal.specs.Suits.{suits}
 use Rattle.journal.specs.declared.store.Store.{Store}
 use Rattle.interpreter.specs.State.{Forth}
-use Rattle.interpreter.specs.Lines.{LineEnd, new_forth}
+use Rattle.interpreter.specs.Lines.{LineEnd}
+use Rattle.interpreter.specs.declared.place.LeftAt.{LeftAt}
 use Rattle.interpreter.specs.declared.place.Place.{Place}
 use Rattle.sessions.specs.Devices.{Becomes}
 use Rattle.sessions.specs.Heard.{BreaksOffBy, CompletesBy, EndsBy, StopsBy}
 use Rattle.sessions.specs.OverStore.{RunsOverBy}
-use Rattle.sessions.specs.Sessions.{AreFaultless}
+use Rattle.sessions.specs.Strict.{NoneFailed, strict_ones}
+use Rattle.sessions.specs.declared.strictness.Strictness.{Strictness}
+use Rattle.sessions.specs.declared.strictness.Strictness.TheVariants.{Never}
 use Rattle.sessions.specs.declared.run_end.RunEnd.{RunEnd}
-use Rattle.sessions.specs.declared.run_end.RunEnd.TheVariants.{Input, Fault}
+use Rattle.sessions.specs.declared.run_end.RunEnd.TheVariants.{Input, Failure as LineFailed}
 use Rattle.sessions.specs.declared.run_fault.RunFault.{RunFault}
-use Rattle.sessions.specs.declared.run_fault.RunFault.TheVariants.{Read, Write}
 use Rattle.command_line.specs.declared.orders.Script.{Script}
 use Rattle.terminal.specs.declared.ending.Ended.{Ended}
 use Rattle.terminal.specs.declared.failure.Failure.{Failure}
-use Rattle.terminal.specs.declared.failure.Failure.TheVariants.{NoMemory, Stopped}
+use Rattle.terminal.specs.declared.failure.Failure.TheVariants.{NoMemory}
+use Rattle.terminal.specs.declared.failure.Outcome.{Outcome}
 use Rattle.terminal.specs.declared.left.Left.{Left}
 use Rattle.terminal.specs.declared.left.Left.TheVariants.{Opened}
-use Rattle.terminal.specs.Done.{BreaksFrom, DoneOn, LeavesBlocks, RunsFrom, maps_on, meant_by}
+use Rattle.terminal.specs.Done.{BreaksFrom, DoneOn, LeavesBlocks, RunsFrom, maps_on, meant_by, Allowed, new_system}
 use Rattle.terminal.specs.Failed.{FailsAfter, FailsOn, NotBegun, RunFails, ScriptFailed, ScriptUnbegun}
 use Rattle.terminal.specs.Failures.{of_end, of_run}
 use Rattle.terminal.specs.Files.{OpensAs}
-use Rattle.terminal.specs.Scripts.{EndsFrom, EndsScript, EndsSession, IsLed, RunsScript, StopsFrom, StopsScript, load_line}
+use Rattle.terminal.specs.Scripts.{EndsFrom, EndsScript, EndsSession, IsLed, RunsScript, ScriptEnded, StopsFrom, StopsScript, load_line, allowed_by, strictness_of}
 
--- what an end is told as tells the end
-pub at_input : (end : Result RunEnd RunFault) → of_end end ≡ None → end ≡ Ok Input
-at_input (Ok Input) is = refl
-at_input (Ok Fault) is = absurd (cc)
-at_input (Err fault) is = absurd (cc)
-
-pub at_fault : (end : Result RunEnd RunFault) → of_end end ≡ Some Stopped → end ≡ Ok Fault
-at_fault (Ok Input) is = absurd (cc)
-at_fault (Ok Fault) is = refl
-at_fault (Err Read) is = absurd (cc)
-at_fault (Err Write) is = absurd (cc)
-
-module _ {D T : Type 0} (G : Ghosts D) (hears : (old new : T) → LineEnd → Option Place → List ℕ → List Place → Type 0) where
+module _ {D T : Type 0} (G : Ghosts D) (hears : (old new : T) → LineEnd → Option LeftAt → Option Place → List ℕ → List Place → List ℕ → Type 0) where
   -- The session of a store, and what is said of it by how it ended.
-  module _ (is_strict : Bool) (end : Result RunEnd RunFault) (is_unsaved : Bool) (opening : Forth) (left left' written written' : Option (List ℕ)) (tracer tracer' : T) where
-    ends_from : (old new : Store D G) → RunsOverBy hears G is_strict opening old new end is_unsaved left left' written written' tracer tracer'
-        → EndsFrom G hears is_strict end is_unsaved opening left left' written written' (device_of old) (device_of new) tracer tracer'
+  module _ (strictness : Strictness) (end : Result RunEnd RunFault) (is_unsaved : Bool) (opening : Forth) (left left' written written' : Option (List ℕ)) (tracer tracer' : T) where
+    ends_from : (old new : Store D G) → RunsOverBy hears G strictness opening old new end is_unsaved left left' written written' tracer tracer'
+        → EndsFrom G hears strictness end is_unsaved opening left left' written written' (device_of old) (device_of new) tracer tracer'
     ends_from old new run = record {
       closing = run.0;
       made = run.1;
@@ -55,38 +46,38 @@ module _ {D T : Type 0} (G : Ghosts D) (hears : (old new : T) → LineEnd → Op
       unsaved = run.3;
     }
 
-    module _ (old new : D) (ended : EndsFrom G hears is_strict end is_unsaved opening left left' written written' old new tracer tracer') where
-      ran_from : end ≡ Ok Input → (ran : RunsFrom G opening left left' written written' old new) × (is_strict ≡ true → AreFaultless ran.completes.turns)
+    module _ (old new : D) (ended : EndsFrom G hears strictness end is_unsaved opening left left' written written' old new tracer tracer') where
+      ran_from : end ≡ Ok Input → (ran : RunsFrom G opening left left' written written' old new) × NoneFailed (strict_ones strictness ran.completes.turns)
       ran_from is =
-          let by : CompletesBy hears G is_strict opening ended.closing left left' written written' old new ended.made tracer tracer' =
-          subst (λ e. EndsBy hears G is_strict e opening ended.closing left left' written written' old new ended.made tracer tracer') is ended.ends in (
+          let by : CompletesBy hears G strictness opening ended.closing left left' written written' old new ended.made tracer tracer' =
+          subst (λ e. EndsBy hears G strictness e opening ended.closing left left' written written' old new ended.made tracer tracer') is ended.ends in (
             record { closing = ended.closing; made = ended.made; completes = by.whole.run; keeps = ended.keeps; saved = ended.saved },
-            by.faultless,
+            by.unfailed,
           )
 
-      stopped_from : end ≡ Ok Fault → StopsFrom G opening left left' written written' old new
+      stopped_from : end ≡ Ok LineFailed → StopsFrom G strictness opening left left' written written' old new
       stopped_from is =
-          let by : StopsBy hears G is_strict opening ended.closing left left' written written' old new ended.made tracer tracer' =
-          subst (λ e. EndsBy hears G is_strict e opening ended.closing left left' written written' old new ended.made tracer tracer') is ended.ends in
-          record { closing = ended.closing; made = ended.made; stops = by.stops.run; keeps = ended.keeps; saved = ended.saved }
+          let by : StopsBy hears G strictness opening ended.closing left left' written written' old new ended.made tracer tracer' =
+          subst (λ e. EndsBy hears G strictness e opening ended.closing left left' written written' old new ended.made tracer tracer') is ended.ends in
+          record { closing = ended.closing; made = ended.made; stops = by.stops.run; strict = by.strict; keeps = ended.keeps; saved = ended.saved }
 
       broken_from : (fault : RunFault) → end ≡ Err fault
-          → (broke : BreaksFrom G fault opening left left' written written' old new) × (is_strict ≡ true → AreFaultless broke.breaks.turns)
+          → (broke : BreaksFrom G fault opening left left' written written' old new) × NoneFailed (strict_ones strictness broke.breaks.turns)
       broken_from fault is =
-          let by : BreaksOffBy hears G is_strict fault opening ended.closing left left' written written' old new ended.made tracer tracer' =
-          subst (λ e. EndsBy hears G is_strict e opening ended.closing left left' written written' old new ended.made tracer tracer') is ended.ends in (
+          let by : BreaksOffBy hears G strictness fault opening ended.closing left left' written written' old new ended.made tracer tracer' =
+          subst (λ e. EndsBy hears G strictness e opening ended.closing left left' written written' old new ended.made tracer tracer') is ended.ends in (
             record { closing = ended.closing; made = ended.made; breaks = by.cut.run; keeps = ended.keeps; saved = ended.saved },
-            by.faultless,
+            by.unfailed,
           )
 
   -- The session of a store that was opened on a device.
-  module _ (steps : ℕ) (is_strict : Bool) (left left' written written' : Option (List ℕ)) (tracer tracer' : T) where
+  module _ (allowed : Allowed) (strictness : Strictness) (left left' written written' : Option (List ℕ)) (tracer tracer' : T) where
     pub ends_session : (device : D) (old new : Store D G) (r : Result Ended Failure) → OpensAs G device old
         → (IsTrue (suits G device) → LeavesBlocks G (device_of old) (meant_by G device))
-        → ((m : Maps) → StandsFor old m → IfOk r (λ ended. RunsOverBy hears G is_strict (new_forth steps m) old new ended.end ended.is_unsaved
+        → ((m : Maps) → StandsFor old m → IfOk r (λ ended. RunsOverBy hears G strictness (new_system allowed m) old new ended.end ended.is_unsaved
         left left' written written' tracer tracer'))
-        → IfOk r (λ ended. IfOk ended.end (λ end. end ≡ Fault → is_strict ≡ true)) → Becomes G (device_of old) (device_of new)
-        → IfOk r (λ ended. EndsSession G hears steps is_strict ended.end ended.is_unsaved left left' written written' tracer tracer' device (device_of new))
+        → IfOk r (λ ended. IfOk ended.end (λ end. end ≡ LineFailed → strictness ≢ Never)) → Becomes G (device_of old) (device_of new)
+        → IfOk r (λ ended. EndsSession G hears allowed strictness ended.end ended.is_unsaved left left' written written' tracer tracer' device (device_of new))
     ends_session device old new (Ok ended) opens meant runs strict goes = record {
       begun = device_of old;
       recovers = opens.recovers;
@@ -96,7 +87,7 @@ module _ {D T : Type 0} (G : Ghosts D) (hears : (old new : T) → LineEnd → Op
       goes = goes;
       strict = strict;
       ends = λ keeps.
-          ends_from is_strict ended.end ended.is_unsaved (new_forth steps (maps_on G device)) left left' written written' tracer tracer' old new
+          ends_from strictness ended.end ended.is_unsaved (new_system allowed (maps_on G device)) left left' written written' tracer tracer' old new
           (runs (maps_on G device) (opens.stands keeps));
     }
     ends_session device old new (Err e) opens meant runs strict goes = tt
@@ -124,23 +115,23 @@ module _ {D T : Type 0} (G : Ghosts D) (hears : (old new : T) → LineEnd → Op
       runs_script is =
           let session = ended.session in
           let ran = λ (keeps : IsTrue (suits G device)).
-          ran_from script.is_strict end is_unsaved (new_forth steps (maps_on G device)) ended.led left' written written' tracer tracer' session.begun after (session.ends keeps) is in
+          ran_from (strictness_of script) end is_unsaved (new_system (allowed_by steps script) (maps_on G device)) ended.led left' written written' tracer tracer' session.begun after (session.ends keeps) is in
           record {
             led = ended.led;
             leads = ended.leads;
             session = record { begun = session.begun; recovers = session.recovers; well = session.well; meant = session.meant; goes = session.goes; runs = λ keeps. (ran keeps).0 };
-            faultless = λ strict keeps. (ran keeps).1 strict;
+            unfailed = λ keeps. (ran keeps).1;
           }
 
-      stopped : end ≡ Ok Fault → IsTrue (suits G device)
-          → StopsFrom G (new_forth steps (maps_on G device)) ended.led left' written written' ended.session.begun after
-      stopped is keeps = stopped_from script.is_strict end is_unsaved (new_forth steps (maps_on G device)) ended.led left' written written' tracer tracer'
+      stopped : end ≡ Ok LineFailed → IsTrue (suits G device)
+          → StopsFrom G (strictness_of script) (new_system (allowed_by steps script) (maps_on G device)) ended.led left' written written' ended.session.begun after
+      stopped is keeps = stopped_from (strictness_of script) end is_unsaved (new_system (allowed_by steps script) (maps_on G device)) ended.led left' written written' tracer tracer'
           ended.session.begun after (ended.session.ends keeps) is
 
-      strict_of : end ≡ Ok Fault → script.is_strict ≡ true
-      strict_of is = subst (λ (e : Result RunEnd RunFault). IfOk e (λ end. end ≡ Fault → script.is_strict ≡ true)) is ended.session.strict refl
+      strict_of : end ≡ Ok LineFailed → strictness_of script ≢ Never
+      strict_of is = subst (λ (e : Result RunEnd RunFault). IfOk e (λ end. end ≡ LineFailed → strictness_of script ≢ Never)) is ended.session.strict refl
 
-      stops_script : end ≡ Ok Fault → StopsScript G is_text steps script left left' written written' device after
+      stops_script : end ≡ Ok LineFailed → StopsScript G is_text steps script left left' written written' device after
       stops_script is = record {
         strict = strict_of is;
         led = ended.led;
@@ -155,8 +146,8 @@ module _ {D T : Type 0} (G : Ghosts D) (hears : (old new : T) → LineEnd → Op
 
       -- A session that didn't come to the end of its input failed.
       after_opening : (failure : Failure)
-          → RunFails G steps script.is_strict ended.led left' written written' failure device ended.session.begun after
-          → FailsAfter G (RunFails G steps script.is_strict ended.led left' written written') failure device after
+          → RunFails G (allowed_by steps script) (strictness_of script) ended.led left' written written' failure device ended.session.begun after
+          → FailsAfter G (RunFails G (allowed_by steps script) (strictness_of script) ended.led left' written written') failure device after
       after_opening failure fails = inr (record {
         begun = ended.session.begun;
         recovers = ended.session.recovers;
@@ -167,26 +158,15 @@ module _ {D T : Type 0} (G : Ghosts D) (hears : (old new : T) → LineEnd → Op
       })
 
       breaks : (fault : RunFault) → end ≡ Err fault
-          → RunFails G steps script.is_strict ended.led left' written written' (of_run fault) device ended.session.begun after
+          → RunFails G (allowed_by steps script) (strictness_of script) ended.led left' written written' (of_run fault) device ended.session.begun after
       breaks fault is =
           let broke = λ (keeps : IsTrue (suits G device)).
-          broken_from script.is_strict end is_unsaved (new_forth steps (maps_on G device)) ended.led left' written written' tracer tracer'
+          broken_from (strictness_of script) end is_unsaved (new_system (allowed_by steps script) (maps_on G device)) ended.led left' written written' tracer tracer'
           ended.session.begun after (ended.session.ends keeps) fault is in
-          inr (inl (record { fault = fault; told = refl; breaks = λ keeps. (broke keeps).0; faultless = λ strict keeps. (broke keeps).1 strict }))
-
-      fails_by : (e : Result RunEnd RunFault) → end ≡ e → (failure : Failure) → of_end e ≡ Some failure
-          → FailsAfter G (RunFails G steps script.is_strict ended.led left' written written') failure device after
-      fails_by (Ok Input) is failure told = absurd (cc)
-      fails_by (Ok Fault) is failure told =
-          let same : failure ≡ Stopped = cc in
-          after_opening failure (inr (inr (record { told = same; strict = strict_of is; stops = stopped is })))
-      fails_by (Err fault) is failure told =
-          let same : of_run fault ≡ failure = cc in
-          subst (λ (f : Failure). FailsAfter G (RunFails G steps script.is_strict ended.led left' written written') f device after) same
-          (after_opening (of_run fault) (breaks fault is))
+          inr (record { fault = fault; told = refl; breaks = λ keeps. (broke keeps).0; unfailed = λ keeps. (broke keeps).1 })
 
     unbegun_after : (led : Option (List ℕ)) (failure : Failure) (device after : D) → FailsAfter G (NotBegun G led left' written written') failure device after
-        → FailsAfter G (RunFails G steps script.is_strict led left' written written') failure device after
+        → FailsAfter G (RunFails G (allowed_by steps script) (strictness_of script) led left' written written') failure device after
     unbegun_after led failure device after (inl refuses) = inl refuses
     unbegun_after led failure device after (inr opens) =
         inr (record { begun = opens.begun; recovers = opens.recovers; well = opens.well; same = opens.same; goes = opens.goes; done = inl opens.done })
@@ -196,16 +176,20 @@ module _ {D T : Type 0} (G : Ghosts D) (hears : (old new : T) → LineEnd → Op
       abbrev EndsOn : Left D E → Ended → Type 0
       EndsOn ends ended = DoneOn G (λ d. Opened d) opened (EndsScript G hears is_text steps script ended.end ended.is_unsaved left left' written written' tracer tracer') ends
 
-      pub ends_on : (led : Option (List ℕ)) (ends : Left D E) (r : Result Ended Failure) → IsLed is_text (load_line script.load) script.files.items left led
+      pub ends_on : (strictness : Strictness) (led : Option (List ℕ)) (ends : Left D E) (r : Result Ended Failure) → strictness ≡ strictness_of script
+          → IsLed is_text (load_line script.load) script.files.items script.goes_on left led
           → IfOk r (λ ended. DoneOn G (λ d. Opened d) opened
-          (EndsSession G hears steps script.is_strict ended.end ended.is_unsaved led left' written written' tracer tracer') ends)
+          (EndsSession G hears (allowed_by steps script) strictness ended.end ended.is_unsaved led left' written written' tracer tracer') ends)
           → IfOk r (EndsOn ends)
-      ends_on led ends (Ok ended) leads session =
-          (session.0, session.1, (session.2.0, session.2.1, record { led = led; leads = leads; session = session.2.2 }))
-      ends_on led ends (Err e) leads session = tt
+      ends_on strictness led ends (Ok ended) is leads session =
+          let by : EndsSession G hears (allowed_by steps script) (strictness_of script) ended.end ended.is_unsaved led left' written written' tracer tracer' session.2.0 session.0 =
+          subst (λ (s : Strictness). EndsSession G hears (allowed_by steps script) s ended.end ended.is_unsaved led left' written written' tracer tracer' session.2.0 session.0)
+          is session.2.2 in
+          (session.0, session.1, (session.2.0, session.2.1, record { led = led; leads = leads; session = by }))
+      ends_on strictness led ends (Err e) is leads session = tt
 
       -- No session began.
-      pub unbegun_on : (is_unread : (path : List ℕ) → Type 0) (led : Option (List ℕ)) (ends : Left D E) (r : Result Ended Failure) → IsLed is_text (load_line script.load) script.files.items left led
+      pub unbegun_on : (is_unread : (path : List ℕ) → Type 0) (led : Option (List ℕ)) (ends : Left D E) (r : Result Ended Failure) → IsLed is_text (load_line script.load) script.files.items script.goes_on left led
           → IfErr r (λ failure. FailsOn G (λ d. Opened d) opened (FailsAfter G (NotBegun G led left' written written')) failure ends)
           → IfErr r (λ failure. ScriptUnbegun G opened is_text is_unread script left left' written written' failure ends)
       unbegun_on is_unread led ends (Ok ended) leads fails = tt
@@ -217,50 +201,54 @@ module _ {D T : Type 0} (G : Ghosts D) (hears : (old new : T) → LineEnd → Op
       unbegun_fails is_unread failure ends (inr led) = inr (led.0, led.1, go led.2)
         where
           go : FailsOn G (λ d. Opened d) opened (FailsAfter G (NotBegun G led.0 left' written written')) failure ends
-              → FailsOn G (λ d. Opened d) opened (FailsAfter G (RunFails G steps script.is_strict led.0 left' written written')) failure ends
+              → FailsOn G (λ d. Opened d) opened (FailsAfter G (RunFails G (allowed_by steps script) (strictness_of script) led.0 left' written written')) failure ends
           go (inl none) = inl none
           go (inr fails) = inr (fails.0, fails.1, (fails.2.0, fails.2.1, unbegun_after led.0 failure fails.2.0 fails.0 fails.2.2))
 
       -- What it was told as.
-      module _ {U : Type 0} (ends : Left D E) (r : Result Ended Failure) (told : Result U Failure)
-          (is : MatchResult r (λ ended. MatchResult told (λ _. of_end ended.end ≡ None) (λ e. of_end ended.end ≡ Some e)) (λ failure. told ≡ Err failure))
-          (session : IfOk r (EndsOn ends)) where
-        pub told_done : OnOk told (DoneOn G (λ d. Opened d) opened (RunsScript G is_text steps script left left' written written') ends)
-        told_done = go r told is session
-          where
-            go : (r : Result Ended Failure) (told : Result U Failure)
-                → MatchResult r (λ ended. MatchResult told (λ _. of_end ended.end ≡ None) (λ e. of_end ended.end ≡ Some e)) (λ failure. told ≡ Err failure)
-                → IfOk r (EndsOn ends) → OnOk told (DoneOn G (λ d. Opened d) opened (RunsScript G is_text steps script left left' written written') ends)
-            go (Ok ended) (Ok u) is ran =
-                (ran.0, ran.1, (ran.2.0, ran.2.1, runs_script ended.end ended.is_unsaved ran.2.0 ran.0 ran.2.2 (at_input ended.end is)))
-            go (Err e) (Ok u) is session = absurd (cc)
-            go r (Err e) is session = tt
+      module _ (ends : Left D E) where
+        -- How the script ended.
+        abbrev Ended' : Outcome → Type 0
+        Ended' outcome = DoneOn G (λ d. Opened d) opened (ScriptEnded G is_text outcome steps script left left' written written') ends
 
-        pub told_stopped : IfErr r (λ e. e ≢ Stopped) → told ≡ Err Stopped
-            → DoneOn G (λ d. Opened d) opened (StopsScript G is_text steps script left left' written written') ends
-        told_stopped begun stopped = go r is session begun
-          where
-            go : (r : Result Ended Failure)
-                → MatchResult r (λ ended. MatchResult told (λ _. of_end ended.end ≡ None) (λ e. of_end ended.end ≡ Some e)) (λ failure. told ≡ Err failure)
-                → IfOk r (EndsOn ends) → IfErr r (λ e. e ≢ Stopped)
-                → DoneOn G (λ d. Opened d) opened (StopsScript G is_text steps script left left' written written') ends
-            go (Ok ended) is ran begun =
-                let end : of_end ended.end ≡ Some Stopped = rw stopped at is in
-                (ran.0, ran.1, (ran.2.0, ran.2.1, stops_script ended.end ended.is_unsaved ran.2.0 ran.0 ran.2.2 (at_fault ended.end end)))
-            go (Err e) is session begun = let same : e ≡ Stopped = cc in absurd (begun same)
+        abbrev Failed : (is_unread : (path : List ℕ) → Type 0) → Failure → Type 0
+        Failed is_unread failure = ScriptFailed G opened is_text is_unread steps script left left' written written' failure ends
 
-        pub told_failed : (is_unread : (path : List ℕ) → Type 0) → IfErr r (λ failure. ScriptUnbegun G opened is_text is_unread script left left' written written' failure ends)
-            → IfErr told (λ failure. ScriptFailed G opened is_text is_unread steps script left left' written written' failure ends)
-        told_failed is_unread unbegun = go r told is session unbegun
-          where
-            go : (r : Result Ended Failure) (told : Result U Failure)
-                → MatchResult r (λ ended. MatchResult told (λ _. of_end ended.end ≡ None) (λ e. of_end ended.end ≡ Some e)) (λ failure. told ≡ Err failure)
-                → IfOk r (EndsOn ends) → IfErr r (λ failure. ScriptUnbegun G opened is_text is_unread script left left' written written' failure ends)
-                → IfErr told (λ failure. ScriptFailed G opened is_text is_unread steps script left left' written written' failure ends)
-            go r (Ok u) is session unbegun = tt
-            go (Ok ended) (Err e) is ran unbegun =
-                let by = ran.2.2 in
-                inr (by.led, by.leads, inr (ran.0, ran.1, (ran.2.0, ran.2.1, fails_by ended.end ended.is_unsaved ran.2.0 ran.0 by ended.end refl e is)))
-            go (Err e) (Err e') is session unbegun =
-                let same : e ≡ e' = cc in
-                subst (λ (f : Failure). ScriptFailed G opened is_text is_unread steps script left left' written written' f ends) same (unbegun_fails is_unread e ends unbegun)
+        ended_by : (ended : Ended) → EndsOn ends ended → (e : Result RunEnd RunFault) → ended.end ≡ e → IfOk (of_end e) Ended'
+        ended_by ended ran (Ok Input) is = (ran.0, ran.1, (ran.2.0, ran.2.1, runs_script ended.end ended.is_unsaved ran.2.0 ran.0 ran.2.2 is))
+        ended_by ended ran (Ok LineFailed) is = (ran.0, ran.1, (ran.2.0, ran.2.1, stops_script ended.end ended.is_unsaved ran.2.0 ran.0 ran.2.2 is))
+        ended_by ended ran (Err fault) is = tt
+
+        failed_by : (is_unread : (path : List ℕ) → Type 0) (ended : Ended) → EndsOn ends ended → (e : Result RunEnd RunFault) → ended.end ≡ e
+            → IfErr (of_end e) (Failed is_unread)
+        failed_by is_unread ended ran (Ok Input) is = tt
+        failed_by is_unread ended ran (Ok LineFailed) is = tt
+        failed_by is_unread ended ran (Err fault) is =
+            let by = ran.2.2 in
+            inr (
+              by.led,
+              by.leads,
+              inr (
+                ran.0,
+                ran.1,
+                (
+                  ran.2.0,
+                  ran.2.1,
+                  after_opening ended.end ended.is_unsaved ran.2.0 ran.0 by (of_run fault)
+                      (breaks ended.end ended.is_unsaved ran.2.0 ran.0 by fault is),
+                ),
+              ),
+            )
+
+        pub told_ended : (r : Result Ended Failure) (told : Result Outcome Failure) → MatchResult r (λ ended. told ≡ of_end ended.end) (λ failure. told ≡ Err failure)
+            → IfOk r (EndsOn ends) → IfOk told Ended'
+        told_ended (Ok ended) told is ran = subst (λ (o : Result Outcome Failure). IfOk o Ended') (sym is) (ended_by ended ran ended.end refl)
+        told_ended (Err e) told is ran = subst (λ (o : Result Outcome Failure). IfOk o Ended') (sym is) tt
+
+        pub told_failed : (is_unread : (path : List ℕ) → Type 0) (r : Result Ended Failure) (told : Result Outcome Failure) → MatchResult r (λ ended. told ≡ of_end ended.end) (λ failure. told ≡ Err failure)
+            → IfOk r (EndsOn ends) → IfErr r (λ failure. ScriptUnbegun G opened is_text is_unread script left left' written written' failure ends)
+            → IfErr told (Failed is_unread)
+        told_failed is_unread (Ok ended) told is ran unbegun =
+            subst (λ (o : Result Outcome Failure). IfErr o (Failed is_unread)) (sym is) (failed_by is_unread ended ran ended.end refl)
+        told_failed is_unread (Err e) told is ran unbegun =
+            subst (λ (o : Result Outcome Failure). IfErr o (Failed is_unread)) (sym is) (unbegun_fails is_unread e ends unbegun)

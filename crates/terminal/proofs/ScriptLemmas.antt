@@ -1,16 +1,13 @@
 -- Files one after another: as the lines of a script, and as blocks.
-use Rattle.std.proofs.Common.{◌≡◌, ◌≢◌, ◌∙◌, ◌-◌, ℕ, suc, List, [], ◌∷◌, ◌++◌, length, None, ap, subst, sym, append_assoc, append-nil}
+use Rattle.std.proofs.Common.{◌≡◌, ◌∙◌, ◌-◌, ℕ, suc, Bool, false, true, List, [], ◌∷◌, ◌++◌, length, None, Some, Option, Result, Ok, Err, ap, not, subst, sym, append_assoc, append-nil}
+use Rattle.std.specs.Prelude.{OnOk}
+use Rattle.std.specs.Io.KnownBytes.{prepend_known}
 use Rattle.std.specs.Borrow.{Bor}
 use Rattle.std.specs.List.{flat_map}
 use Rattle.command_line.specs.declared.orders.Form.{Form}
-use Rattle.sector_disk.specs.declared.host_files.FileFault.{FileFault}
-use Rattle.sector_disk.specs.declared.host_files.FileFault.TheVariants.{Exists, Cannot, InUse}
-use Rattle.recovery.specs.declared.fault.OpenFault.{OpenFault}
-use Rattle.recovery.specs.declared.fault.OpenFault.TheVariants.{BadSize, NoLabel, OtherVersion, WrongCount, Damaged, Device}
-use Rattle.terminal.specs.declared.failure.Failure.TheVariants.{Stopped}
-use Rattle.terminal.specs.Failures.{of_file, of_image}
 use Rattle.terminal.specs.Findings.{AreSound, blocks_for, in_blocks, refusal, said, said_all, told}
-use Rattle.terminal.specs.Scripts.{lined}
+use Rattle.sessions.specs.Streams.{left_of}
+use Rattle.terminal.specs.Scripts.{IsLed, lined}
 use Rattle.terminal.specs.Texts.{AreTexts}
 
 -- ---- lines
@@ -36,6 +33,30 @@ pub lines_all : (is_text : (path text : List ℕ) → Type 0) (paths : List (Bor
     → LinesSoFar is_text paths old text left → (texts : List (List ℕ)) × AreTexts is_text paths texts × (text ≡ old ++ flat_map lined texts)
 lines_all is_text paths old text [] none so_far = let all = so_far [] tt in (all.0, all.1, sym (append-nil text) ∙ all.2)
 lines_all is_text paths old text (path ∷ left) none so_far = absurd (let no : suc (length left) ≡ 0 = none in cc)
+
+-- behind the line the lines of the files, and then the input
+pub led_by : (is_text : (path text : List ℕ) → Type 0) (line : List ℕ) (files paths : List (Bor (List ℕ))) (goes_on : Bool) (old text : List ℕ) (left led : Option (List ℕ))
+    {T E : Type 0} (r : Result T E) → paths ≡ files → old ≡ line
+    → (texts : List (List ℕ)) × AreTexts is_text paths texts × (text ≡ old ++ flat_map lined texts)
+    → OnOk r (led ≡ prepend_known text (left_of (not goes_on) left)) → OnOk r (IsLed is_text line files goes_on left led)
+led_by is_text line files paths goes_on old text left led (Ok x) named begun added is = (
+  added.0,
+  subst (λ (l : List (Bor (List ℕ))). AreTexts is_text l added.0) named added.1,
+  is ∙ ap (λ l. prepend_known l (left_of (not goes_on) left)) (added.2 ∙ ap (λ l. l ++ flat_map lined added.0) begun),
+)
+led_by is_text line files paths goes_on old text left led (Err e) named begun added is = tt
+
+-- a text in the place of the input
+pub replaced : (goes_on : Bool) (text : List ℕ) (left led : Option (List ℕ)) → goes_on ≡ false → led ≡ Some text
+    → led ≡ prepend_known text (left_of (not goes_on) left)
+replaced false text left led cut is = is ∙ ap Some (sym (append-nil text))
+replaced true text left led cut is = absurd (let no : true ≡ false = cut in cc)
+
+-- a text before the input
+pub begun_with : (goes_on : Bool) (text : List ℕ) (left led : Option (List ℕ)) → goes_on ≡ true → led ≡ prepend_known text left
+    → led ≡ prepend_known text (left_of (not goes_on) left)
+begun_with true text left led on is = is
+begun_with false text left led on is = absurd (let no : false ≡ true = on in cc)
 
 -- ---- blocks
 
@@ -67,19 +88,3 @@ pub blocks_all : (is_text : (path text : List ℕ) → Type 0) (form : Form) (pa
 blocks_all is_text form paths room old bytes [] now none so_far =
     let all = so_far [] tt tt in (all.0, all.1, all.2, sym (append-nil bytes) ∙ all.3)
 blocks_all is_text form paths room old bytes (path ∷ left) now none so_far = absurd (let no : suc (length left) ≡ 0 = none in cc)
-
--- ---- a session that stopped
-
--- none began where an image can't be opened
-pub no_image_stops : (fault : OpenFault) → of_image fault ≢ Stopped
-no_image_stops BadSize is = cc
-no_image_stops NoLabel is = cc
-no_image_stops OtherVersion is = cc
-no_image_stops WrongCount is = cc
-no_image_stops Damaged is = cc
-no_image_stops Device is = cc
-
-pub no_file_stops : (fault : FileFault) → of_file fault ≢ Stopped
-no_file_stops Exists is = cc
-no_file_stops Cannot is = cc
-no_file_stops InUse is = cc

@@ -19,13 +19,12 @@ use Rattle.command_line.specs.declared.orders.Form.{Form}
 use Rattle.terminal.specs.Care.{IsShown}
 use Rattle.terminal.specs.Done.{maps_on, meant_by}
 use Rattle.terminal.specs.Failed.{CallFailed, FailsToPrint, FoundFails, IsUnprinted, ListShowingFails, NotHad, NotHadOf, NotStanding, ReadingFails, RefusesImage, ShowingFails, StandingFails}
-use Rattle.terminal.specs.Failures.{of_image}
 use Rattle.terminal.specs.Screen.{listing}
 use Rattle.terminal.specs.Shown.{block_refusal}
 use Rattle.terminal.specs.Standing.{AllStand, ExportsStanding, OneIsDamaged, ShowsStanding, has_pages}
 use Rattle.terminal.specs.Transfer.{exports}
 use Rattle.terminal.specs.declared.failure.Failure.{Failure}
-use Rattle.terminal.specs.declared.failure.Failure.TheVariants.{CannotWrite, Device, NoBlock, Stopped}
+use Rattle.terminal.specs.declared.failure.Failure.TheVariants.{CannotWrite, Device}
 use Rattle.terminal.proofs.BlockShown.{contents_meant}
 
 -- ---- which blocks are there
@@ -56,18 +55,6 @@ one_more image first block before here b from below = elim (cases_eq b block) [
 ]
 
 -- ---- which failures these are
-
-pub of_an_image : (fault : OpenFault) → (of_image fault ≢ NoBlock) × (of_image fault ≢ Stopped)
-of_an_image by.BadSize = ((λ is. cc), (λ is. cc))
-of_an_image by.NoLabel = ((λ is. cc), (λ is. cc))
-of_an_image by.OtherVersion = ((λ is. cc), (λ is. cc))
-of_an_image by.WrongCount = ((λ is. cc), (λ is. cc))
-of_an_image by.Damaged = ((λ is. cc), (λ is. cc))
-of_an_image by.Device = ((λ is. cc), (λ is. cc))
-
-pub stops_none : (e : Failure) → (e ≡ Device) ⊎ (e ≡ CannotWrite) → e ≢ Stopped
-stops_none e (inl device) is = let both : Device ≡ Stopped = sym device ∙ is in absurd cc
-stops_none e (inr write) is = let both : CannotWrite ≡ Stopped = sym write ∙ is in absurd cc
 
 -- What holds where all went well, of two things that do.
 pub ok_both : {T E : Type 0} (r : Result T E) {P Q R : Type 0} → (P → Q → R) → OnOk r P → OnOk r Q → OnOk r R
@@ -276,15 +263,3 @@ module _ {D : Type 0} (G : Ghosts D) where
   still_unprinted first last before looked after old mid new (Err e) told same was = λ other.
       same other
       ∙ was (λ is. ⊎_elim (λ kept. other (kept.1 ∙ is)) (λ asked. let both : Device ≡ CannotWrite = sym asked.0 ∙ is in absurd cc) told)
-
-  -- After a refusal of an image no block is told to be missing.
-  pub none_missing : {T : Type 0} (P : Type 0) (first last : ℕ) (fault : OpenFault) (before : Failure) (looked after : D) (r : Result T Failure)
-      → before ≡ of_image fault → IfErr r (λ e. NotStanding G first last before e looked after) → IfErr r (λ e. e ≡ NoBlock → P)
-  none_missing P first last fault before looked after (Ok t) is told = tt
-  none_missing P first last fault before looked after (Err e) is (inl (other, same, still)) = λ none.
-      absurd ((of_an_image fault).0 (sym is ∙ sym same ∙ none))
-  none_missing P first last fault before looked after (Err e) is (inr (device, fails)) = λ none.
-      ⊎_elim
-      (λ d. let both : Device ≡ NoBlock = sym d ∙ none in absurd cc)
-      (λ w. let both : CannotWrite ≡ NoBlock = sym w ∙ none in absurd cc)
-      fails.told

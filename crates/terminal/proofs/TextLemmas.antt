@@ -11,7 +11,7 @@ use Rattle.terminal.specs.Failed.{IsOfTexts, LooksInVain}
 use Rattle.terminal.specs.Findings.{refusal, said, told}
 use Rattle.terminal.specs.Putting.{LeavesSome, PutsSome}
 use Rattle.terminal.specs.Scripts.{lined}
-use Rattle.terminal.specs.Texts.{IsTextOf, IsUnread, OneIsUnread}
+use Rattle.terminal.specs.Texts.{OneIsUnread}
 use Rattle.terminal.specs.declared.failure.Failure.{Failure}
 use Rattle.terminal.specs.declared.failure.Failure.TheVariants.{BadSize, CannotRead, NoMemory}
 
@@ -28,23 +28,18 @@ first_and_others d (x ∷ xs) some = ap (λ l. x ∷ l) (sym (take_all (length (
 
 -- ---- a text of a name is all that the reader had left which the system opened
 
-module _ {R : Type 0} (remaining : R → Option (List ℕ)) (opens : R → Type 0) (reader : R) (opened : opens reader) where
+module _ {R : Type 0} (remaining : R → Option (List ℕ)) (is_text : List ℕ → Type 0) (reader : R)
+    (named : (text : List ℕ) → IfSome (remaining reader) (λ left. text ≡ left) → is_text text) where
   pub lines_named : (old new : List ℕ) → (bytes : List ℕ) × IfSome (remaining reader) (λ left. bytes ≡ left) × (new ≡ old ++ lined bytes)
-      → (bytes : List ℕ) × IsTextOf remaining opens bytes × (new ≡ old ++ lined bytes)
-  lines_named old new read = (read.0, record { reader = reader; opened = opened; known = read.1 }, read.2)
+      → (bytes : List ℕ) × is_text bytes × (new ≡ old ++ lined bytes)
+  lines_named old new read = (read.0, named read.0 read.1, read.2)
 
   pub said_named : (form : Form) (room : ℕ) (bytes : List ℕ)
       → (file : List ℕ) × IfSome (remaining reader) (λ left. file ≡ left) × (refusal (told form room file) ≡ None) × (bytes ≡ said form file)
-      → (file : List ℕ) × IsTextOf remaining opens file × (refusal (told form room file) ≡ None) × (bytes ≡ said form file)
-  said_named form room bytes read = (read.0, record { reader = reader; opened = opened; known = read.1 }, read.2, read.3)
+      → (file : List ℕ) × is_text file × (refusal (told form room file) ≡ None) × (bytes ≡ said form file)
+  said_named form room bytes read = (read.0, named read.0 read.1, read.2, read.3)
 
 -- ---- a text that wasn't had
-
--- The system opened it, and it wasn't read to its end.
-pub opened_unread : {T R : Type 0} (opens : R → Type 0) (refuses : Type 0) (r : Result T Failure) (reader : R) → opens reader
-    → IfErr r (λ e. e ≡ CannotRead → IsUnread opens refuses)
-opened_unread opens refuses (Ok t) reader opened = tt
-opened_unread opens refuses (Err e) reader opened = λ is. inr (reader, opened)
 
 -- Where it is told, so is the name.
 pub told_unread : {Unread : Type 0} (e : Failure) → (e ≡ CannotRead) ⊎ (e ≡ NoMemory) → (e ≡ CannotRead → Unread)
@@ -81,18 +76,16 @@ looked_in_vain fits unread (Err e) device told cannot = record { same = refl; to
 
 -- ---- a text that was put
 
-module _ {D R : Type 0} {G : Ghosts D} (remaining : R → Option (List ℕ)) (opens : R → Type 0) (reader : R) (opened : opens reader) (old new : Store D G) (b : ℕ) where
-  pub puts_named : PutsSome (λ bytes. IfSome (remaining reader) (λ left. bytes ≡ left)) old new b → PutsSome (IsTextOf remaining opens) old new b
+module _ {D R : Type 0} {G : Ghosts D} (remaining : R → Option (List ℕ)) (is_text : List ℕ → Type 0) (reader : R)
+    (named : (text : List ℕ) → IfSome (remaining reader) (λ left. text ≡ left) → is_text text) (old new : Store D G) (b : ℕ) where
+  pub puts_named : PutsSome (λ bytes. IfSome (remaining reader) (λ left. bytes ≡ left)) old new b → PutsSome is_text old new b
   puts_named puts = record {
-    saved = λ m stands.
-        let saved = puts.saved m stands in
-        (saved.0, record { reader = reader; opened = opened; known = saved.1 }, saved.2, saved.3, saved.4, saved.5);
+    saved = λ m stands. let saved = puts.saved m stands in (saved.0, named saved.0 saved.1, saved.2, saved.3, saved.4, saved.5);
   }
 
-  pub leaves_named : LeavesSome (λ bytes. IfSome (remaining reader) (λ left. bytes ≡ left)) old new b → LeavesSome (IsTextOf remaining opens) old new b
+  pub leaves_named : LeavesSome (λ bytes. IfSome (remaining reader) (λ left. bytes ≡ left)) old new b → LeavesSome is_text old new b
   leaves_named leaves = record {
     left = λ m stands live image since.
-        ⊎_elim (λ before. inl before)
-        (λ with_text. inr (with_text.0, record { reader = reader; opened = opened; known = with_text.1 }, with_text.2, with_text.3, with_text.4))
+        ⊎_elim (λ before. inl before) (λ with_text. inr (with_text.0, named with_text.0 with_text.1, with_text.2, with_text.3, with_text.4))
         (leaves.left m stands live image since);
   }

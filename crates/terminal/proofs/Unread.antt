@@ -5,7 +5,7 @@ use Rattle.sector_disk.specs.declared.device.SectorDevice.{Ghosts}
 use Rattle.terminal.specs.Failed.{CheckFails, LookFails, MoreTold}
 use Rattle.terminal.specs.Failures.{is_device}
 use Rattle.terminal.specs.declared.failure.Failure.{Failure}
-use Rattle.terminal.specs.declared.failure.Failure.TheVariants.{BadSize, CannotOpen, CannotRead, CannotWrite, Damaged, Device, Exists, InUse, NoBlock, NoLabel, NoMemory, NotAScreen, OtherVersion, Stopped, WrongCount}
+use Rattle.terminal.specs.declared.failure.Failure.TheVariants.{BadSize, CannotOpen, CannotRead, CannotWrite, Damaged, Device, Exists, InUse, NoBlock, NoLabel, NoMemory, NotAScreen, OtherVersion, WrongCount}
 
 -- ---- whose failure it is
 
@@ -24,7 +24,6 @@ of_device CannotRead is = cc
 of_device NotAScreen is = cc
 of_device CannotWrite is = cc
 of_device NoMemory is = cc
-of_device Stopped is = cc
 
 pub not_of_device : (failure : Failure) → is_device failure ≡ false → failure ≢ Device
 not_of_device failure isnt is = let both : true ≡ false = sym (ap is_device is) ∙ isnt in absurd cc

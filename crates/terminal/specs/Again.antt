@@ -12,17 +12,17 @@ use Rattle.journal.specs.Suits.{suits}
 use Rattle.block_words.specs.Kept.{KeptFrom}
 use Rattle.recovery.specs.Formatted.{blank_blocks}
 use Rattle.stores.specs.Images.{HasMeaning}
-use Rattle.interpreter.specs.Lines.{new_forth}
 use Rattle.command_line.specs.declared.orders.Form.{Form}
 use Rattle.command_line.specs.declared.orders.Layout.{Layout}
 use Rattle.command_line.specs.declared.orders.Layout.TheVariants.{Two, Three}
 use Rattle.command_line.specs.declared.orders.Script.{Script}
-use Rattle.terminal.specs.Done.{Comes, Exports, ImportsBlocks, LeavesBlocks, MakesBlank, PutsBlock, Recovers, RunsFrom, RunsSession, maps_on, meant_by}
+use Rattle.terminal.specs.Done.{Comes, Exports, ImportsBlocks, LeavesBlocks, MakesBlank, PutsBlock, Recovers, RunsFrom, RunsSession, maps_on, meant_by, Allowed, new_system}
 use Rattle.terminal.specs.Failed.{BreaksSession, OpensThen}
 use Rattle.terminal.specs.Findings.{said_all}
 use Rattle.terminal.specs.Layout3.{MakesNewer}
 use Rattle.terminal.specs.Screen.{screen_of}
-use Rattle.terminal.specs.Scripts.{IsLed, RunsScript, StopsScript, load_line}
+use Rattle.sessions.specs.declared.strictness.Strictness.{Strictness}
+use Rattle.terminal.specs.Scripts.{IsLed, RunsScript, StopsScript, load_line, allowed_by}
 use Rattle.terminal.specs.Texts.{AreTexts}
 use Rattle.terminal.specs.Transfer.{as_blocks, exports, spilled_from}
 use Rattle.terminal.specs.declared.failure.Failure.{Failure}
@@ -58,9 +58,9 @@ module _ {D : Type 0} (G : Ghosts D) where
 
   -- Each `run` over it that comes to the end of its input is a session over these blocks.
   abbrev pub RunsOver : D → List (List ℕ) → Type 0
-  RunsOver next blocks = (steps : ℕ) (left left' written written' : Option (List ℕ)) (after : D)
-      → RunsSession G steps left left' written written' next after
-      → (begun : D) × RunsFrom G (new_forth steps (fresh blocks)) left left' written written' begun after
+  RunsOver next blocks = (allowed : Allowed) (left left' written written' : Option (List ℕ)) (after : D)
+      → RunsSession G allowed left left' written written' next after
+      → (begun : D) × RunsFrom G (new_system allowed (fresh blocks)) left left' written written' begun after
 
   -- Each `export` of it prints these blocks.
   abbrev pub ExportsFrom : D → List (List ℕ) → Type 0
@@ -79,14 +79,14 @@ module _ {D : Type 0} (G : Ghosts D) where
   MakesBy Two n device after = (G.sector_count device ≡ older.sectors_for n) × MakesBlank G n device after
   MakesBy Three n device after = (G.sector_count device ≡ newer.sectors_for n) × MakesNewer G n device after
 
-  -- `run` that came to the end of its input: how many steps a line had, the input and the output before it and after it, and its session.
+  -- `run` that came to the end of its input: what each line was allowed, the input and the output before it and after it, and its session.
   pub record Run (device after : D) : Type 0 where
-    pub steps : ℕ
+    pub allowed : Allowed
     pub input : Option (List ℕ)
     pub input_after : Option (List ℕ)
     pub output : Option (List ℕ)
     pub output_after : Option (List ℕ)
-    pub session : RunsSession G steps input input_after output output_after device after
+    pub session : RunsSession G allowed input input_after output output_after device after
 
   -- ---- the laws
 
@@ -154,22 +154,22 @@ module _ {D : Type 0} (G : Ghosts D) where
 
   -- `run`, and then `run`: the second session is one over the blocks that the first one saved last, where no fault closed its store.
   abbrev pub RunThenRun : Type 0
-  RunThenRun = (steps : ℕ) (left left' written written' : Option (List ℕ)) (device after next : D)
-      (ran : RunsSession G steps left left' written written' device after) → IsFoundAsItEnded after next → (keeps : IsTrue (suits G device))
+  RunThenRun = (allowed : Allowed) (left left' written written' : Option (List ℕ)) (device after next : D)
+      (ran : RunsSession G allowed left left' written written' device after) → IsFoundAsItEnded after next → (keeps : IsTrue (suits G device))
       → (ran.runs keeps).closing.world.maps.closed ≡ false → RunsOver next (ran.runs keeps).closing.world.maps.saved
 
   -- `run` that was stopped at some moment of its session, and then `run`: the second session is one over the blocks of one of the
   -- saves that the first one began, or of those as they were before them; and once a save had returned, over none from before it.
   abbrev pub StoppedRunThenRun : Type 0
-  StoppedRunThenRun = (steps : ℕ) (left left' written written' : Option (List ℕ)) (device after : D)
-      (ran : RunsSession G steps left left' written written' device after) (keeps : IsTrue (suits G device))
+  StoppedRunThenRun = (allowed : Allowed) (left left' written written' : Option (List ℕ)) (device after : D)
+      (ran : RunsSession G allowed left left' written written' device after) (keeps : IsTrue (suits G device))
       → KeptFrom RunsOver (λ since next. IsFoundAgain since after next) (G.time after)
       (meant_by G device) (ran.runs keeps).made (G.time ran.begun)
 
   -- The same of one that was stopped at any moment, in its recovery or after it, where a stop before left the blocks of its image.
   abbrev pub AnyMomentThenRun : Type 0
-  AnyMomentThenRun = (steps : ℕ) (left left' written written' : Option (List ℕ)) (device after : D)
-      (ran : RunsSession G steps left left' written written' device after) (keeps : IsTrue (suits G device))
+  AnyMomentThenRun = (allowed : Allowed) (left left' written written' : Option (List ℕ)) (device after : D)
+      (ran : RunsSession G allowed left left' written written' device after) (keeps : IsTrue (suits G device))
       → LeavesBlocks G device (meant_by G device)
       → KeptFrom RunsOver (λ since next. IsFoundAgain since after next) (G.time after)
       (meant_by G device) (ran.runs keeps).made (G.time device)
@@ -177,14 +177,14 @@ module _ {D : Type 0} (G : Ghosts D) where
   -- `run` that broke off, since the input or the output failed, and then `run`: over the blocks that were saved last, where no fault
   -- closed the store; and if it was stopped before, the same as of one that came to the end of its input.
   abbrev pub BrokenRunThenRun : Type 0
-  BrokenRunThenRun = (steps : ℕ) (is_strict : Bool) (left left' written written' : Option (List ℕ)) (failure : Failure) (device after : D)
-      (broke : OpensThen G (BreaksSession G steps is_strict left left' written written' failure) device after) (keeps : IsTrue (suits G device))
+  BrokenRunThenRun = (allowed : Allowed) (strictness : Strictness) (left left' written written' : Option (List ℕ)) (failure : Failure) (device after : D)
+      (broke : OpensThen G (BreaksSession G allowed strictness left left' written written' failure) device after) (keeps : IsTrue (suits G device))
       → ((next : D) → IsFoundAsItEnded after next → (broke.done.breaks keeps).closing.world.maps.closed ≡ false
       → RunsOver next (broke.done.breaks keeps).closing.world.maps.saved)
       × KeptFrom RunsOver (λ since next. IsFoundAgain since after next) (G.time after)
       (meant_by G device) (broke.done.breaks keeps).made (G.time broke.begun)
 
-  -- `run` that a fault ended, since it was strict, and then `run`: the same.
+  -- `run` that a line ended which failed, since it was strict or that line loaded its block, and then `run`: the same.
   abbrev pub FaultThenRun : (is_text : (path text : List ℕ) → Type 0) → Type 0
   FaultThenRun is_text = (steps : ℕ) (script : Script) (left left' written written' : Option (List ℕ)) (device after : D)
       (ran : StopsScript G is_text steps script left left' written written' device after) (keeps : IsTrue (suits G device))
@@ -195,8 +195,8 @@ module _ {D : Type 0} (G : Ghosts D) where
 
   -- `run`, and then `export`: what is printed are the blocks that the session saved last, where no fault closed its store.
   abbrev pub RunThenExport : Type 0
-  RunThenExport = (steps : ℕ) (left left' written written' : Option (List ℕ)) (device after next : D)
-      (ran : RunsSession G steps left left' written written' device after) → IsFoundAsItEnded after next → (keeps : IsTrue (suits G device))
+  RunThenExport = (allowed : Allowed) (left left' written written' : Option (List ℕ)) (device after next : D)
+      (ran : RunsSession G allowed left left' written written' device after) → IsFoundAsItEnded after next → (keeps : IsTrue (suits G device))
       → (ran.runs keeps).closing.world.maps.closed ≡ false → ExportsFrom next (ran.runs keeps).closing.world.maps.saved
 
   -- `new`, `import`, `run`, a `run` that was stopped at any moment, `run`, `export`, each of what the one before left: the first session
@@ -224,8 +224,8 @@ module _ {D : Type 0} (G : Ghosts D) where
   abbrev pub RanOver : (is_text : (path text : List ℕ) → Type 0) (steps : ℕ) (script : Script) (left left' written written' : Option (List ℕ))
       → List (List ℕ) → (after : D) → Type 0
   RanOver is_text steps script left left' written written' blocks after = (led : Option (List ℕ)) × (begun : D)
-      × IsLed is_text (load_line script.load) script.files.items left led
-      × RunsFrom G (new_forth steps (fresh blocks)) led left' written written' begun after
+      × IsLed is_text (load_line script.load) script.files.items script.goes_on left led
+      × RunsFrom G (new_system (allowed_by steps script) (fresh blocks)) led left' written written' begun after
 
   -- `put` was done on a device that an opening gave, it is given again as it was left, and then `run` was done on what an opening gave:
   -- over the blocks as they were, with the lines of the text in that one. `is_text` is of the texts of `put`, `is_text'` of those of `run`.

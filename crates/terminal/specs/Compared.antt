@@ -20,8 +20,6 @@ use Rattle.stores.specs.Opened.{image_refusal}
 use Rattle.terminal.specs.Checked.{line}
 use Rattle.terminal.specs.Screen.{shown}
 use Rattle.terminal.specs.Transfer.{unpadded}
-use Rattle.terminal.specs.declared.left.Left.{Left}
-use Rattle.terminal.specs.declared.left.Left.TheVariants as files
 
 -- the bytes of all blocks that an image with so many sectors means, block 0 first
 abbrev pub bytes_of : (sectors : ℕ) → Image → List ℕ
@@ -116,13 +114,3 @@ module _ {D : Type 0} (G : Ghosts D) where
     pub after : Reads new new'
     pub told : IsTrue (G.keeps_model old) → IsTrue (G.keeps_model new)
         → Appends written written' (differences (bytes_on old) (bytes_on new))
-
-  -- The same of images that were opened so.
-  abbrev pub Compared : (first second : D → Type 0) (written written' : Option (List ℕ)) (old' new' : D) → Type 0
-  Compared first second written written' old' new' =
-      (old : D) × first old × (new : D) × second new × Compares written written' old old' new new'
-
-  -- What is left are both devices.
-  abbrev pub DiffDone : {E : Type 0} (first second : D → Type 0) (written written' : Option (List ℕ)) (left : Left E D) → Type 0
-  DiffDone first second written written' left =
-      (old' : D) × (new' : D) × (left ≡ files.Compared old' new') × Compared first second written written' old' new'

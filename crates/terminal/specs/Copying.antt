@@ -110,8 +110,3 @@ module _ {A B : Type 0} (G : Ghosts A) (H : Ghosts B) where
       (source source' : A) (after : B) → Type 0
   MadeOf made wanted P source source' after =
       (sectors : ℕ) × (wanted ≡ Some sectors) × (device : B) × made sectors device × P source source' device after
-
-  -- A copy was made, with as many blocks as were asked for.
-  abbrev pub MakesCopy : (made : ℕ → B → Type 0) (asked : Option ℕ) (source source' : A) (after : B) → Type 0
-  MakesCopy made asked source source' after =
-      MadeOf made (sectors_for_copy (G.sector_count source) asked) Copies source source' after

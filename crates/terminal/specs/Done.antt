@@ -1,5 +1,5 @@
 -- What a command over images does, on any device: from the device that it opens or makes to what that has become.
-use Rattle.std.specs.Prelude.{◌≡◌, ⊤, ◌⊎◌, ◌+◌, ◌-◌, ◌*◌, ◌<◌, ◌≤◌, ℕ, false, IsTrue, List, length, Option, Some}
+use Rattle.std.specs.Prelude.{◌≡◌, ⊤, ◌⊎◌, ◌+◌, ◌-◌, ◌*◌, ◌<◌, ◌≤◌, ℕ, Bool, false, IsTrue, List, length, Option, Some}
 use Rattle.std.specs.Io.KnownBytes.{Appends}
 use Rattle.sector_disk.specs.Disk.{Image, MayLeave}
 use Rattle.sector_disk.specs.declared.device.SectorDevice.{Ghosts}
@@ -14,7 +14,7 @@ use Rattle.stores.specs.Images.{HasMeaning, meaning}
 use Rattle.stores.specs.Opened.{OpeningLeaves, reads_for, syncs_for, writes_for}
 use Rattle.journal.specs.Suits.{suits}
 use Rattle.interpreter.specs.State.{Forth}
-use Rattle.interpreter.specs.Lines.{new_forth}
+use Rattle.interpreter.specs.Lines.{new_forth, undoing}
 use Rattle.interpreter.specs.Promise.{Keeps}
 use Rattle.command_line.specs.declared.orders.Form.{Form}
 use Rattle.terminal.specs.Findings.{AreSound, blocks_for, said_all}
@@ -26,6 +26,18 @@ use Rattle.terminal.specs.Transfer.{as_blocks, exports, spilled_from}
 use Rattle.sessions.specs.Devices.{Becomes}
 use Rattle.sessions.specs.Sessions.{BreaksOff, Completes}
 use Rattle.sessions.specs.declared.run_fault.RunFault.{RunFault}
+
+-- what each line of a session is allowed: so many steps, and whether it is an event, which is undone where it fails
+pub record Allowed : Type 0 where
+  pub steps : ℕ
+  pub undoes : Bool
+
+abbrev pub allowing : ℕ → Bool → Allowed
+allowing steps undoes = record { steps = steps; undoes = undoes }
+
+-- a new system over a store with these maps, whose lines are allowed so much
+abbrev pub new_system : Allowed → Maps → Forth
+new_system allowed maps = undoing allowed.undoes (new_forth allowed.steps maps)
 
 module _ {D : Type 0} (G : Ghosts D) where
   -- The image means these blocks, by the layout that the device's size tells.
@@ -87,14 +99,14 @@ module _ {D : Type 0} (G : Ghosts D) where
     pub saved : closing.world.maps.closed ≡ false → LeavesBlocks new closing.world.maps.saved
 
   -- `run`: a recovery, and a session over the blocks of the image.
-  pub record RunsSession (steps : ℕ) (left left' written written' : Option (List ℕ)) (device after : D) : Type 0 where
+  pub record RunsSession (allowed : Allowed) (left left' written written' : Option (List ℕ)) (device after : D) : Type 0 where
     pub begun : D
     pub recovers : Recovers device begun
     pub well : G.failures begun ≡ G.failures device
     pub meant : IsTrue (suits G device) → HasMeaning (G.sector_count device) (G.disk device).content
     pub goes : Becomes G begun after
     pub runs : IsTrue (suits G device)
-        → RunsFrom (new_forth steps (maps_on device)) left left' written written' begun after
+        → RunsFrom (new_system allowed (maps_on device)) left left' written written' begun after
 
   -- `list`: a recovery, and the listing of a block that is there was printed. Nothing was written for it, and the block was
   -- read once, so a stop at any moment after the recovery, and at the end, leaves the blocks as they were.
@@ -200,11 +212,6 @@ module _ {D : Type 0} (G : Ghosts D) where
   -- What is left is such a device, which has become this by what P says. `keep` tells what is left of a device.
   abbrev pub DoneOn : {L : Type 0} (keep : D → L) (first : D → Type 0) (P : D → D → Type 0) (left : L) → Type 0
   DoneOn keep first P left = (after : D) × (left ≡ keep after) × Comes first P after
-
-  -- From a device that was opened an image was made on a device of as many sectors.
-  abbrev pub Upgraded : (opened : D → Type 0) (made : ℕ → D → Type 0) (source' after : D) → Type 0
-  Upgraded opened made source' after =
-      (source : D) × opened source × (device : D) × made (G.sector_count source) device × Upgrades source source' device after
 
 -- Of each device that is left, P holds if it was opened for writing too or made, and Q if it was opened for reading alone.
 abbrev pub EachLeft : {D E : Type 0} (P : D → Type 0) (Q : E → Type 0) → Left D E → Type 0

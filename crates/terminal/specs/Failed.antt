@@ -1,23 +1,17 @@
 -- What a command over images leaves where it failed, on any device: from the device that it opened or made to what that has become.
-use Rattle.std.specs.Prelude.{◌≡◌, ◌≢◌, ◌⊎◌, ℕ, Bool, true, false, ◌+◌, ◌-◌, ◌*◌, ◌≤◌, ◌<◌, IsTrue, List, [], MatchBool, Option, None, Some, is_some, option_map}
+use Rattle.std.specs.Prelude.{◌≡◌, ◌≢◌, ◌⊎◌, ℕ, Bool, true, false, ◌+◌, ◌-◌, ◌*◌, ◌≤◌, ◌<◌, IsTrue, List, [], MatchBool, Option, None, Some, option_map}
 use Rattle.std.specs.Io.KnownBytes.{Appends}
 use Rattle.sector_disk.specs.Counting.{count_up}
 use Rattle.sector_disk.specs.declared.device.SectorDevice.{Ghosts}
 use Rattle.journal.specs.Calls.{BeginsAtMost, ReadsAtMost, StopsLeave}
-use Rattle.journal.specs.Layout as older_layout
 use Rattle.journal.specs.Maps.{latest, spilled}
-use Rattle.journal.specs.Layout.{most_blocks_1}
-use Rattle.journal.specs.PageLayout as newer_layout
-use Rattle.journal.specs.Sizes.{is_size_within}
 use Rattle.journal.specs.Suits.{suits}
-use Rattle.interpreter.specs.Lines.{new_forth}
 use Rattle.recovery.specs.Formatted as older_making
 use Rattle.recovery.specs.Steps.{OnlyRead, WentWell}
 use Rattle.recovery.specs.Upgraded as older_upgrade
 use Rattle.recovery.specs.Upgraded.{OldLeaves}
 use Rattle.recovery.specs.declared.fault.UpgradeFault.{UpgradeFault}
 use Rattle.shadow.specs.Formatted as newer_making
-use Rattle.shadow.specs.Label.{is_known_size}
 use Rattle.shadow.specs.Upgraded as newer_upgrade
 use Rattle.sector_disk.specs.Disk.{Image, MayLeave}
 use Rattle.stores.specs.Opened.{image_refusal}
@@ -26,42 +20,39 @@ use Rattle.image_care.specs.Made.{MakingLeaves, writes_to_make}
 use Rattle.image_care.specs.Salvaged.{salvage_refusal, salvaged_blocks}
 use Rattle.image_care.specs.Through.{ReadsThrough, image_of}
 use Rattle.sessions.specs.Devices.{Becomes}
-use Rattle.sessions.specs.Sessions.{AreFaultless}
+use Rattle.sessions.specs.Strict.{NoneFailed, strict_ones}
+use Rattle.sessions.specs.declared.strictness.Strictness.{Strictness}
 use Rattle.sessions.specs.declared.run_fault.RunFault.{RunFault}
 use Rattle.command_line.specs.declared.orders.Form.{Form}
 use Rattle.command_line.specs.declared.orders.Layout.{Layout}
 use Rattle.command_line.specs.declared.orders.Layout.TheVariants.{Two, Three}
 use Rattle.command_line.specs.declared.orders.Script.{Script}
+use Rattle.terminal.specs.declared.deeds.Looking.{Looking}
+use Rattle.terminal.specs.declared.deeds.Looking.TheVariants.{Check, Digests}
+use Rattle.terminal.specs.declared.deeds.Printing.{Printing}
+use Rattle.terminal.specs.declared.deeds.Printing.TheVariants.{List as ListBlock, Export}
 use Rattle.terminal.specs.Checked.{layout_by_size}
 use Rattle.terminal.specs.Compared.{OneFailed, refusal_of_either}
-use Rattle.terminal.specs.Copying.{MadeOf, sectors_for_copy, sectors_for_salvage}
 use Rattle.terminal.specs.Damage.{damage_report}
-use Rattle.terminal.specs.Done.{BreaksFrom, DoneOn, LeavesBlocks, MeansOn, Recovers, blocks_on, maps_on, meant_by}
+use Rattle.terminal.specs.Done.{BreaksFrom, DoneOn, LeavesBlocks, MeansOn, Recovers, blocks_on, maps_on, meant_by, Allowed, new_system}
 use Rattle.terminal.specs.Failures.{of_image, of_run, of_upgrade}
 use Rattle.terminal.specs.Findings.{AreSound, said_all}
-use Rattle.terminal.specs.Layout3.{meant_by_older}
+use Rattle.terminal.specs.Layout3.{meant_by_older, sectors_by}
 use Rattle.terminal.specs.Layout2 as older
 use Rattle.terminal.specs.Screen.{screen_of}
-use Rattle.terminal.specs.Scripts.{IsLed, StopsFrom, load_line}
+use Rattle.terminal.specs.Scripts.{IsLed, load_line, allowed_by, strictness_of}
 use Rattle.terminal.specs.Shown.{block_refusal, blocks_refusal}
 use Rattle.terminal.specs.Standing.{AfterFault, OneIsDamaged, has_pages}
 use Rattle.terminal.specs.Texts.{OneIsUnread}
 use Rattle.terminal.specs.Through.{TellsUnread}
 use Rattle.terminal.specs.Transfer.{as_blocks, spilled_from}
+use Rattle.terminal.specs.Unopened.{IsUnmade, IsUnopened}
 use Rattle.terminal.specs.declared.failure.Failure.{Failure}
-use Rattle.terminal.specs.declared.failure.Failure.TheVariants.{BadSize, CannotOpen, CannotRead, CannotWrite, Damaged, Device, Exists, InUse, NoBlock, NoMemory, NotAScreen, Stopped}
+use Rattle.terminal.specs.declared.failure.Failure.TheVariants.{BadSize, CannotOpen, CannotRead, CannotWrite, Damaged, Device, NoBlock, NoMemory, NotAScreen}
 use Rattle.terminal.specs.declared.left.Left.{Left}
 use Rattle.terminal.specs.declared.left.Left.TheVariants as files
 
 -- ---- which files were opened
-
--- the system didn't open the file
-abbrev pub IsUnopened : Failure → Type 0
-IsUnopened failure = (failure ≡ CannotOpen) ⊎ (failure ≡ InUse)
-
--- the system didn't make the file
-abbrev pub IsUnmade : Failure → Type 0
-IsUnmade failure = (failure ≡ Exists) ⊎ IsUnopened failure
 
 -- The device is as it was opened: no call of it was made. Its size doesn't fit, and that is told; else the new file wasn't made.
 pub record IsUntouched {D : Type 0} (fits : D → Bool) (failure : Failure) (device after : D) : Type 0 where
@@ -189,28 +180,20 @@ module _ {D : Type 0} (G : Ghosts D) where
     pub unread : left' ≡ left
     pub unwritten : written' ≡ written
 
-  -- `run`: the input or the output failed in a session over the blocks of the image, which keeps what it had saved. In a strict one
-  -- no fault had ended a line.
-  pub record BreaksSession (steps : ℕ) (is_strict : Bool) (left left' written written' : Option (List ℕ)) (failure : Failure)
+  -- `run`: the input or the output failed in a session over the blocks of the image, which keeps what it had saved. No line
+  -- had failed with which it would have ended.
+  pub record BreaksSession (allowed : Allowed) (strictness : Strictness) (left left' written written' : Option (List ℕ)) (failure : Failure)
       (device begun after : D) : Type 0 where
     pub fault : RunFault
     pub told : failure ≡ of_run fault
-    pub breaks : IsTrue (suits G device) → BreaksFrom G fault (new_forth steps (maps_on G device)) left left' written written' begun after
-    pub faultless : is_strict ≡ true → (keeps : IsTrue (suits G device)) → AreFaultless (breaks keeps).breaks.turns
+    pub breaks : IsTrue (suits G device) → BreaksFrom G fault (new_system allowed (maps_on G device)) left left' written written' begun after
+    pub unfailed : (keeps : IsTrue (suits G device)) → NoneFailed (strict_ones strictness (breaks keeps).breaks.turns)
 
-  -- `run`: a strict session over the blocks of the image ended with the first line that a fault ended, and keeps what it had saved.
-  pub record StopsSession (steps : ℕ) (is_strict : Bool) (left left' written written' : Option (List ℕ)) (failure : Failure)
-      (device begun after : D) : Type 0 where
-    pub told : failure ≡ Stopped
-    pub strict : is_strict ≡ true
-    pub stops : IsTrue (suits G device) → StopsFrom G (new_forth steps (maps_on G device)) left left' written written' begun after
-
-  abbrev pub RunFails : (steps : ℕ) (is_strict : Bool) (left left' written written' : Option (List ℕ)) → Failure
+  abbrev pub RunFails : (allowed : Allowed) (strictness : Strictness) (left left' written written' : Option (List ℕ)) → Failure
       → (device begun after : D) → Type 0
-  RunFails steps is_strict left left' written written' failure device begun after =
+  RunFails allowed strictness left left' written written' failure device begun after =
       NotBegun left left' written written' failure device begun after
-      ⊎ BreaksSession steps is_strict left left' written written' failure device begun after
-      ⊎ StopsSession steps is_strict left left' written written' failure device begun after
+      ⊎ BreaksSession allowed strictness left left' written written' failure device begun after
 
   -- The image was read by so many calls at most, and nothing was written: a stop at any moment, and at the end, leaves the blocks
   -- as they were.
@@ -368,12 +351,15 @@ module _ {D : Type 0} (G : Ghosts D) where
   NotFinished begun failure left = ((left ≡ files.Nothing) × IsUnmade failure)
       ⊎ ((failure ≡ CannotOpen) × (device : D) × begun device × (left ≡ files.Made device))
 
+  -- The same by this layout.
+  abbrev pub MakingFailsBy : Layout → (n : ℕ) → Failure → (device after : D) → Type 0
+  MakingFailsBy Two = MakingFails
+  MakingFailsBy Three = NewerMakingFails
+
   -- The file wasn't made, or not finished, or the image on it wasn't made by this layout.
   abbrev pub NewFailed : {E : Type 0} (made : ℕ → D → Type 0) (begun : D → Type 0) → ℕ → Layout → Failure → Left D E → Type 0
-  NewFailed made begun n Two failure left = NotFinished begun failure left
-      ⊎ DoneOn G files.Made (made (older_layout.sectors_for n)) (MakingFails n failure) left
-  NewFailed made begun n Three failure left = NotFinished begun failure left
-      ⊎ DoneOn G files.Made (made (newer_layout.sectors_for n)) (NewerMakingFails n failure) left
+  NewFailed made begun n layout failure left = NotFinished begun failure left
+      ⊎ DoneOn G files.Made (made (sectors_by layout n)) (MakingFailsBy layout n failure) left
 
   -- `upgrade` to layout 2: a stop at any moment of it leaves of the old image one that means the same, and of the new one no
   -- image, or the whole one, or what could be left before.
@@ -386,33 +372,40 @@ module _ {D : Type 0} (G : Ghosts D) where
     pub tells : TellsRefusal G G (G.keeps_sectors source)
         (older_upgrade.upgrade_refusal (G.sector_count source) (G.sector_count device) ((G.disk source).content 0)) failure source source' device after
 
-  -- The old file wasn't opened, or doesn't fit; or the new one wasn't made, or not finished, and no call of the old one was made.
-  abbrev pub NotUpgraded : {E : Type 0} (fits : D → Bool) (opened begun : D → Type 0) → Failure → Left D E → Type 0
-  NotUpgraded fits opened begun failure left = FailsOn files.Opened opened (IsUntouched fits) failure left
-      ⊎ ((failure ≡ CannotOpen) × (source : D) × opened source × (device : D) × begun device × (left ≡ files.Upgraded source device))
+-- `upgrade` to this layout.
+abbrev pub UpgradeFailsBy : {D : Type 0} (G : Ghosts D) → Layout → Failure → (source source' device after : D) → Type 0
+UpgradeFailsBy G Two = UpgradeFails G
+UpgradeFailsBy G Three = NewerUpgradeFails G G
 
-  -- The same, or the image was upgraded in part.
-  abbrev pub UpgradeFailed : {E : Type 0} (opened : D → Type 0) (made : ℕ → D → Type 0) (begun : D → Type 0) → Layout → Failure
-      → Left D E → Type 0
-  UpgradeFailed opened made begun Two failure left =
-      NotUpgraded (λ source. is_size_within most_blocks_1 (G.sector_count source)) opened begun failure left
-      ⊎ ((source : D) × opened source × (device : D) × made (G.sector_count source) device × (source' : D) × (after : D)
-      × (left ≡ files.Upgraded source' after) × UpgradeFails failure source source' device after)
-  UpgradeFailed opened made begun Three failure left = NotUpgraded (λ source. is_known_size (G.sector_count source)) opened begun failure left
-      ⊎ ((source : D) × opened source × (device : D) × made (newer_layout.sectors_for (blocks_on G source)) device × (source' : D)
-      × (after : D) × (left ≡ files.Upgraded source' after) × NewerUpgradeFails G G failure source source' device after)
+-- `list`, `export`: what is left of an image that was opened for writing too, and of one that was opened for reading alone.
+module _ {D : Type 0} (G : Ghosts D) where
+  abbrev pub NotPrinted : Printing → Failure → (device after : D) → Type 0
+  NotPrinted (ListBlock b) = FailsToPrint G b b (ListFails G b)
+  NotPrinted (Export first last form) = FailsToPrint G first last (ExportFails G first last)
+
+  abbrev pub NotShown : Printing → Failure → (device after : D) → Type 0
+  NotShown (ListBlock b) = ListShowingFails G b
+  NotShown (Export first last form) = ShowingFails G (blocks_refusal first last) first last
+
+  -- `check`, `check --blocks`: what is left of an image that was opened for reading alone.
+  abbrev pub NotTold : Looking → (written written' : Option (List ℕ)) → Failure → (device after : D) → Type 0
+  NotTold Check written written' = CheckFails G written written'
+  NotTold Digests written written' = LookingFails G
+
+-- Where nothing was printed: but where the output failed, or else what was found was told in part.
+abbrev pub PrintsNone : Printing → Failure → Type 0
+PrintsNone (ListBlock b) failure = failure ≢ CannotWrite
+PrintsNone (Export first last form) failure = (failure ≢ Device) × (failure ≢ CannotWrite)
+
+abbrev pub TellsNone : Looking → Failure → Type 0
+TellsNone Check failure = (failure ≢ Damaged) × (failure ≢ Device) × (failure ≢ CannotWrite)
+TellsNone Digests failure = failure ≢ CannotWrite
 
 module _ {D E : Type 0} (G : Ghosts D) (L : Ghosts E) where
-  -- A block wasn't listed: no file of its image was opened, or the one for writing was, or the one for reading alone.
-  abbrev pub ListFailed : (opened : D → Type 0) (looked : E → Type 0) (b : ℕ) → Failure → Left D E → Type 0
-  ListFailed opened looked b failure left = FailsOn G files.Opened opened (FailsToPrint G b b (ListFails G b)) failure left
-      ⊎ DoneOn L files.Looked looked (ListShowingFails L b failure) left
-
-  -- Blocks weren't exported: the same.
-  abbrev pub ExportFailed : (opened : D → Type 0) (looked : E → Type 0) (first last : ℕ) → Failure → Left D E → Type 0
-  ExportFailed opened looked first last failure left =
-      FailsOn G files.Opened opened (FailsToPrint G first last (ExportFails G first last)) failure left
-      ⊎ DoneOn L files.Looked looked (ShowingFails L (blocks_refusal first last) first last failure) left
+  -- Blocks weren't printed: no file of their image was opened, or the one for writing was, or the one for reading alone.
+  abbrev pub PrintFailed : (opened : D → Type 0) (looked : E → Type 0) → Printing → Failure → Left D E → Type 0
+  PrintFailed opened looked asked failure left = FailsOn G files.Opened opened (NotPrinted G asked) failure left
+      ⊎ DoneOn L files.Looked looked (NotShown L asked failure) left
 
 -- ---- of a script, which is read before its image is opened
 
@@ -431,7 +424,7 @@ module _ {D : Type 0} (G : Ghosts D) where
       (left left' written written' : Option (List ℕ)) → Failure → Left D E → Type 0
   ScriptFails opened is_text is_unread script P left left' written written' failure ends =
       NotLed (OneIsUnread is_unread script.files.items) left left' written written' failure ends
-      ⊎ ((led : Option (List ℕ)) × IsLed is_text (load_line script.load) script.files.items left led
+      ⊎ ((led : Option (List ℕ)) × IsLed is_text (load_line script.load) script.files.items script.goes_on left led
       × FailsOn G files.Opened opened (FailsAfter G (P led left' written written')) failure ends)
 
   -- No session of it began.
@@ -442,7 +435,7 @@ module _ {D : Type 0} (G : Ghosts D) where
   -- `run`: no session of it began, or one didn't come to the end of its input.
   abbrev pub ScriptFailed : {E : Type 0} (opened : D → Type 0) (is_text : (path text : List ℕ) → Type 0) (is_unread : (path : List ℕ) → Type 0)
       (steps : ℕ) (script : Script) (left left' written written' : Option (List ℕ)) → Failure → Left D E → Type 0
-  ScriptFailed opened is_text is_unread steps script = ScriptFails opened is_text is_unread script (RunFails G steps script.is_strict)
+  ScriptFailed opened is_text is_unread steps script = ScriptFails opened is_text is_unread script (RunFails G (allowed_by steps script) (strictness_of script))
 
 -- ---- of an image that is made of another one: G is of those that are copied or salvaged, H of those that are made
 
@@ -492,16 +485,6 @@ module _ {A B : Type 0} (G : Ghosts A) (H : Ghosts B) where
     pub told : (failure ≡ Device) ⊎ IsUntold failure
         ⊎ (Some failure ≡ option_map of_upgrade (salvage_refusal (G.sector_count source) (H.sector_count device)))
 
-  -- The new file was made and not finished, and no call of the old one was made; or P says what was made.
-  abbrev pub MakesSome : (begun : B → Type 0) (P : A → A → B → Type 0) → Failure → (source source' : A) (after : B) → Type 0
-  MakesSome begun P failure source source' after =
-      ((failure ≡ CannotOpen) × (source' ≡ source) × begun after) ⊎ P source source' after
-
-  -- A copy of as many blocks as were asked for was made in part.
-  abbrev pub MakesCopyInPart : (made : ℕ → B → Type 0) (begun : B → Type 0) (asked : Option ℕ) → Failure → (source source' : A) (after : B) → Type 0
-  MakesCopyInPart made begun asked failure source source' after =
-      MakesSome begun (MadeOf G H made (sectors_for_copy (G.sector_count source) asked) (CopyFails failure)) failure source source' after
-
   -- `salvage` of an image that was read through: from its device, or from what was had.
   abbrev pub ReadFails : (sectors : ℕ) (had unread : List ℕ) → Failure → (through source' : A) (device after : B) → Type 0
   ReadFails sectors had unread failure through source' device after =
@@ -514,21 +497,3 @@ module _ {A B : Type 0} (G : Ghosts A) (H : Ghosts B) where
       (OnlyRead G source source' × (failure ≡ NoMemory) × (after ≡ device))
       ⊎ ((through : A) × (had : List ℕ) × (unread : List ℕ) × ReadsThrough G had unread source through
       × ReadFails (G.sector_count source) had unread failure through source' device after)
-
-  -- A salvage was.
-  abbrev pub MakesSalvageInPart : (made : ℕ → B → Type 0) (begun : B → Type 0) (asked : Option ℕ) → Failure → (source source' : A) (after : B) → Type 0
-  MakesSalvageInPart made begun asked failure source source' after =
-      MakesSome begun (MadeOf G H made (sectors_for_salvage (G.sector_count source) asked) (SalvageThroughFails failure)) failure source source' after
-
-  -- The old file wasn't opened, or doesn't fit; or the new one wasn't made, and no call of the old one was made; or P says what was made.
-  abbrev pub FailsToMake : (fits : A → Bool) (P : A → A → B → Type 0) (looked : A → Type 0) → Failure → Left B A → Type 0
-  FailsToMake fits P looked failure left = FailsOn G files.Looked looked (IsUntouched fits) failure left
-      ⊎ ((source : A) × looked source × (source' : A) × (after : B) × (left ≡ files.Copied source' after) × P source source' after)
-
-  abbrev pub CopyFailed : (looked : A → Type 0) (made : ℕ → B → Type 0) (begun : B → Type 0) (asked : Option ℕ) → Failure → Left B A → Type 0
-  CopyFailed looked made begun asked failure left =
-      FailsToMake (λ source. is_some (sectors_for_copy (G.sector_count source) asked)) (MakesCopyInPart made begun asked failure) looked failure left
-
-  abbrev pub SalvageFailed : (looked : A → Type 0) (made : ℕ → B → Type 0) (begun : B → Type 0) (asked : Option ℕ) → Failure → Left B A → Type 0
-  SalvageFailed looked made begun asked failure left =
-      FailsToMake (λ source. is_some (sectors_for_salvage (G.sector_count source) asked)) (MakesSalvageInPart made begun asked failure) looked failure left

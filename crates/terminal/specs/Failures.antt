@@ -1,5 +1,5 @@
 -- The exit status of a failure, and the failure that a fault is told as.
-use Rattle.std.specs.Prelude.{ℕ, Bool, true, false, Option, Some, None, Result, Ok, Err}
+use Rattle.std.specs.Prelude.{ℕ, Bool, true, false, Result, Ok, Err}
 use Rattle.sector_disk.specs.declared.host_files.FileFault.{FileFault}
 use Rattle.sector_disk.specs.declared.host_files.FileFault.TheVariants as file
 use Rattle.journal.specs.declared.store.StoreFault.{StoreFault}
@@ -8,7 +8,9 @@ use Rattle.recovery.specs.declared.fault.OpenFault.TheVariants as image
 use Rattle.recovery.specs.declared.fault.UpgradeFault.{UpgradeFault}
 use Rattle.recovery.specs.declared.fault.UpgradeFault.TheVariants.{Old, New}
 use Rattle.terminal.specs.declared.failure.Failure.{Failure}
-use Rattle.terminal.specs.declared.failure.Failure.TheVariants.{BadSize, NoLabel, OtherVersion, WrongCount, Damaged, Device, Exists, CannotOpen, InUse, NoBlock, CannotRead, NotAScreen, CannotWrite, NoMemory, Stopped}
+use Rattle.terminal.specs.declared.failure.Failure.TheVariants.{BadSize, NoLabel, OtherVersion, WrongCount, Damaged, Device, Exists, CannotOpen, InUse, NoBlock, CannotRead, NotAScreen, CannotWrite, NoMemory}
+use Rattle.terminal.specs.declared.failure.Outcome.{Outcome}
+use Rattle.terminal.specs.declared.failure.Outcome.TheVariants.{Done, Stopped}
 use Rattle.image_care.specs.declared.all_blocks.ReadFault.{ReadFault}
 use Rattle.image_care.specs.declared.all_blocks.ReadFault.TheVariants as reading
 use Rattle.sessions.specs.declared.run_end.RunEnd.{RunEnd}
@@ -16,7 +18,7 @@ use Rattle.sessions.specs.declared.run_end.RunEnd.TheVariants as by
 use Rattle.sessions.specs.declared.run_fault.RunFault.{RunFault}
 use Rattle.sessions.specs.declared.run_fault.RunFault.TheVariants.{Read, Write}
 
--- 3 where it lies with the image, 4 with input or output, 5 with memory, 1 where a strict session stopped
+-- 3 where it lies with the image, 4 with input or output, 5 with memory
 abbrev pub status_of : Failure → ℕ
 status_of BadSize = 3
 status_of NoLabel = 3
@@ -32,7 +34,6 @@ status_of CannotRead = 4
 status_of NotAScreen = 4
 status_of CannotWrite = 4
 status_of NoMemory = 5
-status_of Stopped = 1
 
 -- whether a call of the image's device failed
 abbrev pub is_device : Failure → Bool
@@ -50,7 +51,6 @@ is_device CannotRead = false
 is_device NotAScreen = false
 is_device CannotWrite = false
 is_device NoMemory = false
-is_device Stopped = false
 
 -- a fault of an image is told under its own name
 abbrev pub of_image : OpenFault → Failure
@@ -83,8 +83,8 @@ abbrev pub of_run : RunFault → Failure
 of_run Read = CannotRead
 of_run Write = CannotWrite
 
--- what a session that ended so is told as: nothing where it came to the end of its input
-abbrev pub of_end : Result RunEnd RunFault → Option Failure
-of_end (Ok by.Input) = None
-of_end (Ok by.Fault) = Some Stopped
-of_end (Err fault) = Some (of_run fault)
+-- what a session that ended so is told as: done where it came to the end of its input
+abbrev pub of_end : Result RunEnd RunFault → Result Outcome Failure
+of_end (Ok by.Input) = Ok Done
+of_end (Ok by.Failure) = Ok Stopped
+of_end (Err fault) = Err (of_run fault)

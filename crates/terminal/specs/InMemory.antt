@@ -1,6 +1,6 @@
 -- Sessions over blocks in memory: what the program runs where its words give no command.
-use Rattle.std.specs.Prelude.{◌≡◌, ◌⊎◌, ℕ, List, [], Option, None, ⊤}
-use Rattle.clap.specs.Words.{IsAmong, Kinds, Text, fault_of, subcommand_of}
+use Rattle.std.specs.Prelude.{◌≡◌, ◌⊎◌, ℕ, List, Option}
+use Rattle.clap.specs.Words.{IsAmong, Kinds}
 use Rattle.clap.specs.declared.error.kind.ErrorKind.{ErrorKind}
 use Rattle.clap.specs.declared.error.kind.ErrorKind.TheVariants.{DisplayHelp, DisplayVersion}
 use Rattle.sector_disk.specs.declared.device.SectorDevice.{Ghosts}
@@ -9,23 +9,11 @@ use Rattle.recovery.specs.Formatted.{blank_blocks}
 use Rattle.block_words.specs.Words.{Save}
 use Rattle.interpreter.specs.State.{Forth}
 use Rattle.interpreter.specs.Lines.{new_forth}
-use Rattle.command_line.specs.declared.orders.Order.{Order}
-use Rattle.command_line.specs.declared.orders.Order.TheVariants.{Memory}
 use Rattle.sessions.specs.declared.run_fault.RunFault.{RunFault}
-use Rattle.command_line.specs.Commands.{forth83}
 use Rattle.sessions.specs.Sessions.{Completes, BreaksOff}
 use Rattle.terminal.specs.Failures.{of_run, status_of}
 use Rattle.terminal.specs.declared.failure.Failure.{Failure}
 use Rattle.terminal.specs.declared.failure.Failure.TheVariants.{NoMemory}
-
--- the words are no command, and nothing in them is refused
-abbrev pub AsksForNothing : List Text → Type 0
-AsksForNothing words = (subcommand_of forth83 words ≡ None) × (fault_of forth83 words ≡ [])
-
--- the order that such words give
-abbrev pub IsForMemory : Order → Type 0
-IsForMemory Memory = ⊤
-IsForMemory order = ⊥
 
 -- a new system over 32 blank blocks
 abbrev pub blank_forth : Forth

@@ -1,5 +1,5 @@
 -- What `new` and `upgrade` leave of images of layout 3, on any devices, and what they leave by the layout that is asked for.
-use Rattle.std.specs.Prelude.{◌≡◌, ◌+◌, ◌*◌, ℕ, IsTrue, List, None}
+use Rattle.std.specs.Prelude.{◌≡◌, ◌+◌, ◌*◌, ℕ, if◌then◌else◌, IsTrue, List, Option, None, Some}
 use Rattle.sector_disk.specs.Disk.{Image, MayLeave, settled}
 use Rattle.sector_disk.specs.declared.device.SectorDevice.{Ghosts}
 use Rattle.journal.specs.Calls.{BeginsAtMost, ReadsAtMost, StopsLeave}
@@ -9,11 +9,12 @@ use Rattle.recovery.specs.Formatted.{blank_blocks}
 use Rattle.shadow.specs.Formatted.{FormatLeaves, MakingLeaves}
 use Rattle.journal.specs.PageImages.{Means}
 use Rattle.journal.specs.PageLayout.{sectors_for}
-use Rattle.shadow.specs.Upgraded.{older_refusal, reads_to_list}
+use Rattle.journal.specs.Layout.{most_blocks_1}
+use Rattle.journal.specs.Sizes.{is_size_within}
+use Rattle.shadow.specs.Label.{is_known_size}
+use Rattle.shadow.specs.Upgraded.{known_blocks, older_refusal, reads_to_list}
 use Rattle.sessions.specs.Devices.{Becomes}
-use Rattle.terminal.specs.Done.{DoneOn, MakesBlank, Upgraded, blocks_on}
-use Rattle.terminal.specs.declared.left.Left.{Left}
-use Rattle.terminal.specs.declared.left.Left.TheVariants as files
+use Rattle.terminal.specs.Done.{MakesBlank, Upgrades, blocks_on}
 use Rattle.command_line.specs.declared.orders.Layout.{Layout}
 use Rattle.command_line.specs.declared.orders.Layout.TheVariants.{Two, Three}
 
@@ -34,10 +35,10 @@ module _ {D : Type 0} (G : Ghosts D) where
     pub begins : BeginsAtMost G device after (4 * n + 5) 4
     pub reads : ReadsAtMost G device after 1
 
-  -- An image of n blank blocks was made on such a device, by this layout.
-  abbrev pub NewDone : {E : Type 0} (made : ℕ → D → Type 0) → ℕ → Layout → (left : Left D E) → Type 0
-  NewDone made n Two left = DoneOn G files.Made (made (older.sectors_for n)) (MakesBlank G n) left
-  NewDone made n Three left = DoneOn G files.Made (made (sectors_for n)) (MakesNewer n) left
+  -- The same by this layout.
+  abbrev pub MakesBlankBy : Layout → (n : ℕ) (device after : D) → Type 0
+  MakesBlankBy Two = MakesBlank G
+  MakesBlankBy Three = MakesNewer
 
 module _ {A B : Type 0} (G : Ghosts A) (H : Ghosts B) where
   -- `upgrade`: the one device has become an image of layout 3 of the blocks that the image of layout 1 or 2 on the other means.
@@ -60,16 +61,17 @@ module _ {A B : Type 0} (G : Ghosts A) (H : Ghosts B) where
     pub begins : BeginsAtMost H device after (4 * blocks_on G source + 5) 4
     pub looks : ReadsAtMost H device after 1
 
-module _ {D : Type 0} (G : Ghosts D) where
-  -- From a device that was opened an image of layout 3 was made on a device of the size of one with as many blocks.
-  abbrev pub UpgradedNewer : (opened : D → Type 0) (made : ℕ → D → Type 0) (source' after : D) → Type 0
-  UpgradedNewer opened made source' after = (source : D) × opened source
-      × (device : D) × made (sectors_for (blocks_on G source)) device × UpgradesNewer G G source source' device after
+-- how many sectors an image of n blocks has by this layout
+abbrev pub sectors_by : Layout → ℕ → ℕ
+sectors_by Two n = older.sectors_for n
+sectors_by Three n = sectors_for n
 
-  -- The blocks of a device that was opened went into an image on one that was made, by this layout.
-  -- What is left are both devices.
-  abbrev pub UpgradeDone : {E : Type 0} (opened : D → Type 0) (made : ℕ → D → Type 0) → Layout → (left : Left D E) → Type 0
-  UpgradeDone opened made Two left =
-      (source' : D) × (after : D) × (left ≡ files.Upgraded source' after) × Upgraded G opened made source' after
-  UpgradeDone opened made Three left =
-      (source' : D) × (after : D) × (left ≡ files.Upgraded source' after) × UpgradedNewer opened made source' after
+-- how many sectors the image of this layout has that an upgrade makes of one on so many: to layout 2 of one of layout 1
+abbrev pub sectors_for_upgrade : Layout → (sectors : ℕ) → Option ℕ
+sectors_for_upgrade Two sectors = if is_size_within most_blocks_1 sectors then Some sectors else None
+sectors_for_upgrade Three sectors = if is_known_size sectors then Some (sectors_for (known_blocks sectors)) else None
+
+-- `upgrade`: the blocks of the one device went into an image of this layout on the other.
+abbrev pub UpgradesBy : {D : Type 0} (G : Ghosts D) → Layout → (source source' device after : D) → Type 0
+UpgradesBy G Two = Upgrades G
+UpgradesBy G Three = UpgradesNewer G G

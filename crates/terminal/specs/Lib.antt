@@ -22,3 +22,7 @@ pub mod Findings
 pub mod Imported
 pub mod Scripts
 pub mod Texts
+pub mod Given
+pub mod Said
+pub mod Shapes
+pub mod Unopened

@@ -14,7 +14,7 @@ use Rattle.image_care.specs.Standing.{standing_of}
 use Rattle.image_care.specs.Through.{ReadsThrough, image_of}
 use Rattle.sessions.specs.Devices.{Becomes}
 use Rattle.terminal.specs.Checked.{line}
-use Rattle.terminal.specs.Copying.{MadeOf, Salvages, salvage_told, sectors_for_salvage}
+use Rattle.terminal.specs.Copying.{Salvages, salvage_told}
 use Rattle.terminal.specs.Done.{LeavesBlocks}
 
 -- The block that sector k of an image of n blocks is of, by layout 2: its slot or its home lies there. Label, gate and record are of none.
@@ -66,12 +66,6 @@ module _ {A B : Type 0} (G : Ghosts A) (H : Ghosts B) where
     pub read : ReadsThrough G had unread source through
     pub well : WentWell G H through source' device after
     pub salvaged : SalvagesRead (G.sector_count source) had unread written written' through source' device after
-
-  -- An image was salvaged, which has as many blocks as were asked for.
-  abbrev pub MakesSalvage : (made : ℕ → B → Type 0) (asked : Option ℕ) (written written' : Option (List ℕ))
-      (source source' : A) (after : B) → Type 0
-  MakesSalvage made asked written written' source source' after =
-      MadeOf G H made (sectors_for_salvage (G.sector_count source) asked) (SalvagesThrough written written') source source' after
 
 -- `check`: a read of the image failed. So it was read through, and each sector that can't be read was told.
 pub record TellsUnread {D : Type 0} (G : Ghosts D) (written written' : Option (List ℕ)) (device after : D) : Type 0 where

@@ -32,7 +32,6 @@ pub fn read_all<D: SectorDevice>(alloc: Global, device: &mut D) -> Result<Vec<u8
     ensures device { IfErr result (λ e. e ≡ Failure.Device → D.failures device.new ≡ count_up (D.failures device.old)) }
     ensures refused { IfErr result (λ e. e ≢ Failure.Device → D.failures device.new ≡ D.failures device.old) }
     ensures well { OnOk result (D.failures device.new ≡ D.failures device.old) }
-    ensures unstopped { IfErr result (λ e. e ≢ Failure.Stopped) }
 {
     given(read_blocks(alloc, device))
 }

@@ -1,11 +1,11 @@
-//! What a person at a terminal is told besides: how a session is left, and which file a failure is about. It goes to
-//! standard error, and only where that is a terminal, so a script reads nothing of it.
+//! What a person at a terminal is told besides: how a session is left, which file a failure is about, and which layout
+//! a new image has. It goes to standard error, and only where that is a terminal, so a script reads nothing of it.
 ghost use Rattle.std.specs.Prelude.{◌<◌, IfSome};
 
 use super::failure::Failure;
 use super::importing::MOST_BYTES;
-use command_line::order;
 use command_line::orders::{Order, Script};
+use command_line::{VERSION, order};
 use journal::sizes::known_blocks;
 use std::convert::AsStr;
 use std::fs::{self, File, Files, OpenOptions};
@@ -32,16 +32,6 @@ enum Cause {
     Long(u64),
 }
 
-/// What there is of the name of an image that was to be made.
-#[derive(Clone, Copy)]
-enum Target {
-    /// A file that was there before.
-    WasThere,
-    /// The file that was begun for it.
-    Begun,
-    Missing,
-}
-
 /// Tells once, before a session that these words ask for, over what it runs and how it is left: where its lines are
 /// those of the input, and nothing that can be seen keeps its image from being run. Answers whether it told.
 pub(super) fn greet<S: AsStr, E: Write>(
@@ -60,78 +50,72 @@ pub(super) fn greet<S: AsStr, E: Write>(
 fn greet_over<E: Write>(rt: &impl Files<File = File>, asked: &Order<'_>, errors: &mut E) -> bool {
     let over = match asked {
         Order::Memory => "32 blocks in memory, which are not kept",
-        Order::Run(path, _, script) if script.files.is_empty() && may_be_run(rt, *path) => *path,
+        Order::Run(path, _, script) if script.goes_on && may_be_run(rt, *path) => *path,
         _ => return false,
     };
     let _ = writeln!(
         errors,
-        "forth83 0.1.0 over {over}. Words are in capital letters; Ctrl-D ends the session."
+        "forth83 {VERSION} over {over}. Words are in capital letters; Ctrl-D ends the session."
     );
     true
 }
 
-/// Whether there is a file of the name of an image that these words ask to make.
-pub(super) fn is_target_there<S: AsStr>(
-    rt: &(impl Files<File = File> + AllocGlobal),
-    words: &[S],
-) -> bool {
-    match order(rt.alloc(), words) {
-        Ok(asked) => makes_over(rt, &asked),
-        Err(_) => false,
-    }
-}
-
-/// Whether there is a file of the name of the image that an order makes.
-fn makes_over(rt: &impl Files<File = File>, asked: &Order<'_>) -> bool {
-    match asked {
-        Order::New(path, _, _)
-        | Order::Upgrade(_, path, _)
-        | Order::Copy(_, path, _)
-        | Order::Salvage(_, path, _) => fs::metadata(rt, *path).is_ok(),
-        _ => false,
-    }
-}
-
-/// Tells after a failure of this status which file it was about, of those that these words name, and what is wrong with
-/// that. `was_there` says whether, before, there had been a file of the name of an image that was to be made.
+/// Tells after an order of this status what a person may want to know of the files that these words name: after a
+/// failure which one it was about, and what is wrong with that; after `new` without a layout which one the image has.
 pub(super) fn advise<S: AsStr, E: Write>(
     rt: &(impl Files<File = File> + AllocGlobal),
     words: &[S],
-    was_there: bool,
     status: u8,
     errors: &mut E,
 ) {
     match order(rt.alloc(), words) {
-        Ok(asked) => advise_on(rt, &asked, was_there, status, errors),
+        Ok(asked) => {
+            if status == 0 {
+                tell_of_layout(words, &asked, errors);
+            } else {
+                advise_on(rt, &asked, status, errors);
+            }
+        }
         Err(_) => {}
     }
+}
+
+/// Tells which layout an image has that was made, where no word asked for one, and which one a file wants.
+fn tell_of_layout<S: AsStr, E: Write>(words: &[S], asked: &Order<'_>, errors: &mut E) {
+    let Order::New(path, _, _) = asked else {
+        return;
+    };
+    if words
+        .iter()
+        .any(|word| word.as_str().starts_with("--layout"))
+    {
+        return;
+    }
+    let _ = writeln!(
+        errors,
+        "  {path}: of layout 2, for cards, boards and raw disks; an image that stays in a file wants --layout 3"
+    );
 }
 
 /// Tells after a failure of an order which file it was about, by the status, and what is wrong with that.
 fn advise_on<E: Write>(
     rt: &impl Files<File = File>,
     asked: &Order<'_>,
-    was_there: bool,
     status: u8,
     errors: &mut E,
 ) {
     if status == Failure::CannotOpen.status() {
-        tell_of_images(rt, asked, was_there, errors);
+        tell_of_images(rt, asked, errors);
     } else if status == Failure::CannotRead.status() {
         tell_of_texts(rt, asked, errors);
     }
 }
 
 /// Tells of the images of an order.
-fn tell_of_images<E: Write>(
-    rt: &impl Files<File = File>,
-    asked: &Order<'_>,
-    was_there: bool,
-    errors: &mut E,
-) {
+fn tell_of_images<E: Write>(rt: &impl Files<File = File>, asked: &Order<'_>, errors: &mut E) {
     match asked {
         Order::Memory => {}
-        Order::New(path, _, _) => tell_of_new(*path, target_found(rt, *path, was_there), errors),
+        Order::New(path, _, _) => tell_of_new(rt, *path, errors),
         Order::Run(path, _, _) | Order::Check(path) | Order::Digests(path) => {
             tell_of_old(rt, *path, is_written(asked), errors)
         }
@@ -144,8 +128,7 @@ fn tell_of_images<E: Write>(
         }
         Order::Diff(old, new) => tell_of_two(rt, *old, *new, errors),
         Order::Upgrade(old, new, _) | Order::Copy(old, new, _) | Order::Salvage(old, new, _) => {
-            let found = target_found(rt, *new, was_there);
-            tell_of_both(rt, *old, *new, is_written(asked), found, errors)
+            tell_of_both(rt, *old, *new, is_written(asked), errors)
         }
     }
 }
@@ -181,23 +164,14 @@ fn tell_of_both<E: Write>(
     old: &str,
     new: &str,
     is_written: bool,
-    found: Target,
     errors: &mut E,
 ) {
     if cause_of_image(rt, old, is_written).is_some() {
-        return tell_of_old(rt, old, is_written, errors);
-    }
-    match found {
-        Target::WasThere => tell_of_new(new, found, errors),
-        Target::Begun => {
-            let _ = writeln!(
-                errors,
-                "  {old}, {new}: {new} was begun, and isn't finished"
-            );
-        }
-        Target::Missing => {
-            let _ = writeln!(errors, "  {old}, {new}");
-        }
+        tell_of_old(rt, old, is_written, errors)
+    } else if fs::metadata(rt, new).is_ok() {
+        tell_of_new(rt, new, errors)
+    } else {
+        let _ = writeln!(errors, "  {old}, {new}");
     }
 }
 
@@ -250,26 +224,15 @@ fn tell_of_old<E: Write>(
 }
 
 /// Tells of the file of an image that was to be made.
-fn tell_of_new<E: Write>(path: &str, found: Target, errors: &mut E) {
-    let _ = match found {
-        Target::WasThere => writeln!(errors, "  {path}: there is a file of this name"),
-        Target::Begun => writeln!(
+fn tell_of_new<E: Write>(rt: &impl Files<File = File>, path: &str, errors: &mut E) {
+    let _ = if fs::metadata(rt, path).is_ok() {
+        writeln!(errors, "  {path}: there is a file of this name")
+    } else {
+        writeln!(
             errors,
-            "  {path}: it was begun, and isn't finished; there may be no room"
-        ),
-        Target::Missing => writeln!(errors, "  {path}: it can't be made there"),
+            "  {path}: it can't be made there, there is no room, or it is being made"
+        )
     };
-}
-
-/// What there is of the name of an image that was to be made.
-fn target_found(rt: &impl Files<File = File>, path: &str, was_there: bool) -> Target {
-    if was_there {
-        return Target::WasThere;
-    }
-    match fs::metadata(rt, path) {
-        Ok(_) => Target::Begun,
-        Err(_) => Target::Missing,
-    }
 }
 
 /// Tells of the texts of an order: of the first that can be seen not to be readable, or of the only one.

@@ -10,54 +10,22 @@ ghost use Rattle.shadow.specs.Label.{is_known_size};
 ghost use Rattle.stores.specs.Opened.{image_refusal};
 ghost use Rattle.terminal.specs.Checked.{ChecksImage, gate_line, layout_by_size, report, save_text, version_of};
 ghost use Rattle.terminal.specs.Damage.{damage_report};
-ghost use Rattle.terminal.specs.Done.{DoneOn};
-ghost use Rattle.terminal.specs.Failed.{CheckFails, FailsOn};
+ghost use Rattle.terminal.specs.Failed.{CheckFails};
 ghost use Rattle.recovery.specs.Steps.{OnlyRead};
 ghost use Rattle.terminal.specs.Failures.{of_image};
-ghost use Rattle.terminal.specs.Files.{IsOpened};
 ghost use Rattle.command_line.specs.declared.orders.Layout.TheVariants.{Two, Three};
 
 use super::damage::tell_damage;
 use super::failure::Failure;
-use super::left::Left;
 use super::unread_sectors::tell_more;
 use command_line::orders::Layout;
 use image_care::examine;
 use journal::layout::{MOST_BLOCKS, blocks_of_size};
 use recovery::OpenFault;
-use sector_disk::{HostFile, HostFiles, SectorDevice, SectorFile, open_disk};
+use sector_disk::SectorDevice;
 use sessions::streams::{flush, write_bytes};
 use std::alloc::{AllocError, Global};
 use std::io::Write;
-
-/// Prints what an image holds. Its file is opened for nothing but that, and is given back. Its failures: `CannotOpen`
-/// or `InUse` where the file can't be opened for reading, then those of `check_through`.
-pub fn check_image<H: HostFile, O: HostFiles<H>, W: Write, D>(
-    alloc: Global,
-    files: &O,
-    path: &str,
-    output: &mut W,
-) -> (Left<D, SectorFile<H>>, Result<(), Failure>)
-    ensures checked { OnOk result.1 (DoneOn ⟦<SectorFile<H> as SectorDevice>⟧ Left.Looked
-        (IsOpened H.HostFile (O.opens files.now path.now))
-        (ChecksImage ⟦<SectorFile<H> as SectorDevice>⟧ (W.contents output.old) (W.contents output.new)) result.0) }
-    ensures failed { IfErr result.1 (λ failure. FailsOn ⟦<SectorFile<H> as SectorDevice>⟧ Left.Looked
-        (IsOpened H.HostFile (O.opens files.now path.now)) (CheckFails ⟦<SectorFile<H> as SectorDevice>⟧
-        (W.contents output.old) (W.contents output.new)) failure result.0) }
-    // Nothing was printed, but where the image is damaged, a sector of it can't be read, or the output failed.
-    ensures unprinted { IfErr result.1 (λ e. e ≢ Failure.Damaged → e ≢ Failure.Device → e ≢ Failure.CannotWrite
-        → output.new ≡ output.old) }
-    // No session has begun that could stop.
-    ensures unstopped { IfErr result.1 (λ e. e ≢ Failure.Stopped) }
-{
-    match open_disk(files, path) {
-        Ok(mut disk) => {
-            let outcome = check_through(alloc, &mut disk, output);
-            (Left::Looked(disk), outcome)
-        }
-        Err(fault) => (Left::Nothing, Err(Failure::from(fault))),
-    }
-}
 
 /// Prints what the image on a device holds, as `check_over`; and where a call of the device failed, which of its
 /// sectors can't be read. Its failures are those of `check_over`; `NoMemory` and `CannotWrite` also where those sectors
@@ -74,9 +42,6 @@ pub fn check_through<D: SectorDevice, W: Write>(
     // Where nothing is told of the image, nothing was printed.
     ensures unprinted { IfErr result (λ e. e ≢ Failure.Damaged → e ≢ Failure.Device → e ≢ Failure.CannotWrite
         → output.new ≡ output.old) }
-    // Whatever the answer is, nothing was written or synced.
-    ensures only_read { OnlyRead D.SectorDevice device.old device.new }
-    ensures unstopped { IfErr result (λ e. e ≢ Failure.Stopped) }
 {
     match check_over(alloc, device, output) {
         Ok(()) => Ok(()),
@@ -134,7 +99,6 @@ pub fn check_over<D: SectorDevice, W: Write>(
         → StopsLeave D.SectorDevice device.old device.new (MayLeave (D.disk device.old)) }
     ensures begins { BeginsAtMost D.SectorDevice device.old device.new 0 0 }
     ensures only_read { OnlyRead D.SectorDevice device.old device.new }
-    ensures unstopped { IfErr result (λ e. e ≢ Failure.Stopped) }
 {
     let sectors = device.sectors();
     let layout = layout_by_size(sectors);

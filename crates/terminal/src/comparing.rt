@@ -1,73 +1,21 @@
 //! Two images are compared: what differs between their blocks is printed, and nothing of them is changed.
 //! Rule: MANUAL, forth83 diff OLD NEW.
-ghost use Rattle.std.specs.Prelude.{◌≡◌, ◌≢◌, ◌⊎◌, ◌≤◌, ◌*◌, ◌/◌, ◌++◌, length, max, nat_eq, None, Some, IsTrue, IfErr, IfOk, MatchResult, OnOk, option_map, string_bytes, vec_len};
-ghost use Rattle.std.specs.Cmp.Lexicographic.{pointwise};
+ghost use Rattle.std.specs.Prelude.{◌≡◌, ◌≢◌, ◌⊎◌, ◌≤◌, ◌*◌, ◌/◌, ◌++◌, length, max, None, Some, IsTrue, IfErr, IfOk, MatchResult, OnOk, option_map};
 ghost use Rattle.std.specs.Io.KnownBytes.{Appends};
 ghost use Rattle.sector_disk.specs.Counting.{count_up};
 ghost use Rattle.recovery.specs.Steps.{OnlyRead, WentWell};
-ghost use Rattle.terminal.specs.Compared.{Compares, DiffDone, OneFailed, Reads, bytes_on, change, changes, counts, differences, marked, refusal_of_either, refusal_on};
-ghost use Rattle.terminal.specs.Failed.{DiffFailed};
+ghost use Rattle.terminal.specs.Compared.{Compares, OneFailed, Reads, bytes_on, change, changes, counts, differences, marked, refusal_of_either, refusal_on};
 ghost use Rattle.terminal.specs.Failures.{of_image};
-ghost use Rattle.terminal.specs.Files.{IsOpened};
 
 use super::all_blocks::read_all;
 use super::checking::print;
 use super::exporting::without_blanks;
 use super::failure::Failure;
-use super::left::Left;
 use super::screen::{BLOCK, COLUMNS, LISTING, ROWS, add_line};
 use arrayvec::ArrayVec;
-use sector_disk::{HostFile, HostFiles, SectorDevice, SectorFile, open_disk};
+use sector_disk::SectorDevice;
 use std::alloc::{AllocError, Global};
 use std::io::Write;
-
-/// Prints what differs between the blocks of two images. Their files are opened for nothing but that, and are given
-/// back. Its failures: `CannotOpen` or `InUse` where a file can't be opened for reading, then those of `compare_over`.
-pub fn compare_images<H: HostFile, O: HostFiles<H>, W: Write, D>(
-    alloc: Global,
-    files: &O,
-    old: &str,
-    new: &str,
-    output: &mut W,
-) -> (Left<D, SectorFile<H>>, Result<(), Failure>)
-    ensures compared { OnOk result.1 (DiffDone ⟦<SectorFile<H> as SectorDevice>⟧
-        (IsOpened H.HostFile (O.opens files.now old.now)) (IsOpened H.HostFile (O.opens files.now new.now))
-        (W.contents output.old) (W.contents output.new) result.0) }
-    ensures failed { IfErr result.1 (λ failure. DiffFailed ⟦<SectorFile<H> as SectorDevice>⟧
-        (IsOpened H.HostFile (O.opens files.now old.now)) (IsOpened H.HostFile (O.opens files.now new.now)) failure result.0) }
-    ensures unprinted { IfErr result.1 (λ e. e ≢ Failure.CannotWrite → output.new ≡ output.old) }
-    ensures unstopped { IfErr result.1 (λ e. e ≢ Failure.Stopped) }
-{
-    match open_disk(files, old) {
-        Ok(before) => compare_opened(alloc, before, files, new, output),
-        Err(fault) => (Left::Nothing, Err(Failure::from(fault))),
-    }
-}
-
-/// Prints what differs from the blocks of an image on a device to those of another image.
-fn compare_opened<H: HostFile, O: HostFiles<H>, W: Write, D>(
-    alloc: Global,
-    mut before: SectorFile<H>,
-    files: &O,
-    new: &str,
-    output: &mut W,
-) -> (Left<D, SectorFile<H>>, Result<(), Failure>)
-    ensures compared { OnOk result.1 (DiffDone ⟦<SectorFile<H> as SectorDevice>⟧
-        (λ device. device ≡ before) (IsOpened H.HostFile (O.opens files.now new.now))
-        (W.contents output.old) (W.contents output.new) result.0) }
-    ensures failed { IfErr result.1 (λ failure. DiffFailed ⟦<SectorFile<H> as SectorDevice>⟧
-        (λ device. device ≡ before) (IsOpened H.HostFile (O.opens files.now new.now)) failure result.0) }
-    ensures unprinted { IfErr result.1 (λ e. e ≢ Failure.CannotWrite → output.new ≡ output.old) }
-    ensures unstopped { IfErr result.1 (λ e. e ≢ Failure.Stopped) }
-{
-    match open_disk(files, new) {
-        Ok(mut after) => {
-            let outcome = compare_over(alloc, &mut before, &mut after, output);
-            (Left::Compared(before, after), outcome)
-        }
-        Err(fault) => (Left::Looked(before), Err(Failure::from(fault))),
-    }
-}
 
 /// Prints what differs between the blocks of the images on two devices. Where one is refused nothing is printed. Its
 /// failures are those of an opening, of the old image and then of the new one; `Device` where a call of a device
@@ -97,7 +45,6 @@ pub fn compare_over<D: SectorDevice, W: Write>(
     ensures new_kept { OnlyRead D.SectorDevice new.old new.new }
     // Where nothing is told of the images, nothing was printed.
     ensures unprinted { IfErr result (λ e. e ≢ Failure.CannotWrite → output.new ≡ output.old) }
-    ensures unstopped { IfErr result (λ e. e ≢ Failure.Stopped) }
 {
     match read_all(alloc, old) {
         Ok(bytes) => compare_with(alloc, bytes, new, output),
@@ -124,7 +71,6 @@ fn compare_with<D: SectorDevice, W: Write>(
     ensures well { OnOk result (D.failures new.new ≡ D.failures new.old) }
     ensures only_read { OnlyRead D.SectorDevice new.old new.new }
     ensures unprinted { IfErr result (λ e. e ≢ Failure.CannotWrite → output.new ≡ output.old) }
-    ensures unstopped { IfErr result (λ e. e ≢ Failure.Stopped) }
 {
     match read_all(alloc, new) {
         Ok(bytes) => print_differences(alloc, old, bytes, output),

@@ -3,8 +3,7 @@ ghost use Rattle.std.specs.Prelude.{◌≡◌, ◌≢◌, ◌⊎◌, ◌<◌, �
 ghost use Rattle.std.specs.Prelude.{IsTrue, IfErr, IfOk, OnOk};
 ghost use Rattle.std.specs.Io.KnownBytes.{Appends};
 ghost use Rattle.sector_disk.specs.Counting.{count_up};
-ghost use Rattle.sector_disk.specs.Disk.{MayLeave};
-ghost use Rattle.journal.specs.Calls.{BeginsAtMost, Proceeds, StopsLeave};
+ghost use Rattle.recovery.specs.Steps.{OnlyRead};
 ghost use Rattle.shadow.specs.Label.{blocks_in, is_size};
 ghost use Rattle.image_care.specs.Standing.{standing_of};
 ghost use Rattle.terminal.specs.Damage.{damage_line, damage_report};
@@ -35,11 +34,7 @@ pub(super) fn tell_damage<D: SectorDevice, W: Write>(
     ensures refused { IfErr result (λ e. e ≢ Failure.Device → D.failures device.new ≡ D.failures device.old) }
     ensures well { OnOk result (D.failures device.new ≡ D.failures device.old) }
     ensures unprinted { IfErr result (λ e. e ≢ Failure.CannotWrite → output.new ≡ output.old) }
-    ensures same { IsTrue (D.keeps_model device.old) → D.disk device.new ≡ D.disk device.old }
-    ensures stops { IsTrue (D.keeps_model device.old)
-        → StopsLeave D.SectorDevice device.old device.new (MayLeave (D.disk device.old)) }
-    ensures passes { Proceeds D.SectorDevice device.old device.new }
-    ensures begins { BeginsAtMost D.SectorDevice device.old device.new 0 0 }
+    ensures only_read { OnlyRead D.SectorDevice device.old device.new }
 {
     match layout {
         Layout::Two => Ok(()),
@@ -60,11 +55,7 @@ fn print_damage<D: SectorDevice, W: Write>(
     ensures refused { IfErr result (λ e. e ≢ Failure.Device → D.failures device.new ≡ D.failures device.old) }
     ensures well { OnOk result (D.failures device.new ≡ D.failures device.old) }
     ensures unprinted { IfErr result (λ e. e ≢ Failure.CannotWrite → output.new ≡ output.old) }
-    ensures same { IsTrue (D.keeps_model device.old) → D.disk device.new ≡ D.disk device.old }
-    ensures stops { IsTrue (D.keeps_model device.old)
-        → StopsLeave D.SectorDevice device.old device.new (MayLeave (D.disk device.old)) }
-    ensures passes { Proceeds D.SectorDevice device.old device.new }
-    ensures begins { BeginsAtMost D.SectorDevice device.old device.new 0 0 }
+    ensures only_read { OnlyRead D.SectorDevice device.old device.new }
 {
     match damage_of(alloc, device) {
         Ok(text) => print(text.as_bytes(), output),
@@ -80,11 +71,7 @@ fn damage_of<D: SectorDevice>(alloc: Global, device: &mut D) -> Result<String, F
     ensures device { IfErr result (λ e. e ≡ Failure.Device → D.failures device.new ≡ count_up (D.failures device.old)) }
     ensures refused { IfErr result (λ e. e ≢ Failure.Device → D.failures device.new ≡ D.failures device.old) }
     ensures well { OnOk result (D.failures device.new ≡ D.failures device.old) }
-    ensures same { IsTrue (D.keeps_model device.old) → D.disk device.new ≡ D.disk device.old }
-    ensures stops { IsTrue (D.keeps_model device.old)
-        → StopsLeave D.SectorDevice device.old device.new (MayLeave (D.disk device.old)) }
-    ensures passes { Proceeds D.SectorDevice device.old device.new }
-    ensures begins { BeginsAtMost D.SectorDevice device.old device.new 0 0 }
+    ensures only_read { OnlyRead D.SectorDevice device.old device.new }
 {
     let mut text = String::new(alloc);
     let Some(blocks) = blocks_of_size(device.sectors()) else {
@@ -106,11 +93,7 @@ fn add_damage<D: SectorDevice>(device: &mut D, b: u16, text: &mut String) -> Res
     ensures device { IfErr result (λ e. e ≡ Failure.Device → D.failures device.new ≡ count_up (D.failures device.old)) }
     ensures refused { IfErr result (λ e. e ≢ Failure.Device → D.failures device.new ≡ D.failures device.old) }
     ensures well { OnOk result (D.failures device.new ≡ D.failures device.old) }
-    ensures same { IsTrue (D.keeps_model device.old) → D.disk device.new ≡ D.disk device.old }
-    ensures stops { IsTrue (D.keeps_model device.old)
-        → StopsLeave D.SectorDevice device.old device.new (MayLeave (D.disk device.old)) }
-    ensures passes { Proceeds D.SectorDevice device.old device.new }
-    ensures begins { BeginsAtMost D.SectorDevice device.old device.new 0 0 }
+    ensures only_read { OnlyRead D.SectorDevice device.old device.new }
 {
     match find_standing(device, b) {
         Ok(Some(standing)) => add_damage_line(text, b, standing).map_err(|_| Failure::NoMemory),

@@ -1,52 +1,22 @@
 //! A digest of each block of an image is printed, so that images are compared by what differs.
 //! Rule: MANUAL, forth83 check IMAGE.
-ghost use Rattle.std.specs.Prelude.{◌≡◌, ◌≢◌, ◌⊎◌, ◌++◌, length, None, Some, IsTrue, IfErr, IfOk, MatchResult, OnOk, option_map, string_bytes};
+ghost use Rattle.std.specs.Prelude.{◌≡◌, ◌≢◌, ◌⊎◌, ◌++◌, None, Some, IsTrue, IfErr, IfOk, MatchResult, OnOk, option_map, string_bytes};
 ghost use Rattle.std.specs.Io.KnownBytes.{Appends};
 ghost use Rattle.sha2.specs.Sha256.{sha256};
 ghost use Rattle.sector_disk.specs.Counting.{count_up};
 ghost use Rattle.recovery.specs.Steps.{OnlyRead};
 ghost use Rattle.stores.specs.Opened.{image_refusal};
 ghost use Rattle.terminal.specs.Compared.{TellsEach, digest_line, digest_report};
-ghost use Rattle.terminal.specs.Done.{DoneOn};
-ghost use Rattle.terminal.specs.Failed.{FailsOn, LookingFails};
 ghost use Rattle.terminal.specs.Failures.{of_image};
-ghost use Rattle.terminal.specs.Files.{IsOpened};
 
 use super::all_blocks::read_all;
 use super::checking::print;
 use super::failure::Failure;
-use super::left::Left;
 use super::screen::BLOCK;
-use sector_disk::{HostFile, HostFiles, SectorDevice, SectorFile, open_disk};
+use sector_disk::SectorDevice;
 use sha2::{Digest, Sha256};
 use std::alloc::{AllocError, Global};
 use std::io::Write;
-
-/// Prints a line for each block of an image: its number and the SHA-256 of its bytes. Its file is opened for nothing
-/// but that, and is given back. Its failures: `CannotOpen` or `InUse` where the file can't be opened for reading, then
-/// those of `digest_over`.
-pub fn digest_image<H: HostFile, O: HostFiles<H>, W: Write, D>(
-    alloc: Global,
-    files: &O,
-    path: &str,
-    output: &mut W,
-) -> (Left<D, SectorFile<H>>, Result<(), Failure>)
-    ensures told { OnOk result.1 (DoneOn ⟦<SectorFile<H> as SectorDevice>⟧ Left.Looked
-        (IsOpened H.HostFile (O.opens files.now path.now))
-        (TellsEach ⟦<SectorFile<H> as SectorDevice>⟧ (W.contents output.old) (W.contents output.new)) result.0) }
-    ensures failed { IfErr result.1 (λ failure. FailsOn ⟦<SectorFile<H> as SectorDevice>⟧ Left.Looked
-        (IsOpened H.HostFile (O.opens files.now path.now)) (LookingFails ⟦<SectorFile<H> as SectorDevice>⟧) failure result.0) }
-    ensures unprinted { IfErr result.1 (λ e. e ≢ Failure.CannotWrite → output.new ≡ output.old) }
-    ensures unstopped { IfErr result.1 (λ e. e ≢ Failure.Stopped) }
-{
-    match open_disk(files, path) {
-        Ok(mut disk) => {
-            let outcome = digest_over(alloc, &mut disk, output);
-            (Left::Looked(disk), outcome)
-        }
-        Err(fault) => (Left::Nothing, Err(Failure::from(fault))),
-    }
-}
 
 /// Prints a line for each block of the image on a device. Where it is refused nothing is printed. Its failures are
 /// those of an opening, the first that holds; `Device` where a call of the device failed, `NoMemory`, and `CannotWrite`
@@ -70,7 +40,6 @@ pub fn digest_over<D: SectorDevice, W: Write>(
     ensures unprinted { IfErr result (λ e. e ≢ Failure.CannotWrite → output.new ≡ output.old) }
     // Whatever the answer is, nothing was written or synced.
     ensures only_read { OnlyRead D.SectorDevice device.old device.new }
-    ensures unstopped { IfErr result (λ e. e ≢ Failure.Stopped) }
 {
     match read_all(alloc, device) {
         Ok(bytes) => print_digests(alloc, bytes.as_slice(), output),

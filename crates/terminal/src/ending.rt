@@ -1,11 +1,11 @@
 //! A session over an image that has ended, and what is told of it.
 //! Rule: MANUAL, forth83 run IMAGE [FILE ..]; PROGRAM, Exit status and messages.
-ghost use Rattle.std.specs.Prelude.{◌≡◌, ◌&&◌, true, Err, None, Some, IfErr, IfOk, MatchBool, MatchResult, OnOk, not};
+ghost use Rattle.std.specs.Prelude.{◌≡◌, ◌&&◌, ◌||◌, true, Err, IfErr, IfOk, MatchBool, MatchResult, OnOk, not};
 ghost use Rattle.std.specs.Io.KnownBytes.{Appends};
 ghost use Rattle.terminal.specs.Failures.{of_end};
 ghost use Rattle.terminal.specs.Scripts.{is_plain, unsaved_notice};
 
-use super::failure::Failure;
+use super::failure::{Failure, Outcome};
 use command_line::orders::Script;
 use sessions::{RunEnd, RunFault};
 use std::io::{self, Write};
@@ -26,9 +26,8 @@ pub fn conclude<E: Write>(
     session: Result<Ended, Failure>,
     script: &Script<'_>,
     errors: &mut E,
-) -> (Result<(), Failure>, io::Result<()>)
-    ensures ended { MatchResult session (λ ended. MatchResult result.0 (λ _. of_end ended.end ≡ None) (λ e. of_end ended.end ≡ Some e))
-        (λ failure. result.0 ≡ Err failure) }
+) -> (Result<Outcome, Failure>, io::Result<()>)
+    ensures ended { MatchResult session (λ ended. result.0 ≡ of_end ended.end) (λ failure. result.0 ≡ Err failure) }
     // What is told is what `tell_unsaved` tells, where the session has ended, and nothing where none began.
     ensures told { IfOk session (λ ended. MatchBool (ended.is_unsaved && not (is_plain script.now))
         (OnOk result.1 (Appends (E.contents errors.old) (E.contents errors.new) unsaved_notice)) (errors.new ≡ errors.old)) }
@@ -62,22 +61,34 @@ pub fn tell_unsaved<E: Write>(
     }
 }
 
+/// Whether lines that failed are told, and the blocks that are undone: a trace is asked for, or that lines are
+/// undone.
+pub(super) fn is_told(script: &Script<'_>) -> bool
+    ensures { result ≡ (script.now.is_traced || script.now.undoes) }
+{
+    script.is_traced || script.undoes
+}
+
 /// Whether nothing is asked for but a session of the input: no file is named, no block is loaded, and it is neither
-/// strict nor traced.
+/// strict nor traced, and undoes nothing.
 fn is_plain(script: &Script<'_>) -> bool
     ensures { result ≡ is_plain script.now }
 {
-    !script.is_traced && !script.is_strict && script.load.is_none() && script.files.is_empty()
+    !script.is_traced
+        && !script.is_strict
+        && !script.undoes
+        && script.load.is_none()
+        && script.files.is_empty()
 }
 
-/// What an end is told as: `Stopped` where it is a fault, `CannotRead` or `CannotWrite` where the input or the output
-/// failed.
-fn outcome(end: Result<RunEnd, RunFault>) -> Result<(), Failure>
-    ensures { MatchResult result (λ _. of_end end ≡ None) (λ e. of_end end ≡ Some e) }
+/// What an end is told as: `Stopped` where it is a line that failed, `CannotRead` or `CannotWrite` where the input or
+/// the output failed.
+fn outcome(end: Result<RunEnd, RunFault>) -> Result<Outcome, Failure>
+    ensures { result ≡ of_end end }
 {
     match end {
-        Ok(RunEnd::Input) => Ok(()),
-        Ok(RunEnd::Fault) => Err(Failure::Stopped),
+        Ok(RunEnd::Input) => Ok(Outcome::Done),
+        Ok(RunEnd::Failure) => Ok(Outcome::Stopped),
         Err(fault) => Err(Failure::from(fault)),
     }
 }

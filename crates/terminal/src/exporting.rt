@@ -1,12 +1,10 @@
 //! Many blocks at once, printed.
 //! Rule: MANUAL, forth83 export IMAGE FIRST LAST [--raw].
-ghost use Rattle.std.specs.Prelude.{◌≡◌, ◌≢◌, ◌⊎◌, ◌<◌, ◌≤◌, ◌-◌, ◌+◌, ◌*◌, ◌++◌, ◌∷◌, ◌↔◌, [], length, map, take, true, OnOk, IfErr, IsErrOf};
+ghost use Rattle.std.specs.Prelude.{◌≡◌, ◌≢◌, ◌⊎◌, ◌<◌, ◌≤◌, ◌-◌, ◌+◌, ◌*◌, ◌++◌, ◌∷◌, ◌↔◌, [], length, true, OnOk, IfErr, IsErrOf};
 ghost use Rattle.std.specs.Io.KnownBytes.{Appends};
-ghost use Rattle.arrayvec.specs.ArrayVec.{array_vec_len};
 ghost use Rattle.data_space.specs.Blanks.{trimmed};
 ghost use Rattle.journal.specs.Maps.{Maps, contents};
 ghost use Rattle.journal.specs.Store.{StandsFor, DeviceFailed, DeviceWentWell, blocks_of, closed_of};
-ghost use Rattle.terminal.specs.Screen.{shown};
 ghost use Rattle.terminal.specs.Transfer.{ReadsStore, exported, exported_text, exports, unpadded};
 
 use super::failure::Failure;
@@ -38,7 +36,6 @@ pub fn export_blocks<D: SectorDevice, W: Write>(
     ensures unwritten { IsErrOf result Failure.NoBlock → output.new ≡ output.old }
     ensures unprinted { IfErr result (λ e. e ≢ Failure.Device → e ≢ Failure.CannotWrite → output.new ≡ output.old) }
     ensures store { ReadsStore store.old store.new (2 * (last + 1 - first)) }
-    ensures unstopped { IfErr result (λ e. e ≢ Failure.Stopped) }
 {
     if last < first {
         return Err(Failure::NoBlock);

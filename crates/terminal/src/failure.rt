@@ -1,4 +1,4 @@
-//! Why the program didn't do what it was asked.
+//! How a command ended: it did what it was asked, or a session of it stopped; or why it failed.
 ghost use Rattle.std.specs.Prelude.{◌≡◌, ◌≤◌};
 ghost use Rattle.terminal.specs.Failures.{status_of, of_image, of_upgrade, of_file, of_store, of_run};
 
@@ -7,6 +7,15 @@ use recovery::{OpenFault, UpgradeFault};
 use sector_disk::FileFault;
 use sessions::RunFault;
 use thiserror::Error;
+
+/// How a command ended that didn't fail.
+#[derive(Clone, Copy, Debug, PartialEq, Eq)]
+pub enum Outcome {
+    /// It did what it was asked.
+    Done,
+    /// A line of its session failed that ends it: any line of a strict one, or the one that loads its block.
+    Stopped,
+}
 
 /// Why the program didn't do what it was asked. Its text is what the user reads.
 /// Rule: MANUAL, Messages and statuses; PROGRAM, Exit status and messages.
@@ -40,17 +49,13 @@ pub enum Failure {
     CannotWrite,
     #[error("no memory")]
     NoMemory,
-    #[error("input: a fault ended a line")]
-    Stopped,
 }
 
 impl Failure {
-    /// The exit status: 3 where it lies with the image, 4 with input or output, 5 with memory, 1 where a strict session
-    /// stopped.
+    /// The exit status: 3 where it lies with the image, 4 with input or output, 5 with memory.
     pub fn status(self) -> u8
         ensures status { result ≡ status_of self }
-        ensures fails { 1 ≤ result }
-        ensures stopped { result ≡ 1 → self ≡ Failure.Stopped }
+        ensures fails { 3 ≤ result }
     {
         match self {
             Failure::BadSize
@@ -65,7 +70,6 @@ impl Failure {
             | Failure::NoBlock => 3,
             Failure::CannotRead | Failure::NotAScreen | Failure::CannotWrite => 4,
             Failure::NoMemory => 5,
-            Failure::Stopped => 1,
         }
     }
 }

@@ -1,100 +1,203 @@
-//! The commands over images that are files of a system: each gives back what it has opened or made.
+//! The commands over images by their names, a function for each shape of one: it opens the images and makes the new
+//! ones, has done on their devices what is asked, and gives back what it has opened or made.
 //! Rule: MANUAL, Commands.
-ghost use Rattle.std.specs.Prelude.{◌≡◌, ◌≢◌, ◌⊎◌, ℕ, ◌<◌, ◌≤◌, ◌+◌, ◌*◌, ◌↔◌, true, ⊤, Err, IsOk, OnOk, IfOk, IfErr, IfSome, MatchBool, MatchOption, IsErrOf};
-ghost use Rattle.journal.specs.Layout.{sectors_for};
-ghost use Rattle.journal.specs.PageLayout as newer_layout;
-ghost use Rattle.journal.specs.Store.{Continues, DeviceBegins, DeviceFailed, DeviceReads, blocks_of, closed_of, device_of, pending_count};
-ghost use Rattle.shadow.specs.Label.{is_known_size};
-ghost use Rattle.terminal.specs.Done.{DoneOn, EachLeft, ImportsBlocks, LooksAt, MakesBlank, PutsBlock, Upgrades};
-ghost use Rattle.recovery.specs.Steps.{WentWell};
-ghost use Rattle.terminal.specs.Failed.{FailsAfter, FailsOn, ImportFails, IsOfTexts, IsUnmade, LooksInVain, NewFailed, PutFails, UpgradeFailed, UpgradeFails};
-ghost use Rattle.terminal.specs.Files.{IsMade, IsOpened, IsUnfinished};
-ghost use Rattle.terminal.specs.Layout3.{MakesNewer, UpgradeDone};
-ghost use Rattle.terminal.specs.Putting.{LeavesSome, PutsSome};
-ghost use Rattle.terminal.specs.Texts.{AreTexts, IsTextOf, IsUnread, OneIsUnread};
+ghost use Rattle.std.specs.Prelude.{◌≡◌, ◌≢◌, ◌≤◌, ⊤, None, OnOk, IfOk, IfErr, IfSome, MatchOption, is_some};
+ghost use Rattle.terminal.specs.Care.{PrintDone, Shows};
+ghost use Rattle.terminal.specs.Copying.{MadeOf};
+ghost use Rattle.terminal.specs.Done.{DoneOn, EachLeft, IsGiven};
+ghost use Rattle.terminal.specs.Failed.{DiffFailed, FailsOn, IsUntouched, NewFailed, NotShown, NotTold, PrintFailed, PrintsNone, TellsNone, UpgradeFailsBy};
+ghost use Rattle.terminal.specs.Layout3.{MakesBlankBy, UpgradesBy, sectors_by, sectors_for_upgrade};
+ghost use Rattle.terminal.specs.Shapes.{DiffDone, FailsBy, MakeDone, MakeFailed, MakesBy, MakesSome, NotWritten, Tells, UpgradeDone, UpgradeFailed, Writes, opened_for, sectors_for};
+ghost use Rattle.terminal.specs.Unopened.{IsUnopened};
 
+use super::comparing::compare_over;
+use super::copying::sectors_for_copy;
+use super::deeds::{Looking, Making, Printing, Writing};
 use super::failure::Failure;
-use super::images::{make_newer_over, make_over, put_text};
-use super::importing::read_blocks;
 use super::left::Left;
-use super::over_devices::{import_over, put_over};
-use super::texts::{TextFiles, open_text};
-use command_line::orders::{Form, Layout};
+use super::over_devices::{make_by, make_of, print_over, show, tell, upgrade_by, write_over};
+use super::salvaging::sectors_for_salvage;
+use super::world::World;
+use command_line::orders::Layout;
 use journal::layout::{MOST_BLOCKS_1, blocks_of_size};
-use journal::sizes::known_blocks;
-use recovery::upgrade;
-use sector_disk::{HostFile, HostFiles, SectorDevice, SectorFile, create_disk, open_disk};
-use std::alloc::Global;
-use std::io::{Read, Write};
-use stores::Store;
+use journal::sizes::{self, known_blocks, sectors_of};
+use sector_disk::SectorDevice;
+use std::io::Write;
 
-/// Makes a file that is an image of blank blocks, 32 to 3,840, of layout 2. Its failures: `Exists` where something has
-/// that name already, which stays as it is, `CannotOpen` or `InUse` where the file can't be made or finished, then
-/// those of `make_over`. A file that was begun stays at each of these.
-/// Rule: MANUAL, forth83 new IMAGE --blocks N [--layout L].
-pub fn make_image<H: HostFile, O: HostFiles<H>, E>(
-    files: &O,
+/// Writes to an image: `put`, `import`. Its failures: `CannotOpen` or `InUse` where it can't be opened for reading and
+/// writing, then those of `write_over`.
+/// Rule: MANUAL, forth83 put IMAGE BLOCK FILE; MANUAL, forth83 import IMAGE FIRST FILE .. [--raw] [--check].
+pub fn write_image<X: World, E: Write>(
+    world: &X,
     path: &str,
-    blocks: u16,
-) -> (Left<SectorFile<H>, E>, Result<(), Failure>)
-    requires many { 32 ≤ blocks }
-    requires few { blocks ≤ 3840 }
-    // Ok only where the file was made under this name, and became an image of blank blocks.
-    ensures made { OnOk result.1 (DoneOn ⟦<SectorFile<H> as SectorDevice>⟧ Left.Made
-        (IsMade H.HostFile (O.makes files.now path.now) (sectors_for blocks))
-        (MakesBlank ⟦<SectorFile<H> as SectorDevice>⟧ blocks) result.0) }
-    // No call of what is given back failed.
-    ensures well { OnOk result.1 (EachLeft (λ device. ⟦<SectorFile<H> as SectorDevice>⟧.failures device ≡ 0) (λ _. ⊤) result.0) }
-    ensures failed { IfErr result.1 (λ failure. NewFailed ⟦<SectorFile<H> as SectorDevice>⟧
-        (IsMade H.HostFile (O.makes files.now path.now)) (IsUnfinished H.HostFile (O.makes files.now path.now))
-        blocks Layout.Two failure result.0) }
-    // No session has begun that could stop.
-    ensures unstopped { IfErr result.1 (λ e. e ≢ Failure.Stopped) }
+    deed: Writing<'_>,
+    errors: &mut E,
+) -> (Left<X::Disk, X::Look>, Result<(), Failure>)
+    ensures done { OnOk result.1 (DoneOn X.Disk.SectorDevice Left.Opened ((X.gives world.now).opened path.now)
+        (Writes X.Disk.SectorDevice (X.gives world.now).is_text deed.entry) result.0) }
+    ensures failed { IfErr result.1 (λ failure. FailsOn X.Disk.SectorDevice Left.Opened ((X.gives world.now).opened path.now)
+        (NotWritten X.Disk.SectorDevice (X.gives world.now).is_text (X.gives world.now).is_unread deed.entry) failure result.0) }
 {
-    match create_disk(files, path, 3 + 4 * blocks as u32) {
-        Ok(disk) => made(make_over(disk, blocks)),
-        Err((fault, unfinished)) => (begun(unfinished), Err(Failure::from(fault))),
+    match world.open(path) {
+        Ok(disk) => {
+            let (disk, outcome) = write_over(world, disk, deed, errors);
+            (Left::Opened(disk), outcome)
+        }
+        Err(failure) => (Left::Nothing, Err(failure)),
     }
 }
 
-/// Makes a file that is an image of blank blocks, 32 to 3,840, of layout 3. Its failures: `Exists` where something has
-/// that name already, which stays as it is, `CannotOpen` or `InUse` where the file can't be made or finished, then
-/// those of `make_newer_over`. A file that was begun stays at each of these.
+/// Prints blocks of an image, `list` and `export`: after its recovery where it can be opened for writing, and by reads
+/// alone where it can't, or is in use. Its failures: `InUse` or `CannotOpen` where it can't be opened for reading
+/// either, then those of `print_over` or `show`.
+/// Rule: MANUAL, forth83 list IMAGE BLOCK; MANUAL, forth83 export IMAGE FIRST LAST [--raw].
+pub fn print_image<X: World, W: Write>(
+    world: &X,
+    path: &str,
+    asked: Printing,
+    output: &mut W,
+) -> (Left<X::Disk, X::Look>, Result<(), Failure>)
+    ensures done { OnOk result.1 (PrintDone X.Disk.SectorDevice X.Look.SectorDevice
+        ((X.gives world.now).opened path.now) ((X.gives world.now).looked path.now) asked
+        (W.contents output.old) (W.contents output.new) result.0) }
+    ensures failed { IfErr result.1 (λ failure. PrintFailed X.Disk.SectorDevice X.Look.SectorDevice
+        ((X.gives world.now).opened path.now) ((X.gives world.now).looked path.now) asked failure result.0) }
+    ensures unprinted { IfErr result.1 (λ e. PrintsNone asked e → output.new ≡ output.old) }
+{
+    match world.open(path) {
+        Ok(disk) => {
+            let (disk, outcome) = print_over(disk, asked, output);
+            (Left::Opened(disk), outcome)
+        }
+        Err(_) => show_image(world, path, asked, output),
+    }
+}
+
+/// Prints blocks of an image by reads alone. Its failures: `InUse` or `CannotOpen` where it can't be opened for
+/// reading, then those of `show`.
+fn show_image<X: World, W: Write>(
+    world: &X,
+    path: &str,
+    asked: Printing,
+    output: &mut W,
+) -> (Left<X::Disk, X::Look>, Result<(), Failure>)
+    ensures done { OnOk result.1 (DoneOn X.Look.SectorDevice Left.Looked ((X.gives world.now).looked path.now)
+        (Shows X.Look.SectorDevice asked (W.contents output.old) (W.contents output.new)) result.0) }
+    ensures failed { IfErr result.1 (λ failure. FailsOn X.Look.SectorDevice Left.Looked ((X.gives world.now).looked path.now)
+        (NotShown X.Look.SectorDevice asked) failure result.0) }
+    ensures unprinted { IfErr result.1 (λ e. PrintsNone asked e → output.new ≡ output.old) }
+{
+    match world.look(path) {
+        Ok(mut disk) => {
+            let outcome = show(&mut disk, asked, output);
+            (Left::Looked(disk), outcome)
+        }
+        Err(failure) => (Left::Nothing, Err(failure)),
+    }
+}
+
+/// Tells of an image, `check`: it is opened for nothing but that. Its failures: `CannotOpen` or `InUse` where it can't
+/// be opened for reading, then those of `tell`.
+/// Rule: MANUAL, forth83 check IMAGE.
+pub fn tell_image<X: World, W: Write>(
+    world: &X,
+    path: &str,
+    asked: Looking,
+    output: &mut W,
+) -> (Left<X::Disk, X::Look>, Result<(), Failure>)
+    ensures done { OnOk result.1 (DoneOn X.Look.SectorDevice Left.Looked ((X.gives world.now).looked path.now)
+        (Tells X.Look.SectorDevice asked (W.contents output.old) (W.contents output.new)) result.0) }
+    ensures failed { IfErr result.1 (λ failure. FailsOn X.Look.SectorDevice Left.Looked ((X.gives world.now).looked path.now)
+        (NotTold X.Look.SectorDevice asked (W.contents output.old) (W.contents output.new)) failure result.0) }
+    ensures unprinted { IfErr result.1 (λ e. TellsNone asked e → output.new ≡ output.old) }
+{
+    match world.look(path) {
+        Ok(mut disk) => {
+            let outcome = tell(world.alloc(), &mut disk, asked, output);
+            (Left::Looked(disk), outcome)
+        }
+        Err(failure) => (Left::Nothing, Err(failure)),
+    }
+}
+
+/// Prints what differs between the blocks of two images, `diff`: they are opened for nothing but that. Its failures:
+/// `CannotOpen` or `InUse` where one can't be opened for reading, then those of `compare_over`.
+/// Rule: MANUAL, forth83 diff OLD NEW.
+pub fn compare_images<X: World, W: Write>(
+    world: &X,
+    old: &str,
+    new: &str,
+    output: &mut W,
+) -> (Left<X::Disk, X::Look>, Result<(), Failure>)
+    ensures done { OnOk result.1 (DiffDone X.Look.SectorDevice ((X.gives world.now).looked old.now) ((X.gives world.now).looked new.now)
+        (W.contents output.old) (W.contents output.new) result.0) }
+    ensures failed { IfErr result.1 (λ failure. DiffFailed X.Look.SectorDevice
+        ((X.gives world.now).looked old.now) ((X.gives world.now).looked new.now) failure result.0) }
+    ensures unprinted { IfErr result.1 (λ e. e ≢ Failure.CannotWrite → output.new ≡ output.old) }
+{
+    match world.look(old) {
+        Ok(before) => compare_opened(world, before, new, output),
+        Err(failure) => (Left::Nothing, Err(failure)),
+    }
+}
+
+/// Prints what differs from the blocks of an image on a device to those of another image.
+fn compare_opened<X: World, W: Write>(
+    world: &X,
+    mut before: X::Look,
+    new: &str,
+    output: &mut W,
+) -> (Left<X::Disk, X::Look>, Result<(), Failure>)
+    ensures done { OnOk result.1 (DiffDone X.Look.SectorDevice (λ device. device ≡ before) ((X.gives world.now).looked new.now)
+        (W.contents output.old) (W.contents output.new) result.0) }
+    ensures failed { IfErr result.1 (λ failure. DiffFailed X.Look.SectorDevice
+        (λ device. device ≡ before) ((X.gives world.now).looked new.now) failure result.0) }
+    ensures unprinted { IfErr result.1 (λ e. e ≢ Failure.CannotWrite → output.new ≡ output.old) }
+{
+    match world.look(new) {
+        Ok(mut after) => {
+            let outcome = compare_over(world.alloc(), &mut before, &mut after, output);
+            (Left::Compared(before, after), outcome)
+        }
+        Err(failure) => (Left::Looked(before), Err(failure)),
+    }
+}
+
+/// Makes an image of blank blocks, 32 to 3,840, by a layout: `new`. Its failures: `Exists` where something has that
+/// name already, which stays as it is, `CannotOpen` or `InUse` where the file can't be made or finished, then those of
+/// `make_by`. What was made has no name yet, also where it failed.
 /// Rule: MANUAL, forth83 new IMAGE --blocks N [--layout L].
-pub fn make_newer_image<H: HostFile, O: HostFiles<H>, E>(
-    files: &O,
+pub fn new_image<X: World>(
+    world: &X,
     path: &str,
     blocks: u16,
-) -> (Left<SectorFile<H>, E>, Result<(), Failure>)
-    // Ok only where the file was made under this name, and became an image of blank blocks.
-    ensures made { OnOk result.1 (DoneOn ⟦<SectorFile<H> as SectorDevice>⟧ Left.Made
-        (IsMade H.HostFile (O.makes files.now path.now) (newer_layout.sectors_for blocks))
-        (MakesNewer ⟦<SectorFile<H> as SectorDevice>⟧ blocks) result.0) }
+    layout: Layout,
+) -> (Left<X::Disk, X::Look>, Result<(), Failure>)
+    requires many { 32 ≤ blocks }
+    requires few { blocks ≤ 3840 }
+    ensures done { OnOk result.1 (DoneOn X.Disk.SectorDevice Left.Made ((X.gives world.now).made path.now (sectors_by layout blocks))
+        (MakesBlankBy X.Disk.SectorDevice layout blocks) result.0) }
+    ensures failed { IfErr result.1 (λ failure. NewFailed X.Disk.SectorDevice
+        ((X.gives world.now).made path.now) ((X.gives world.now).begun path.now) blocks layout failure result.0) }
     // No call of what is given back failed.
-    ensures well { OnOk result.1 (EachLeft (λ device. ⟦<SectorFile<H> as SectorDevice>⟧.failures device ≡ 0) (λ _. ⊤) result.0) }
-    ensures failed { 32 ≤ blocks → blocks ≤ 3840 → IfErr result.1 (λ failure. NewFailed ⟦<SectorFile<H> as SectorDevice>⟧
-        (IsMade H.HostFile (O.makes files.now path.now)) (IsUnfinished H.HostFile (O.makes files.now path.now))
-        blocks Layout.Three failure result.0) }
-    ensures unstopped { IfErr result.1 (λ e. e ≢ Failure.Stopped) }
+    ensures well { OnOk result.1 (EachLeft (λ device. X.Disk.failures device ≡ 0) (λ _. ⊤) result.0) }
 {
-    match make_newer_file(files, path, blocks) {
-        Ok(disk) => made(make_newer_over(disk, blocks)),
+    match world.make(path, sectors_by(layout, blocks)) {
+        Ok(disk) => {
+            let (disk, outcome) = make_by(disk, blocks, layout);
+            (Left::Made(disk), outcome)
+        }
         Err((failure, unfinished)) => (begun(unfinished), Err(failure)),
     }
 }
 
-/// The device of an image that was to be made, and how that ended.
-fn made<D: SectorDevice, E>(
-    outcome: Result<Store<D>, (Failure, D)>,
-) -> (Left<D, E>, Result<(), Failure>)
-    ensures made { IfOk outcome (λ store. result.0 ≡ Left.Made (device_of store)) }
-    ensures well { OnOk outcome (IsOk result.1) }
-    ensures unmade { IfErr outcome (λ e. result.0 ≡ Left.Made e.1) }
-    ensures failed { IfErr outcome (λ e. result.1 ≡ Err e.0) }
+/// How many sectors an image of so many blocks has, by a layout.
+fn sectors_by(layout: Layout, blocks: u16) -> u32
+    ensures { result ≡ sectors_by layout blocks }
 {
-    match outcome {
-        Ok(store) => (Left::Made(store.into_device()), Ok(())),
-        Err((failure, device)) => (Left::Made(device), Err(failure)),
+    match layout {
+        Layout::Two => sectors_of(sizes::Layout::Journal, blocks),
+        Layout::Three => sectors_of(sizes::Layout::Pages, blocks),
     }
 }
 
@@ -108,264 +211,186 @@ fn begun<D, E>(unfinished: Option<D>) -> Left<D, E>
     }
 }
 
-/// The devices of an image that was to be upgraded and of the file that was made and not finished, if it was.
-pub(super) fn begun_beside<D, E>(source: D, unfinished: Option<D>) -> Left<D, E>
-    ensures { MatchOption unfinished (result ≡ Left.Opened source) (λ device. result ≡ Left.Upgraded source device) }
+/// Makes an image of another one, by the same layout, in a new file, and gives both files: `copy` and `salvage`, of
+/// `asked` blocks, or of as many as the old one has. Nothing is made where the old one has the size of no image, or
+/// where that number doesn't do (`BadSize`), or where it can't be opened for reading (`CannotOpen`, `InUse`); and
+/// whatever has the new name already stays as it is (`Exists`). `CannotOpen` or `InUse` come also where the new file
+/// can't be made or finished, with no call of the old one. Its other failures are those of `make_of`. The new file
+/// has no name yet, also where it failed.
+/// Rule: MANUAL, forth83 copy OLD NEW [--blocks N]; MANUAL, forth83 salvage OLD NEW [--blocks N].
+pub fn make_image<X: World, W: Write>(
+    world: &X,
+    old: &str,
+    new: &str,
+    by: Making,
+    asked: Option<u16>,
+    output: &mut W,
+) -> (Left<X::Disk, X::Look>, Result<(), Failure>)
+    ensures done { OnOk result.1 (MakeDone X.Look.SectorDevice X.Disk.SectorDevice (opened_for (X.gives world.now) by old.now)
+        ((X.gives world.now).made new.now) by asked (W.contents output.old) (W.contents output.new) result.0) }
+    ensures failed { IfErr result.1 (λ failure. MakeFailed X.Look.SectorDevice X.Disk.SectorDevice (opened_for (X.gives world.now) by old.now)
+        ((X.gives world.now).made new.now) ((X.gives world.now).begun new.now) by asked failure result.0) }
+    // No call of the new one failed, nor of one that is copied. How many reads of one that is salvaged failed is told above.
+    ensures well { OnOk result.1 (EachLeft (λ device. X.Disk.failures device ≡ 0)
+        (λ device. by ≡ Making.Copy → X.Look.failures device ≡ 0) result.0) }
+    ensures unprinted { IfErr result.1 (λ e. e ≢ Failure.CannotWrite → output.new ≡ output.old) }
+    ensures silent { by ≡ Making.Copy → output.new ≡ output.old }
 {
-    match unfinished {
-        Some(device) => Left::Upgraded(source, device),
+    match open_for(world, old, by) {
+        Ok(mut source) => {
+            let (target, outcome) = make_into(world, &mut source, new, by, asked, output);
+            (copied(source, target), outcome)
+        }
+        Err(failure) => (Left::Nothing, Err(failure)),
+    }
+}
+
+/// Opens an image that another one is made of.
+fn open_for<X: World>(world: &X, old: &str, by: Making) -> Result<X::Look, Failure>
+    ensures opened { IfOk result (opened_for (X.gives world.now) by old.now) }
+    ensures well { IfOk result (λ disk. X.Look.failures disk ≡ 0) }
+    ensures unopened { IfErr result IsUnopened }
+{
+    match by {
+        Making::Copy => world.look(old),
+        Making::Salvage => world.hold(old),
+    }
+}
+
+/// The devices of an image that was read and of the one that was made of it, if one was.
+fn copied<A, B>(source: A, target: Option<B>) -> Left<B, A>
+    ensures { MatchOption target (result ≡ Left.Looked source) (λ made. result ≡ Left.Copied source made) }
+{
+    match target {
+        Some(target) => Left::Copied(source, target),
+        None => Left::Looked(source),
+    }
+}
+
+/// Makes an image of the one on a device, in a new file, and gives that one, if it was made.
+fn make_into<X: World, W: Write>(
+    world: &X,
+    source: &mut X::Look,
+    new: &str,
+    by: Making,
+    asked: Option<u16>,
+    output: &mut W,
+) -> (Option<X::Disk>, Result<(), Failure>)
+    ensures made { OnOk result.1 (IsGiven result.0 (MadeOf X.Look.SectorDevice X.Disk.SectorDevice ((X.gives world.now).made new.now)
+        (sectors_for by (X.Look.sector_count source.old) asked)
+        (MakesBy X.Look.SectorDevice X.Disk.SectorDevice by (W.contents output.old) (W.contents output.new)) source.old source.new)) }
+    // Where it failed, an image may be made in part, or its file, or no call of the old one was made.
+    ensures failed { IfErr result.1 (λ failure. IfSome result.0 (MakesSome X.Look.SectorDevice X.Disk.SectorDevice
+        ((X.gives world.now).made new.now) ((X.gives world.now).begun new.now) (sectors_for by (X.Look.sector_count source.old) asked)
+        (FailsBy X.Look.SectorDevice X.Disk.SectorDevice by failure) failure source.old source.new)) }
+    ensures unmade { IfErr result.1 (λ failure. result.0 ≡ None
+        → IsUntouched (λ device. is_some (sectors_for by (X.Look.sector_count device) asked)) failure source.old source.new) }
+    ensures new_well { OnOk result.1 (IfSome result.0 (λ target. X.Disk.failures target ≡ 0)) }
+    ensures old_well { by ≡ Making.Copy → OnOk result.1 (X.Look.failures source.new ≡ X.Look.failures source.old) }
+    ensures unprinted { IfErr result.1 (λ e. e ≢ Failure.CannotWrite → output.new ≡ output.old) }
+    ensures silent { by ≡ Making.Copy → output.new ≡ output.old }
+{
+    let Some(sectors) = sectors_for(by, source.sectors(), asked) else {
+        return (None, Err(Failure::BadSize));
+    };
+    match world.make(new, sectors) {
+        Ok(mut target) => {
+            let outcome = make_of(world.alloc(), source, &mut target, by, output);
+            (Some(target), outcome)
+        }
+        Err((failure, unfinished)) => (unfinished, Err(failure)),
+    }
+}
+
+/// How many sectors the image has that is made of one on so many, where so many blocks are asked for.
+fn sectors_for(by: Making, sectors: u32, asked: Option<u16>) -> Option<u32>
+    ensures { result ≡ sectors_for by sectors asked }
+{
+    match by {
+        Making::Copy => sectors_for_copy(sectors, asked),
+        Making::Salvage => sectors_for_salvage(sectors, asked),
+    }
+}
+
+/// Makes an image of a layout, in a new file, of the blocks of an older one, and gives both files: `upgrade`. Nothing
+/// is made where the old one has the size of no older image (`BadSize`) or can't be opened (`CannotOpen`, `InUse`), and
+/// whatever has the new name already stays as it is (`Exists`). `CannotOpen` or `InUse` come also where the new file
+/// can't be made or finished, with no call of the old one. Then its failures are those of `upgrade_by`. The new file
+/// has no name yet, also where it failed.
+/// Rule: MANUAL, forth83 upgrade OLD NEW [--layout L]; IMAGE, Layout 1, and an upgrade; IMAGE, Layout 3, An upgrade.
+pub fn upgrade_image<X: World>(
+    world: &X,
+    old: &str,
+    new: &str,
+    layout: Layout,
+) -> (Left<X::Disk, X::Look>, Result<(), Failure>)
+    ensures done { OnOk result.1 (UpgradeDone X.Disk.SectorDevice ((X.gives world.now).opened old.now)
+        ((X.gives world.now).made new.now) layout result.0) }
+    ensures failed { IfErr result.1 (λ failure. UpgradeFailed X.Disk.SectorDevice ((X.gives world.now).opened old.now)
+        ((X.gives world.now).made new.now) ((X.gives world.now).begun new.now) layout failure result.0) }
+    // No call of what is given back failed.
+    ensures well { OnOk result.1 (EachLeft (λ device. X.Disk.failures device ≡ 0) (λ _. ⊤) result.0) }
+{
+    match world.open(old) {
+        Ok(mut source) => {
+            let (target, outcome) = upgrade_into(world, &mut source, new, layout);
+            (upgraded(source, target), outcome)
+        }
+        Err(failure) => (Left::Nothing, Err(failure)),
+    }
+}
+
+/// The devices of an image that was to be upgraded and of the one that was made of it, if one was.
+fn upgraded<D, E>(source: D, target: Option<D>) -> Left<D, E>
+    ensures { MatchOption target (result ≡ Left.Opened source) (λ made. result ≡ Left.Upgraded source made) }
+{
+    match target {
+        Some(target) => Left::Upgraded(source, target),
         None => Left::Opened(source),
     }
 }
 
-/// Makes a file of the size of an image of layout 3 of so many blocks. Where it was made and not finished, it is handed
-/// back.
-pub(super) fn make_newer_file<H: HostFile, O: HostFiles<H>>(
-    files: &O,
-    path: &str,
-    blocks: u16,
-) -> Result<SectorFile<H>, (Failure, Option<SectorFile<H>>)>
-    ensures made { IfOk result (λ disk. IsMade H.HostFile (O.makes files.now path.now) (newer_layout.sectors_for blocks) disk) }
-    ensures well { IfOk result (λ disk. ⟦<SectorFile<H> as SectorDevice>⟧.failures disk ≡ 0) }
-    ensures unmade { IfErr result (λ e. IsUnmade e.0) }
-    ensures unfinished { IfErr result (λ e. IfSome e.1 (IsUnfinished H.HostFile (O.makes files.now path.now))) }
-    ensures refused { IfErr result (λ e. IfSome e.1 (λ _. e.0 ≡ Failure.CannotOpen)) }
-{
-    match create_disk(files, path, 32 + 16 * blocks as u32) {
-        Ok(disk) => Ok(disk),
-        Err((fault, unfinished)) => Err((Failure::from(fault), unfinished)),
-    }
-}
-
-/// The device of an image that was opened for writing too, and how its command ended.
-pub(super) fn opened<D, E, T>(ended: (D, Result<T, Failure>)) -> (Left<D, E>, Result<T, Failure>)
-    ensures left { result.0 ≡ Left.Opened ended.0 }
-    ensures outcome { result.1 ≡ ended.1 }
-{
-    let (device, outcome) = ended;
-    (Left::Opened(device), outcome)
-}
-
-/// Makes the lines of a text file a block of an image, in one save. Its failures: `CannotOpen` or `InUse` where the
-/// file can't be opened for reading and writing, then those of `put_over`.
-/// Rule: MANUAL, forth83 put IMAGE BLOCK FILE.
-pub fn put_into_image<H: HostFile, O: HostFiles<H>, B: Read + Drop, Q: TextFiles<B>, E>(
-    texts: &Q,
-    files: &O,
-    path: &str,
-    block: u16,
-    text: &str,
-) -> (Left<SectorFile<H>, E>, Result<(), Failure>)
-    ensures put { OnOk result.1 (DoneOn ⟦<SectorFile<H> as SectorDevice>⟧ Left.Opened
-        (IsOpened H.HostFile (O.opens files.now path.now))
-        (PutsBlock ⟦<SectorFile<H> as SectorDevice>⟧ block (IsTextOf B.remaining (Q.opens texts.now text.now))) result.0) }
-    ensures failed { IfErr result.1 (λ failure. FailsOn ⟦<SectorFile<H> as SectorDevice>⟧ Left.Opened
-        (IsOpened H.HostFile (O.opens files.now path.now))
-        (FailsAfter ⟦<SectorFile<H> as SectorDevice>⟧ (PutFails ⟦<SectorFile<H> as SectorDevice>⟧ block
-        (IsTextOf B.remaining (Q.opens texts.now text.now)) (IsUnread (Q.opens texts.now text.now) (Q.refuses texts.now text.now))))
-        failure result.0) }
-    ensures unstopped { IfErr result.1 (λ e. e ≢ Failure.Stopped) }
-{
-    match open_disk(files, path) {
-        Ok(disk) => opened(put_over(texts, disk, block, text)),
-        Err(fault) => (Left::Nothing, Err(Failure::from(fault))),
-    }
-}
-
-/// Makes the blocks that files say those of an image from `first` on, in one save. Each file begins a block. The
-/// refusals of the first file that is refused are told in lines of `errors`; then nothing is written to the image, but
-/// by its recovery. Its failures: `CannotOpen` or `InUse` where the image's file can't be opened for reading and
-/// writing, then those of `import_over`.
-/// Rule: MANUAL, forth83 import IMAGE FIRST FILE .. [--raw] [--check].
-pub fn import_image<H: HostFile, O: HostFiles<H>, B: Read + Drop, Q: TextFiles<B>, W: Write, E>(
-    alloc: Global,
-    texts: &Q,
-    files: &O,
-    path: &str,
-    first: u16,
-    sources: &[&str],
-    form: Form,
-    errors: &mut W,
-) -> (Left<SectorFile<H>, E>, Result<(), Failure>)
-    ensures imported { OnOk result.1 (DoneOn ⟦<SectorFile<H> as SectorDevice>⟧ Left.Opened
-        (IsOpened H.HostFile (O.opens files.now path.now))
-        (ImportsBlocks ⟦<SectorFile<H> as SectorDevice>⟧ form first
-        (AreTexts (λ path. IsTextOf B.remaining (Q.opens texts.now path)) sources.now)) result.0) }
-    ensures failed { IfErr result.1 (λ failure. FailsOn ⟦<SectorFile<H> as SectorDevice>⟧ Left.Opened
-        (IsOpened H.HostFile (O.opens files.now path.now)) (FailsAfter ⟦<SectorFile<H> as SectorDevice>⟧
-        (ImportFails ⟦<SectorFile<H> as SectorDevice>⟧ form first
-        (AreTexts (λ path. IsTextOf B.remaining (Q.opens texts.now path)) sources.now)
-        (OneIsUnread (λ path. IsUnread (Q.opens texts.now path) (Q.refuses texts.now path)) sources.now))) failure result.0) }
-    ensures unstopped { IfErr result.1 (λ e. e ≢ Failure.Stopped) }
-{
-    match open_disk(files, path) {
-        Ok(disk) => opened(import_over(alloc, texts, disk, first, sources, form, errors)),
-        Err(fault) => (Left::Nothing, Err(Failure::from(fault))),
-    }
-}
-
-/// Tells in lines of `errors` whatever is told of files that would be imported, up to the first that is refused. Of
-/// the image only the size is looked at, and no call of its device is made. Its failures: `CannotOpen` or `InUse`
-/// where the image can't be opened, `BadSize` where it has the size of none, then those of `read_blocks`.
-/// Rule: MANUAL, forth83 import IMAGE FIRST FILE .. [--raw] [--check].
-pub fn check_import<H: HostFile, O: HostFiles<H>, B: Read + Drop, Q: TextFiles<B>, W: Write, E>(
-    alloc: Global,
-    texts: &Q,
-    files: &O,
-    path: &str,
-    first: u16,
-    sources: &[&str],
-    form: Form,
-    errors: &mut W,
-) -> (Left<SectorFile<H>, E>, Result<(), Failure>)
-    ensures looked { OnOk result.1 (DoneOn ⟦<SectorFile<H> as SectorDevice>⟧ Left.Opened
-        (IsOpened H.HostFile (O.opens files.now path.now))
-        (LooksAt ⟦<SectorFile<H> as SectorDevice>⟧ form first
-        (AreTexts (λ path. IsTextOf B.remaining (Q.opens texts.now path)) sources.now)) result.0) }
-    // Whatever is told of the files, no call of the image's device is made.
-    ensures failed { IfErr result.1 (λ failure. FailsOn ⟦<SectorFile<H> as SectorDevice>⟧ Left.Opened
-        (IsOpened H.HostFile (O.opens files.now path.now)) (LooksInVain
-        (λ device. is_known_size (⟦<SectorFile<H> as SectorDevice>⟧.sector_count device))
-        (OneIsUnread (λ path. IsUnread (Q.opens texts.now path) (Q.refuses texts.now path)) sources.now)) failure result.0) }
-    ensures unstopped { IfErr result.1 (λ e. e ≢ Failure.Stopped) }
-{
-    match open_disk(files, path) {
-        Ok(disk) => {
-            let outcome = check_files(alloc, texts, &disk, first, sources, form, errors);
-            (Left::Opened(disk), outcome)
-        }
-        Err(fault) => (Left::Nothing, Err(Failure::from(fault))),
-    }
-}
-
-/// Tells whatever is told of files that would be imported into the image on a device, which is only asked for its size.
-fn check_files<D: SectorDevice, B: Read + Drop, Q: TextFiles<B>, W: Write>(
-    alloc: Global,
-    texts: &Q,
-    device: &D,
-    first: u16,
-    sources: &[&str],
-    form: Form,
-    errors: &mut W,
-) -> Result<(), Failure>
-    ensures looked { OnOk result (LooksAt D.SectorDevice form first
-        (AreTexts (λ path. IsTextOf B.remaining (Q.opens texts.now path)) sources.now) device.now device.now) }
-    ensures cannot { IfErr result (λ e. e ≡ Failure.CannotRead
-        → OneIsUnread (λ path. IsUnread (Q.opens texts.now path) (Q.refuses texts.now path)) sources.now) }
-    ensures told { IfErr result (λ e. MatchBool (is_known_size (D.sector_count device.now)) (IsOfTexts e) (e ≡ Failure.BadSize)) }
-    ensures unstopped { IfErr result (λ e. e ≢ Failure.Stopped) }
-{
-    let Some(blocks) = known_blocks(device.sectors()) else {
-        return Err(Failure::BadSize);
-    };
-    let _bytes = match read_blocks(alloc, texts, blocks, first, sources, form, true, errors) {
-        Ok(bytes) => bytes,
-        Err(failure) => return Err(failure),
-    };
-    Ok(())
-}
-
-/// Makes an image of layout 2, in a new file, of the blocks of one of layout 1, which is recovered, and gives both
-/// files. Nothing is made where the old one has the size of no such image (`BadSize`) or can't be opened (`CannotOpen`,
-/// `InUse`), and whatever has the new name already stays as it is (`Exists`). `CannotOpen` or `InUse` come also where
-/// the new file can't be made or finished, with no call of the old one. Then its failures are those of
-/// `recovery::upgrade`. A new file that was begun stays at each of these.
-/// Rule: MANUAL, forth83 upgrade OLD NEW [--layout L]; IMAGE, Layout 1, and an upgrade.
-pub fn upgrade_image<H: HostFile, O: HostFiles<H>, E>(
-    files: &O,
-    old: &str,
+/// Makes an image of the blocks of the one on a device, in a new file, by a layout, and gives that one, if it was made.
+fn upgrade_into<X: World>(
+    world: &X,
+    source: &mut X::Disk,
     new: &str,
-) -> (Left<SectorFile<H>, E>, Result<(), Failure>)
-    // Ok only where the new file was made and became an image of the blocks that the old one meant.
-    ensures made { OnOk result.1 (UpgradeDone ⟦<SectorFile<H> as SectorDevice>⟧
-        (IsOpened H.HostFile (O.opens files.now old.now)) (IsMade H.HostFile (O.makes files.now new.now)) Layout.Two result.0) }
-    // No call of what is given back failed.
-    ensures well { OnOk result.1 (EachLeft (λ device. ⟦<SectorFile<H> as SectorDevice>⟧.failures device ≡ 0) (λ _. ⊤) result.0) }
-    ensures failed { IfErr result.1 (λ failure. UpgradeFailed ⟦<SectorFile<H> as SectorDevice>⟧
-        (IsOpened H.HostFile (O.opens files.now old.now)) (IsMade H.HostFile (O.makes files.now new.now))
-        (IsUnfinished H.HostFile (O.makes files.now new.now)) Layout.Two failure result.0) }
-    ensures unstopped { IfErr result.1 (λ e. e ≢ Failure.Stopped) }
+    layout: Layout,
+) -> (Option<X::Disk>, Result<(), Failure>)
+    ensures made { OnOk result.1 (IsGiven result.0 (MadeOf X.Disk.SectorDevice X.Disk.SectorDevice ((X.gives world.now).made new.now)
+        (sectors_for_upgrade layout (X.Disk.sector_count source.old)) (UpgradesBy X.Disk.SectorDevice layout) source.old source.new)) }
+    ensures failed { IfErr result.1 (λ failure. IfSome result.0 (MakesSome X.Disk.SectorDevice X.Disk.SectorDevice
+        ((X.gives world.now).made new.now) ((X.gives world.now).begun new.now) (sectors_for_upgrade layout (X.Disk.sector_count source.old))
+        (UpgradeFailsBy X.Disk.SectorDevice layout failure) failure source.old source.new)) }
+    ensures unmade { IfErr result.1 (λ failure. result.0 ≡ None
+        → IsUntouched (λ device. is_some (sectors_for_upgrade layout (X.Disk.sector_count device))) failure source.old source.new) }
+    ensures new_well { OnOk result.1 (IfSome result.0 (λ target. X.Disk.failures target ≡ 0)) }
+    ensures old_well { OnOk result.1 (X.Disk.failures source.new ≡ X.Disk.failures source.old) }
 {
-    match open_disk(files, old) {
-        Ok(source) => upgrade_into(source, files, new),
-        Err(fault) => (Left::Nothing, Err(Failure::from(fault))),
-    }
-}
-
-/// Makes an image of layout 2, in a new file, of the blocks of the image of layout 1 on a device.
-fn upgrade_into<H: HostFile, O: HostFiles<H>, E>(
-    mut source: SectorFile<H>,
-    files: &O,
-    new: &str,
-) -> (Left<SectorFile<H>, E>, Result<(), Failure>)
-    ensures made { OnOk result.1 (UpgradeDone ⟦<SectorFile<H> as SectorDevice>⟧
-        (λ device. device ≡ source) (IsMade H.HostFile (O.makes files.now new.now)) Layout.Two result.0) }
-    ensures well { ⟦<SectorFile<H> as SectorDevice>⟧.failures source ≡ 0
-        → OnOk result.1 (EachLeft (λ device. ⟦<SectorFile<H> as SectorDevice>⟧.failures device ≡ 0) (λ _. ⊤) result.0) }
-    ensures failed { IfErr result.1 (λ failure. UpgradeFailed ⟦<SectorFile<H> as SectorDevice>⟧
-        (λ device. device ≡ source) (IsMade H.HostFile (O.makes files.now new.now))
-        (IsUnfinished H.HostFile (O.makes files.now new.now)) Layout.Two failure result.0) }
-    ensures unstopped { IfErr result.1 (λ e. e ≢ Failure.Stopped) }
-{
-    let sectors = source.sectors();
-    let Some(_) = blocks_of_size(sectors, MOST_BLOCKS_1) else {
-        return (Left::Opened(source), Err(Failure::BadSize));
+    let Some(sectors) = sectors_for_upgrade(layout, source.sectors()) else {
+        return (None, Err(Failure::BadSize));
     };
-    match create_disk(files, new, sectors) {
+    match world.make(new, sectors) {
         Ok(mut target) => {
-            let outcome = upgrade_older(&mut source, &mut target);
-            (Left::Upgraded(source, target), outcome)
+            let outcome = upgrade_by(source, &mut target, layout);
+            (Some(target), outcome)
         }
-        Err((fault, unfinished)) => (begun_beside(source, unfinished), Err(Failure::from(fault))),
+        Err((failure, unfinished)) => (unfinished, Err(failure)),
     }
 }
 
-/// Makes an image of layout 2 of the blocks of the image of layout 1 on another device. Its failures: `BadSize` where
-/// the sizes don't fit, then those of an opening of layout 1, and `Device` where a call of either failed.
-fn upgrade_older<D: SectorDevice>(old: &mut D, new: &mut D) -> Result<(), Failure>
-    ensures made { (n : ℕ) → D.sector_count old.old ≡ sectors_for n → D.sector_count new.old ≡ D.sector_count old.old
-        → OnOk result (Upgrades D.SectorDevice old.old old.new new.old new.new) }
-    // Where it failed, a stop leaves of the old image one that means the same, and of the new one no image, or the whole one.
-    ensures failed { (n : ℕ) → D.sector_count old.old ≡ sectors_for n → D.sector_count new.old ≡ D.sector_count old.old
-        → IfErr result (λ failure. UpgradeFails D.SectorDevice failure old.old old.new new.old new.new) }
-    ensures well { OnOk result (WentWell D.SectorDevice D.SectorDevice old.old old.new new.old new.new) }
-    ensures unstopped { IfErr result (λ e. e ≢ Failure.Stopped) }
+/// How many sectors the image of a layout has that an upgrade makes of one on so many.
+fn sectors_for_upgrade(layout: Layout, sectors: u32) -> Option<u32>
+    ensures { result ≡ sectors_for_upgrade layout sectors }
 {
-    match upgrade(old, new) {
-        Ok(()) => Ok(()),
-        Err(fault) => Err(Failure::from(fault)),
-    }
-}
-
-/// Makes the lines of a text a block, in one save. The text isn't opened where there is no such block.
-pub(super) fn put_file<D: SectorDevice, B: Read + Drop, Q: TextFiles<B>>(
-    texts: &Q,
-    store: &mut Store<D>,
-    block: u16,
-    path: &str,
-) -> Result<(), Failure>
-    ensures no_block { IsErrOf result Failure.NoBlock ↔ (blocks_of store.old ≤ block) }
-    ensures there { OnOk result (block < blocks_of store.old) }
-    ensures only { IfErr result (λ e. (e ≡ Failure.NoBlock) ⊎ (e ≡ Failure.CannotRead) ⊎ (e ≡ Failure.NoMemory)
-        ⊎ (e ≡ Failure.NotAScreen) ⊎ (e ≡ Failure.Device)) }
-    ensures some { OnOk result (PutsSome (IsTextOf B.remaining (Q.opens texts.now path.now)) store.old store.new block) }
-    ensures kept { block + 1 ≤ blocks_of store.old
-        → LeavesSome (IsTextOf B.remaining (Q.opens texts.now path.now)) store.old store.new block }
-    ensures cannot { IfErr result (λ e. e ≡ Failure.CannotRead
-        → IsUnread (Q.opens texts.now path.now) (Q.refuses texts.now path.now)) }
-    ensures begins { DeviceBegins store.old store.new (2 * pending_count store.old + 7) 4 }
-    ensures reads { DeviceReads store.old store.new (4 * pending_count store.old + 4) }
-    ensures unread { IfErr result (λ e. e ≢ Failure.Device → store.new ≡ store.old) }
-    ensures device { IfErr result (λ e. e ≡ Failure.Device
-        → (closed_of store.old ≡ true) ⊎ DeviceFailed store.old store.new) }
-    ensures continues { Continues store.old store.new }
-    ensures unstopped { IfErr result (λ e. e ≢ Failure.Stopped) }
-{
-    if block >= store.blocks() {
-        return Err(Failure::NoBlock);
-    }
-    match open_text(texts, path) {
-        Ok(mut reader) => put_text(store, block, &mut reader),
-        Err(failure) => Err(failure),
+    match layout {
+        Layout::Two => match blocks_of_size(sectors, MOST_BLOCKS_1) {
+            Some(_) => Some(sectors),
+            None => None,
+        },
+        Layout::Three => match known_blocks(sectors) {
+            Some(blocks) => Some(sectors_of(sizes::Layout::Pages, blocks)),
+            None => None,
+        },
     }
 }

@@ -4,7 +4,7 @@ ghost use Rattle.std.specs.Prelude.{◌≡◌, ◌⊎◌, ◌==◌, ◌%◌, ◌
 ghost use Rattle.std.specs.List.{list_all};
 ghost use Rattle.sessions.specs.Cut.{blank_for_tab};
 ghost use Rattle.terminal.specs.Screen.{row, texts_of};
-ghost use Rattle.terminal.specs.Findings.{all_rows, blocks_for, failure_of, begins_a_word, findings, is_full, is_printable, of_form, place, refusal, row_findings, said, told, unplaced, when};
+ghost use Rattle.terminal.specs.Findings.{blocks_for, failure_of, begins_a_word, findings, is_full, is_printable, of_form, place, refusal, row_findings, said, told, unplaced, when};
 
 use super::failure::Failure;
 use super::screen::{BLOCK, COLUMNS, ROWS};

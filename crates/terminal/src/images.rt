@@ -1,22 +1,17 @@
 //! The commands over an image on any device.
 //! Rule: MANUAL, Commands.
-ghost use Rattle.std.specs.Prelude.{◌≡◌, ◌≢◌, ◌⊎◌, ◌<◌, ◌≤◌, ◌+◌, ◌*◌, ◌↔◌, ℕ, List, length, true, false, Some, None, IsTrue, OnOk, IfOk, IfErr, IfSome, IsErrOf, MatchBool, MatchResult, option_map};
+ghost use Rattle.std.specs.Prelude.{◌≡◌, ◌≢◌, ◌⊎◌, ◌<◌, ◌≤◌, ◌+◌, ◌*◌, ◌↔◌, length, true, false, Some, None, IsTrue, OnOk, IfOk, IfErr, IfSome, IsErrOf};
 ghost use Rattle.std.specs.Io.KnownBytes.{Appends, Consumes, IsAtEnd};
 ghost use Rattle.arrayvec.specs.ArrayVec.{array_vec_len};
 ghost use Rattle.sector_disk.specs.Disk.{Image, MayLeave};
-ghost use Rattle.sector_disk.specs.Counting.{count_up};
-ghost use Rattle.journal.specs.Calls.{BeginsAtMost, ReadsAtMost, StopsLeave};
-ghost use Rattle.journal.specs.Maps.{Maps, contents, fresh, latest, spilled, committed, shut};
+ghost use Rattle.journal.specs.Calls.{StopsLeave};
+ghost use Rattle.journal.specs.Maps.{Maps, contents, latest, spilled, committed};
 ghost use Rattle.journal.specs.Store.{blocks_of, closed_of, device_of, disk_of, pending_count, MeansBy, StandsFor, DeviceBegins, DeviceReads, Continues, DeviceFailed, KeepsSaved};
-ghost use Rattle.recovery.specs.Formatted.{blank_blocks};
 ghost use Rattle.recovery.specs.Label.{is_size_for};
 ghost use Rattle.shadow.specs.Label as newer_label;
-ghost use Rattle.shadow.specs.Label.{is_known_size};
-ghost use Rattle.stores.specs.Opened.{image_refusal};
 ghost use Rattle.journal.specs.Suits.{suits};
 ghost use Rattle.terminal.specs.Done.{LeavesBlocks, MakesBlank, meant_by};
 ghost use Rattle.terminal.specs.Failed.{MakingFails, NewerMakingFails, RefusesImage};
-ghost use Rattle.terminal.specs.Failures.{of_image};
 ghost use Rattle.terminal.specs.Files.{OpensAs};
 ghost use Rattle.terminal.specs.Layout3.{MakesNewer};
 ghost use Rattle.terminal.specs.Putting.{PutsSome, LeavesSome};
@@ -25,6 +20,7 @@ ghost use Rattle.terminal.specs.Screen.{screen_of, listing};
 use super::checking::print;
 use super::failure::Failure;
 use super::screen::{BLOCK, listing, screen_of};
+use super::world::World;
 use arrayvec::ArrayVec;
 use interpreter::IoFault;
 use journal::StoreFault;
@@ -44,14 +40,8 @@ const TEXT_ROOM: usize = 1057;
 /// Rule: IMAGE, A format.
 pub fn make_over<D: SectorDevice>(device: D, blocks: u16) -> Result<Store<D>, (Failure, D)>
     ensures made { IfOk result (λ store. MakesBlank D.SectorDevice blocks device (device_of store)) }
-    ensures stands { IsTrue (D.keeps_sectors device) → IfOk result (λ store. StandsFor store (fresh (blank_blocks blocks))) }
     // Ok only where no call failed.
     ensures well { IfOk result (λ store. D.failures (device_of store) ≡ D.failures device) }
-    ensures begins { IfOk result (λ store. BeginsAtMost D.SectorDevice device (device_of store) (2 * blocks + 4) 4) }
-    ensures reads { IfOk result (λ store. ReadsAtMost D.SectorDevice device (device_of store) 1) }
-    ensures refusal { IfErr result (λ e. MatchBool (is_size_for blocks (D.sector_count device))
-        (e.0 ≡ Failure.Device) (e.0 ≡ Failure.BadSize)) }
-    ensures device { IfErr result (λ e. e.0 ≡ Failure.Device → D.failures e.1 ≡ count_up (D.failures device)) }
     // Where it failed, a stop at any moment leaves no image, or the whole one, or what could be left before.
     ensures failed { is_size_for blocks (D.sector_count device) ≡ true
         → IfErr result (λ e. MakingFails D.SectorDevice blocks e.0 device e.1) }
@@ -67,12 +57,8 @@ pub fn make_over<D: SectorDevice>(device: D, blocks: u16) -> Result<Store<D>, (F
 /// Rule: IMAGE, Layout 3, A format.
 pub fn make_newer_over<D: SectorDevice>(device: D, blocks: u16) -> Result<Store<D>, (Failure, D)>
     ensures made { IfOk result (λ store. MakesNewer D.SectorDevice blocks device (device_of store)) }
-    ensures stands { IsTrue (D.keeps_model device) → IfOk result (λ store. StandsFor store (fresh (blank_blocks blocks))) }
     // Ok only where no call failed.
     ensures well { IfOk result (λ store. D.failures (device_of store) ≡ D.failures device) }
-    ensures refusal { IfErr result (λ e. MatchBool (newer_label.is_size_for blocks (D.sector_count device))
-        (e.0 ≡ Failure.Device) (e.0 ≡ Failure.BadSize)) }
-    ensures device { IfErr result (λ e. e.0 ≡ Failure.Device → D.failures e.1 ≡ count_up (D.failures device)) }
     // Where it failed, a stop at any moment leaves no image, or the whole one, or what could be left before, but for the
     // other sectors in the label's unit.
     ensures failed { newer_label.is_size_for blocks (D.sector_count device) ≡ true
@@ -90,20 +76,6 @@ pub fn make_newer_over<D: SectorDevice>(device: D, blocks: u16) -> Result<Store<
 /// Rule: IMAGE, A recovery; IMAGE, Layout 3, An opening.
 pub fn open_over<D: SectorDevice>(device: D) -> Result<Store<D>, (Failure, D)>
     ensures opened { IfOk result (λ store. OpensAs D.SectorDevice device store) }
-    // Ok only where no call failed.
-    ensures well { IfOk result (λ store. D.failures (device_of store) ≡ D.failures device) }
-    // Each refusal tells the first test that the image fails.
-    ensures exact { IsTrue (suits D.SectorDevice device) → MatchResult result
-        (λ _. image_refusal (D.sector_count device) (D.disk device).content ≡ None)
-        (λ e. (e.0 ≡ Failure.Device) ⊎ (Some e.0 ≡ option_map of_image
-        (image_refusal (D.sector_count device) (D.disk device).content))) }
-    ensures bad_size { IfErr result (λ e. MatchBool (is_known_size (D.sector_count device))
-        (e.0 ≢ Failure.BadSize) (e.0 ≡ Failure.BadSize)) }
-    // A fault of the device is told just where one of its calls failed.
-    ensures device { IfErr result (λ e. e.0 ≡ Failure.Device → D.failures e.1 ≡ count_up (D.failures device)) }
-    ensures refused { IfErr result (λ e. e.0 ≢ Failure.Device → D.failures e.1 ≡ D.failures device) }
-    // No session has begun that could stop.
-    ensures unstopped { IfErr result (λ e. e.0 ≢ Failure.Stopped) }
     // Where it is refused or fails, a stop at any moment leaves what one of a recovery may leave.
     ensures kept { IfErr result (λ e. RefusesImage D.SectorDevice e.0 device e.1) }
     // Once it is opened, a stop leaves the blocks that the image meant.
@@ -136,7 +108,6 @@ pub fn list_block<D: SectorDevice, W: Write>(
     ensures continues { Continues store.old store.new }
     ensures begins { DeviceBegins store.old store.new 0 0 }
     ensures reads { DeviceReads store.old store.new 2 }
-    ensures unstopped { IfErr result (λ e. e ≢ Failure.Stopped) }
 {
     if block >= store.blocks() {
         return Err(Failure::NoBlock);
@@ -158,18 +129,8 @@ pub fn put_text<D: SectorDevice, R: Read>(
     text: &mut R,
 ) -> Result<(), Failure>
     requires below { block < blocks_of store.old }
-    ensures ok { (m : Maps) (input : List ℕ) → StandsFor store.old m → R.remaining text.old ≡ Some input
-        → OnOk result ((bytes : List ℕ) × (screen_of input ≡ Some bytes)
-        × StandsFor store.new (committed (spilled m block bytes))
-        × ((image : Image) → MayLeave (disk_of store.new) image → MeansBy store.new (latest (spilled m block bytes)) image)) }
-    ensures refused { IfErr result (λ e. e ≡ Failure.NotAScreen → (input : List ℕ)
-        → R.remaining text.old ≡ Some input → screen_of input ≡ None) }
     ensures unread { IfErr result (λ e. e ≢ Failure.Device → store.new ≡ store.old) }
-    ensures others { IfErr result (λ e. e ≢ Failure.NoBlock) }
     ensures only { IfErr result (λ e. (e ≡ Failure.CannotRead) ⊎ (e ≡ Failure.NotAScreen) ⊎ (e ≡ Failure.Device)) }
-    ensures stops { (m : Maps) (input : List ℕ) → StandsFor store.old m → m.closed ≡ false → R.remaining text.old ≡ Some input
-        → StopsLeave D.SectorDevice (device_of store.old) (device_of store.new) (λ image. MeansBy store.old m.saved image
-        ⊎ ((bytes : List ℕ) × (screen_of input ≡ Some bytes) × MeansBy store.old (latest (spilled m block bytes)) image)) }
     // Whatever the text is, it is one save of one block. It is all that the reader had left, where that is known.
     ensures some { OnOk result (PutsSome (λ bytes. IfSome (R.remaining text.old) (λ left. bytes ≡ left)) store.old store.new block) }
     ensures kept { LeavesSome (λ bytes. IfSome (R.remaining text.old) (λ left. bytes ≡ left)) store.old store.new block }
@@ -178,7 +139,6 @@ pub fn put_text<D: SectorDevice, R: Read>(
     ensures reads { DeviceReads store.old store.new (4 * pending_count store.old + 4) }
     ensures device { IfErr result (λ e. e ≡ Failure.Device
         → (closed_of store.old ≡ true) ⊎ DeviceFailed store.old store.new) }
-    ensures unstopped { IfErr result (λ e. e ≢ Failure.Stopped) }
 {
     match read_text(text) {
         Ok(text) => match screen_of(text.as_slice()) {
@@ -232,5 +192,37 @@ fn put_block<D: SectorDevice>(
     match store.spill(block, bytes) {
         Ok(()) => store.commit(),
         Err(fault) => Err(fault),
+    }
+}
+
+/// Makes the lines of a text a block, in one save. The text isn't opened where there is no such block.
+pub(super) fn put_file<X: World, D: SectorDevice>(
+    world: &X,
+    store: &mut Store<D>,
+    block: u16,
+    path: &str,
+) -> Result<(), Failure>
+    ensures no_block { IsErrOf result Failure.NoBlock ↔ (blocks_of store.old ≤ block) }
+    ensures there { OnOk result (block < blocks_of store.old) }
+    ensures only { IfErr result (λ e. (e ≡ Failure.NoBlock) ⊎ (e ≡ Failure.CannotRead) ⊎ (e ≡ Failure.NoMemory)
+        ⊎ (e ≡ Failure.NotAScreen) ⊎ (e ≡ Failure.Device)) }
+    ensures some { OnOk result (PutsSome ((X.gives world.now).is_text path.now) store.old store.new block) }
+    ensures kept { block + 1 ≤ blocks_of store.old
+        → LeavesSome ((X.gives world.now).is_text path.now) store.old store.new block }
+    ensures cannot { IfErr result (λ e. e ≡ Failure.CannotRead
+        → (X.gives world.now).is_unread path.now) }
+    ensures begins { DeviceBegins store.old store.new (2 * pending_count store.old + 7) 4 }
+    ensures reads { DeviceReads store.old store.new (4 * pending_count store.old + 4) }
+    ensures unread { IfErr result (λ e. e ≢ Failure.Device → store.new ≡ store.old) }
+    ensures device { IfErr result (λ e. e ≡ Failure.Device
+        → (closed_of store.old ≡ true) ⊎ DeviceFailed store.old store.new) }
+    ensures continues { Continues store.old store.new }
+{
+    if block >= store.blocks() {
+        return Err(Failure::NoBlock);
+    }
+    match world.text(path) {
+        Ok(mut reader) => put_text(store, block, &mut reader),
+        Err(failure) => Err(failure),
     }
 }

@@ -1,15 +1,17 @@
 //! Many blocks at once, saved.
 //! Rule: MANUAL, forth83 import IMAGE FIRST FILE .. [--raw] [--check].
-ghost use Rattle.std.specs.Prelude.{◌≡◌, ◌≢◌, ◌⊎◌, ◌<◌, ◌≤◌, ◌+◌, ◌-◌, ◌*◌, ◌++◌, ℕ, List, Some, None, length, take, drop, replicate, true, false, OnOk, IfErr, IfOk, IfSome, MatchResult, vec_len};
+ghost use Rattle.std.specs.Prelude.{◌≡◌, ◌≢◌, ◌⊎◌, ◌<◌, ◌≤◌, ◌+◌, ◌-◌, ◌*◌, ◌++◌, ℕ, List, Some, None, length, take, drop, replicate, true, false, OnOk, IfErr, IfOk, IfSome, MatchBool, vec_len};
 ghost use Rattle.std.specs.Io.KnownBytes.{Consumes, IsAtEnd};
 ghost use Rattle.journal.specs.Calls.{StopsLeave};
 ghost use Rattle.journal.specs.Maps.{Maps, latest};
 ghost use Rattle.journal.specs.Costs.{spill_reads, spill_writes};
 ghost use Rattle.journal.specs.Store.{Continues, DeviceBegins, DeviceFailed, DeviceReads, DeviceWentWell, KeepsSaved, MeansBy, StandsFor, blocks_of, by_older, closed_of, device_of, pending_count};
+ghost use Rattle.shadow.specs.Label.{is_known_size};
+ghost use Rattle.terminal.specs.Done.{LooksAt};
 ghost use Rattle.terminal.specs.Failed.{IsOfTexts};
 ghost use Rattle.terminal.specs.Findings.{AreSound, blocks_for, in_blocks, refusal, said, said_all, told};
 ghost use Rattle.terminal.specs.Imported.{Imports, ImportsSome, LeavesImported, Spills, SpillsNext};
-ghost use Rattle.terminal.specs.Texts.{AreTexts, IsTextOf, IsUnread, OneIsUnread};
+ghost use Rattle.terminal.specs.Texts.{AreTexts, OneIsUnread};
 ghost use Rattle.terminal.specs.Transfer.{as_blocks, block_of, spilled_from};
 
 use super::failure::Failure;
@@ -17,9 +19,10 @@ use super::findings::{
     Finding, Screens, add_blanks as add_more_blanks, blocks_for, read_screens, refusal,
 };
 use super::screen::{BLOCK, add_blanks};
-use super::texts::{TextFiles, open_text};
+use super::world::World;
 use arrayvec::ArrayVec;
 use command_line::orders::Form;
+use journal::sizes::known_blocks;
 use sector_disk::SectorDevice;
 use sessions::streams::read_byte;
 use std::alloc::{AllocError, Global};
@@ -32,9 +35,9 @@ pub(super) const MOST_BYTES: usize = 4_055_040;
 /// Makes the blocks that files say those of a store from `first` on, in one save. Each file begins a block. The
 /// refusals of the first file that is refused are told in lines of `errors`. Its failures: those of `read_blocks`, at
 /// which nothing is written, and then `Device` where a call of the device failed, or the store is closed.
-pub fn import_files<D: SectorDevice, B: Read + Drop, Q: TextFiles<B>, E: Write>(
+pub fn import_files<X: World, D: SectorDevice, E: Write>(
     alloc: Global,
-    texts: &Q,
+    world: &X,
     store: &mut Store<D>,
     first: u16,
     paths: &[&str],
@@ -42,11 +45,11 @@ pub fn import_files<D: SectorDevice, B: Read + Drop, Q: TextFiles<B>, E: Write>(
     errors: &mut E,
 ) -> Result<(), Failure>
     ensures imported { OnOk result (ImportsSome form first
-        (AreTexts (λ path. IsTextOf B.remaining (Q.opens texts.now path)) paths.now) store.old store.new) }
+        (AreTexts (X.gives world.now).is_text paths.now) store.old store.new) }
     ensures kept { LeavesImported form first
-        (AreTexts (λ path. IsTextOf B.remaining (Q.opens texts.now path)) paths.now) store.old store.new }
+        (AreTexts (X.gives world.now).is_text paths.now) store.old store.new }
     ensures cannot { IfErr result (λ e. e ≡ Failure.CannotRead
-        → OneIsUnread (λ path. IsUnread (Q.opens texts.now path) (Q.refuses texts.now path)) paths.now) }
+        → OneIsUnread (X.gives world.now).is_unread paths.now) }
     ensures unread { IfErr result (λ e. e ≢ Failure.Device → store.new ≡ store.old) }
     ensures device { IfErr result (λ e. e ≡ Failure.Device
         → (closed_of store.old ≡ true) ⊎ DeviceFailed store.old store.new) }
@@ -55,11 +58,10 @@ pub fn import_files<D: SectorDevice, B: Read + Drop, Q: TextFiles<B>, E: Write>(
     ensures reads { DeviceReads store.old store.new (4 * pending_count store.old + 4 * (blocks_of store.old - first)) }
     ensures continues { Continues store.old store.new }
     ensures only { IfErr result (λ e. (e ≡ Failure.Device) ⊎ IsOfTexts e) }
-    ensures unstopped { IfErr result (λ e. e ≢ Failure.Stopped) }
 {
     match read_blocks(
         alloc,
-        texts,
+        world,
         store.blocks(),
         first,
         paths,
@@ -77,9 +79,9 @@ pub fn import_files<D: SectorDevice, B: Read + Drop, Q: TextFiles<B>, E: Write>(
 /// The refusals of one that is refused are told in lines of `errors`, and with `all` whatever else is told of each. Its
 /// failures: `NoBlock` where `first` isn't there; then of each file in turn `CannotRead` where it can't be read,
 /// `NoMemory`, and that of its first refusal: `NotAScreen` or `NoBlock`.
-pub fn read_blocks<B: Read + Drop, Q: TextFiles<B>, E: Write>(
+pub fn read_blocks<X: World, E: Write>(
     alloc: Global,
-    texts: &Q,
+    world: &X,
     blocks: u16,
     first: u16,
     paths: &[&str],
@@ -87,14 +89,13 @@ pub fn read_blocks<B: Read + Drop, Q: TextFiles<B>, E: Write>(
     all: bool,
     errors: &mut E,
 ) -> Result<Vec<u8>, Failure>
-    ensures said { IfOk result (λ bytes. (files : List (List ℕ)) × AreTexts (λ path. IsTextOf B.remaining (Q.opens texts.now path)) paths.now
+    ensures said { IfOk result (λ bytes. (files : List (List ℕ)) × AreTexts (X.gives world.now).is_text paths.now
         files × AreSound form (blocks - first) files × (bytes.items ≡ said_all form files)) }
     ensures cannot { IfErr result (λ e. e ≡ Failure.CannotRead
-        → OneIsUnread (λ path. IsUnread (Q.opens texts.now path) (Q.refuses texts.now path)) paths.now) }
+        → OneIsUnread (X.gives world.now).is_unread paths.now) }
     ensures below { OnOk result (first < blocks) }
     ensures there { IfOk result (λ bytes. first + blocks_for (length bytes.items) ≤ blocks) }
     ensures only { IfErr result (λ e. IsOfTexts e) }
-    ensures unstopped { IfErr result (λ e. e ≢ Failure.Stopped) }
 {
     if first >= blocks {
         return Err(Failure::NoBlock);
@@ -102,7 +103,7 @@ pub fn read_blocks<B: Read + Drop, Q: TextFiles<B>, E: Write>(
     let mut bytes = Vec::new(alloc);
     match add_files(
         alloc,
-        texts,
+        world,
         &mut bytes,
         blocks - first,
         paths,
@@ -116,9 +117,9 @@ pub fn read_blocks<B: Read + Drop, Q: TextFiles<B>, E: Write>(
 }
 
 /// Adds the bytes of the blocks that files say, for which so many blocks are there.
-fn add_files<B: Read + Drop, Q: TextFiles<B>, E: Write>(
+fn add_files<X: World, E: Write>(
     alloc: Global,
-    texts: &Q,
+    world: &X,
     bytes: &mut Vec<u8>,
     room: u16,
     paths: &[&str],
@@ -126,17 +127,16 @@ fn add_files<B: Read + Drop, Q: TextFiles<B>, E: Write>(
     all: bool,
     errors: &mut E,
 ) -> Result<(), Failure>
-    ensures added { OnOk result ((files : List (List ℕ)) × AreTexts (λ path. IsTextOf B.remaining (Q.opens texts.now path)) paths.now files
+    ensures added { OnOk result ((files : List (List ℕ)) × AreTexts (X.gives world.now).is_text paths.now files
         × AreSound form room files × (bytes.new.items ≡ bytes.old.items ++ said_all form files)) }
     ensures cannot { IfErr result (λ e. e ≡ Failure.CannotRead
-        → OneIsUnread (λ path. IsUnread (Q.opens texts.now path) (Q.refuses texts.now path)) paths.now) }
+        → OneIsUnread (X.gives world.now).is_unread paths.now) }
     ensures only { IfErr result (λ e. IsOfTexts e) }
-    ensures unstopped { IfErr result (λ e. e ≢ Failure.Stopped) }
 {
     let mut left = room;
     let mut rest = paths;
     while let [path, others @ ..] = rest {
-        left = match add_file(alloc, texts, bytes, left, *path, form, all, errors) {
+        left = match add_file(alloc, world, bytes, left, *path, form, all, errors) {
             Ok(more) => more,
             Err(failure) => return Err(failure),
         };
@@ -146,9 +146,9 @@ fn add_files<B: Read + Drop, Q: TextFiles<B>, E: Write>(
 }
 
 /// Adds the bytes of the blocks that a file says, for which so many blocks are there, and answers how many are left.
-fn add_file<B: Read + Drop, Q: TextFiles<B>, E: Write>(
+fn add_file<X: World, E: Write>(
     alloc: Global,
-    texts: &Q,
+    world: &X,
     bytes: &mut Vec<u8>,
     room: u16,
     path: &str,
@@ -156,14 +156,13 @@ fn add_file<B: Read + Drop, Q: TextFiles<B>, E: Write>(
     all: bool,
     errors: &mut E,
 ) -> Result<u16, Failure>
-    ensures added { IfOk result (λ left. (file : List ℕ) × IsTextOf B.remaining (Q.opens texts.now path.now) file
+    ensures added { IfOk result (λ left. (file : List ℕ) × (X.gives world.now).is_text path.now file
         × (refusal (told form room file) ≡ None) × (left ≡ room - blocks_for (length (said form file))) × (bytes.new.items ≡ bytes.old.items ++ in_blocks (said form file))) }
     ensures cannot { IfErr result (λ e. e ≡ Failure.CannotRead
-        → IsUnread (Q.opens texts.now path.now) (Q.refuses texts.now path.now)) }
+        → (X.gives world.now).is_unread path.now) }
     ensures only { IfErr result (λ e. IsOfTexts e) }
-    ensures unstopped { IfErr result (λ e. e ≢ Failure.Stopped) }
 {
-    let said = read_file(alloc, texts, room, path, form, all, errors)?;
+    let said = read_file(alloc, world, room, path, form, all, errors)?;
     match add_in_blocks(bytes, said.as_slice()) {
         Ok(()) => Ok(room - blocks_for(said.as_slice()) as u16),
         Err(AllocError) => Err(Failure::NoMemory),
@@ -180,24 +179,23 @@ fn add_in_blocks(bytes: &mut Vec<u8>, said: &[u8]) -> Result<(), AllocError>
 
 /// The bytes that the text of a name says, where nothing of it is refused. Its refusals are told, and with `all`
 /// whatever is told of it, also where nothing is refused.
-fn read_file<B: Read + Drop, Q: TextFiles<B>, E: Write>(
+fn read_file<X: World, E: Write>(
     alloc: Global,
-    texts: &Q,
+    world: &X,
     room: u16,
     path: &str,
     form: Form,
     all: bool,
     errors: &mut E,
 ) -> Result<Vec<u8>, Failure>
-    ensures said { IfOk result (λ bytes. (file : List ℕ) × IsTextOf B.remaining (Q.opens texts.now path.now) file
+    ensures said { IfOk result (λ bytes. (file : List ℕ) × (X.gives world.now).is_text path.now file
         × (refusal (told form room file) ≡ None) × (bytes.items ≡ said form file)) }
     ensures cannot { IfErr result (λ e. e ≡ Failure.CannotRead
-        → IsUnread (Q.opens texts.now path.now) (Q.refuses texts.now path.now)) }
+        → (X.gives world.now).is_unread path.now) }
     ensures there { IfOk result (λ bytes. blocks_for (length bytes.items) ≤ room) }
     ensures only { IfErr result (λ e. IsOfTexts e) }
-    ensures unstopped { IfErr result (λ e. e ≢ Failure.Stopped) }
 {
-    match open_text(texts, path) {
+    match world.text(path) {
         Ok(mut reader) => read_said(alloc, room, path, form, all, &mut reader, errors),
         Err(unread) => Err(unread),
     }
@@ -217,7 +215,6 @@ fn read_said<R: Read, E: Write>(
         × (refusal (told form room file) ≡ None) × (bytes.items ≡ said form file)) }
     ensures there { IfOk result (λ bytes. blocks_for (length bytes.items) ≤ room) }
     ensures only { IfErr result (λ e. IsOfTexts e) }
-    ensures unstopped { IfErr result (λ e. e ≢ Failure.Stopped) }
 {
     let file = read_all(alloc, reader)?;
     let bytes = take_said(alloc, room, path, form, all, file.as_slice(), errors)?;
@@ -243,7 +240,6 @@ fn take_said<E: Write>(
     ensures said { IfOk result (λ bytes. bytes.items ≡ said form file.now) }
     ensures there { IfOk result (λ bytes. blocks_for (length bytes.items) ≤ room) }
     ensures only { IfErr result (λ e. IsOfTexts e) }
-    ensures unstopped { IfErr result (λ e. e ≢ Failure.Stopped) }
 {
     let Ok(screens) = read_screens(alloc, form, room, file) else {
         return Err(Failure::NoMemory);
@@ -378,4 +374,33 @@ fn filled(bytes: &[u8]) -> ArrayVec<u8, BLOCK>
     }
     add_blanks(&mut block, BLOCK - bytes.len());
     block
+}
+
+/// Tells in lines of `errors` whatever is told of files that would be imported into the image on a device, up to the
+/// first that is refused. Only its size is looked at, and no call of it is made. Its failures: `BadSize` where it has
+/// the size of none, then those of `read_blocks`.
+/// Rule: MANUAL, forth83 import IMAGE FIRST FILE .. [--raw] [--check].
+pub(super) fn check_files<X: World, D: SectorDevice, W: Write>(
+    alloc: Global,
+    world: &X,
+    device: &D,
+    first: u16,
+    sources: &[&str],
+    form: Form,
+    errors: &mut W,
+) -> Result<(), Failure>
+    ensures looked { OnOk result (LooksAt D.SectorDevice form first
+        (AreTexts (X.gives world.now).is_text sources.now) device.now device.now) }
+    ensures cannot { IfErr result (λ e. e ≡ Failure.CannotRead
+        → OneIsUnread (X.gives world.now).is_unread sources.now) }
+    ensures told { IfErr result (λ e. MatchBool (is_known_size (D.sector_count device.now)) (IsOfTexts e) (e ≡ Failure.BadSize)) }
+{
+    let Some(blocks) = known_blocks(device.sectors()) else {
+        return Err(Failure::BadSize);
+    };
+    let _bytes = match read_blocks(alloc, world, blocks, first, sources, form, true, errors) {
+        Ok(bytes) => bytes,
+        Err(failure) => return Err(failure),
+    };
+    Ok(())
 }

@@ -2,12 +2,15 @@
 #![tactic(auto)]
 
 pub use command_line::{order, orders};
-pub use failure::Failure;
+pub use failure::{Failure, Outcome};
 pub use input::{Input, Led};
 pub use left::Left;
-pub use program::{command, command_over};
+pub use program::command_over;
 pub use starting::start;
+pub use std_world::StdWorld;
+pub use streams::Streams;
 pub use texts::{MemoryTexts, StdTexts, TextFault, TextFiles};
+pub use world::{Reached, World};
 
 mod all_blocks;
 mod attending;
@@ -15,6 +18,7 @@ mod checking;
 mod comparing;
 mod copying;
 mod damage;
+mod deeds;
 mod digests;
 mod ending;
 mod exporting;
@@ -27,7 +31,6 @@ mod images;
 mod importing;
 mod input;
 pub mod laws;
-mod layout_3_upgrading;
 mod left;
 mod over_devices;
 mod program;
@@ -38,5 +41,9 @@ mod scripts;
 mod showing;
 mod standing;
 mod starting;
+mod std_world;
+mod streams;
 mod texts;
 mod unread_sectors;
+mod upgrading;
+mod world;

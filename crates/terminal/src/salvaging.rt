@@ -1,6 +1,6 @@
 //! What can be had of a damaged image is put into a new file, and told of. The old one is opened for reading alone.
 //! Rule: MANUAL, forth83 salvage OLD NEW [--blocks N]; IMAGE, Layout 3, What can be had of a damaged image.
-ghost use Rattle.std.specs.Prelude.{◌≡◌, ◌≢◌, ◌⊎◌, ◌<◌, ◌++◌, true, ⊤, Some, None, string_bytes, IsTrue, IfErr, IfOk, IfSome, MatchResult, OnOk, is_some, option_map};
+ghost use Rattle.std.specs.Prelude.{◌≡◌, ◌≢◌, ◌⊎◌, ◌<◌, ◌++◌, true, Some, None, string_bytes, IsTrue, IfErr, IfOk, MatchResult, OnOk, option_map};
 ghost use Rattle.std.specs.Io.KnownBytes.{Appends};
 ghost use Rattle.sector_disk.specs.Counting.{count_up};
 ghost use Rattle.journal.specs.Calls.{StopsLeave};
@@ -10,27 +10,22 @@ ghost use Rattle.recovery.specs.Label.{is_size};
 ghost use Rattle.recovery.specs.Steps.{OnlyRead, WentWell};
 ghost use Rattle.image_care.specs.Made.{MakingLeaves};
 ghost use Rattle.image_care.specs.Salvaged.{salvage_refusal, salvaged_blocks};
-ghost use Rattle.terminal.specs.Care.{SalvageDone};
 ghost use Rattle.terminal.specs.Copying.{Salvages, no_recovery, pages_no_recovery, salvage_told, salvaged_count, sectors_for_salvage, standing_by};
 ghost use Rattle.terminal.specs.Damage.{damage_told};
-ghost use Rattle.terminal.specs.Done.{EachLeft, IsGiven, LeavesBlocks};
-ghost use Rattle.terminal.specs.Failed.{IsUntouched, MakesSalvageInPart, SalvageFailed, SalvageFails};
+ghost use Rattle.terminal.specs.Done.{LeavesBlocks};
+ghost use Rattle.terminal.specs.Failed.{SalvageFails};
 ghost use Rattle.terminal.specs.Failures.{of_upgrade};
-ghost use Rattle.terminal.specs.Files.{IsMade, IsOpened, IsUnfinished};
-ghost use Rattle.terminal.specs.Through.{MakesSalvage};
 
 use super::checking::print;
-use super::copying::{copied, make_file, sectors_by};
+use super::copying::sectors_by;
 use super::damage::add_damage_line;
 use super::failure::Failure;
-use super::left::Left;
-use super::salvaging_through::salvage_through;
 use image_care::pages::Standing;
 use image_care::{Taken, salvage};
 use journal::layout::is_listed;
 use journal::pages::layout::blocks_of_size;
 use journal::sizes::{Layout, size_by, size_of};
-use sector_disk::{HostFile, HostFiles, SectorDevice, SectorFile, open_disk};
+use sector_disk::SectorDevice;
 use std::alloc::{AllocError, Global};
 use std::io::Write;
 
@@ -38,82 +33,8 @@ use std::io::Write;
 const NO_RECOVERY: &str =
     "salvaged, not recovered: of a save that was under way some blocks may be old and some new\n";
 
-/// Makes an image of what can be had of a damaged one, by the same layout, in a new file, tells that this is no
-/// recovery, and gives both files. Nothing is made where the old one has the size of no image, or of one of another
-/// number of blocks than is asked for (`BadSize`), or where it can't be opened (`CannotOpen`, `InUse`); and whatever
-/// has the new name already stays as it is (`Exists`). `CannotOpen` or `InUse` come also where the new file can't be
-/// made or finished, with no call of the old one. Its other failures are those of `salvage_through`. A new file that
-/// was begun stays at each of these.
-pub fn salvage_image<K: HostFile, P: HostFiles<K>, H: HostFile, O: HostFiles<H>, W: Write>(
-    alloc: Global,
-    looking: &P,
-    files: &O,
-    old: &str,
-    new: &str,
-    asked: Option<u16>,
-    output: &mut W,
-) -> (Left<SectorFile<H>, SectorFile<K>>, Result<(), Failure>)
-    // Ok only where the new file was made and became an image of what was had of the old one, and where that was told.
-    ensures made { OnOk result.1 (SalvageDone ⟦<SectorFile<K> as SectorDevice>⟧ ⟦<SectorFile<H> as SectorDevice>⟧
-        (IsOpened K.HostFile (P.opens looking.now old.now)) (IsMade H.HostFile (O.makes files.now new.now)) asked
-        (W.contents output.old) (W.contents output.new) result.0) }
-    // No call of the new one failed. How many reads of the old one failed is told above: one for each sector that couldn't be read.
-    ensures well { OnOk result.1 (EachLeft (λ device. ⟦<SectorFile<H> as SectorDevice>⟧.failures device ≡ 0) (λ _. ⊤) result.0) }
-    ensures failed { IfErr result.1 (λ failure. SalvageFailed ⟦<SectorFile<K> as SectorDevice>⟧ ⟦<SectorFile<H> as SectorDevice>⟧
-        (IsOpened K.HostFile (P.opens looking.now old.now)) (IsMade H.HostFile (O.makes files.now new.now))
-        (IsUnfinished H.HostFile (O.makes files.now new.now)) asked failure result.0) }
-    // Nothing was printed, but where the output failed.
-    ensures unprinted { IfErr result.1 (λ e. e ≢ Failure.CannotWrite → output.new ≡ output.old) }
-    // No session has begun that could stop.
-    ensures unstopped { IfErr result.1 (λ e. e ≢ Failure.Stopped) }
-{
-    match open_disk(looking, old) {
-        Ok(mut source) => {
-            let (target, outcome) = salvage_into(alloc, &mut source, files, new, asked, output);
-            (copied(source, target), outcome)
-        }
-        Err(fault) => (Left::Nothing, Err(Failure::from(fault))),
-    }
-}
-
-/// Salvages the image on a device, into a new file, and gives that one, if it was made.
-fn salvage_into<A: SectorDevice, H: HostFile, O: HostFiles<H>, W: Write>(
-    alloc: Global,
-    source: &mut A,
-    files: &O,
-    new: &str,
-    asked: Option<u16>,
-    output: &mut W,
-) -> (Option<SectorFile<H>>, Result<(), Failure>)
-    ensures made { OnOk result.1 (IsGiven result.0 (λ target. MakesSalvage A.SectorDevice ⟦<SectorFile<H> as SectorDevice>⟧
-        (IsMade H.HostFile (O.makes files.now new.now)) asked (W.contents output.old) (W.contents output.new)
-        source.old source.new target)) }
-    // Whatever the answer is, nothing of the old image was written or synced.
-    ensures kept { OnlyRead A.SectorDevice source.old source.new }
-    ensures new_well { OnOk result.1 (IfSome result.0 (λ target. ⟦<SectorFile<H> as SectorDevice>⟧.failures target ≡ 0)) }
-    // Where it failed, an image may be made in part, or its file, or no call of the old one was made.
-    ensures failed { IfErr result.1 (λ failure. IfSome result.0 (λ target. MakesSalvageInPart A.SectorDevice ⟦<SectorFile<H> as SectorDevice>⟧
-        (IsMade H.HostFile (O.makes files.now new.now)) (IsUnfinished H.HostFile (O.makes files.now new.now)) asked failure
-        source.old source.new target)) }
-    ensures unmade { IfErr result.1 (λ failure. result.0 ≡ None
-        → IsUntouched (λ device. is_some (sectors_for_salvage (A.sector_count device) asked)) failure source.old source.new) }
-    ensures unprinted { IfErr result.1 (λ e. e ≢ Failure.CannotWrite → output.new ≡ output.old) }
-    ensures unstopped { IfErr result.1 (λ e. e ≢ Failure.Stopped) }
-{
-    let Some(sectors) = sectors_for_salvage(source.sectors(), asked) else {
-        return (None, Err(Failure::BadSize));
-    };
-    match make_file(files, new, sectors) {
-        Ok(mut target) => {
-            let outcome = salvage_through(alloc, source, &mut target, output);
-            (Some(target), outcome)
-        }
-        Err((failure, unfinished)) => (unfinished, Err(failure)),
-    }
-}
-
 /// How many sectors the image has that is salvaged of one on so many, which is to have so many blocks.
-fn sectors_for_salvage(sectors: u32, asked: Option<u16>) -> Option<u32>
+pub(super) fn sectors_for_salvage(sectors: u32, asked: Option<u16>) -> Option<u32>
     ensures { result ≡ sectors_for_salvage sectors asked }
 {
     match size_of(sectors) {
@@ -172,7 +93,6 @@ pub fn salvage_over<A: SectorDevice, B: SectorDevice, W: Write>(
     ensures failed { IfErr result (λ failure. SalvageFails A.SectorDevice B.SectorDevice failure old.old old.new new.old new.new) }
     // Where nothing was salvaged, nothing is told.
     ensures untold { IfErr result (λ e. e ≢ Failure.CannotWrite → output.new ≡ output.old) }
-    ensures unstopped { IfErr result (λ e. e ≢ Failure.Stopped) }
 {
     match salvage(old, new) {
         Ok(taken) => tell_salvage(alloc, old.sectors(), &taken, output),

@@ -30,13 +30,10 @@ pub fn salvage_through<A: SectorDevice, B: SectorDevice, W: Write>(
     ensures salvages { OnOk result (SalvagesThrough A.SectorDevice B.SectorDevice
         (W.contents output.old) (W.contents output.new) old.old old.new new.old new.new) }
     ensures new_well { OnOk result (B.failures new.new ≡ B.failures new.old) }
-    // Whatever the answer is, nothing of the old image was written or synced.
-    ensures kept { OnlyRead A.SectorDevice old.old old.new }
     // Where it failed, an image is made in part, or whole, or none.
     ensures failed { IfErr result (λ failure. SalvageThroughFails A.SectorDevice B.SectorDevice failure old.old old.new new.old new.new) }
     // Where nothing was salvaged, nothing is told.
     ensures untold { IfErr result (λ e. e ≢ Failure.CannotWrite → output.new ≡ output.old) }
-    ensures unstopped { IfErr result (λ e. e ≢ Failure.Stopped) }
 {
     let sectors = old.sectors();
     match read_through(alloc, old) {
@@ -65,7 +62,6 @@ fn salvage_read<A: SectorDevice, B: SectorDevice, W: Write>(
     ensures failed { IfErr result (λ failure. ReadFails A.SectorDevice B.SectorDevice sectors bytes.items unread.now failure
         old.old old.new new.old new.new) }
     ensures untold { IfErr result (λ e. e ≢ Failure.CannotWrite → output.new ≡ output.old) }
-    ensures unstopped { IfErr result (λ e. e ≢ Failure.Stopped) }
 {
     if all_were_read(unread) {
         salvage_over(alloc, old, new, output)
@@ -99,7 +95,6 @@ fn salvage_had<B: SectorDevice, W: Write>(
     ensures well { OnOk result (B.failures new.new ≡ B.failures new.old) }
     ensures failed { IfErr result (λ failure. HadFails B.SectorDevice sectors (image_of bytes.items) failure new.old new.new) }
     ensures untold { IfErr result (λ e. e ≢ Failure.CannotWrite → output.new ≡ output.old) }
-    ensures unstopped { IfErr result (λ e. e ≢ Failure.Stopped) }
 {
     match unread_text(alloc, sectors, unread) {
         Ok(text) => {
@@ -131,7 +126,6 @@ fn salvage_seen<B: SectorDevice, W: Write>(
     // Where it failed for the device, that is the new one.
     ensures failed { IfErr result (λ failure. HadInPart B.SectorDevice sectors (image_of bytes.now) failure new.old new.new) }
     ensures untold { IfErr result (λ e. e ≢ Failure.CannotWrite → output.new ≡ output.old) }
-    ensures unstopped { IfErr result (λ e. e ≢ Failure.Stopped) }
 {
     let mut seen = StillDisk::new(bytes, sectors);
     match salvage_over(alloc, &mut seen, new, output) {

@@ -43,7 +43,6 @@ pub(super) fn list_anyway<D: SectorDevice, W: Write>(
     ensures unprinted { IfErr result (λ e. e ≢ Failure.CannotWrite → output.new ≡ output.old) }
     // Whatever the answer is, nothing was written or synced.
     ensures only_read { OnlyRead D.SectorDevice device.old device.new }
-    ensures unstopped { failure ≢ Failure.Stopped → IfErr result (λ e. e ≢ Failure.Stopped) }
 {
     // of an image that is refused nothing is printed
     if is_of_device(failure) {
@@ -64,7 +63,6 @@ fn list_standing<D: SectorDevice, W: Write>(
     ensures failed { IfErr result (λ e. StandingFails D.SectorDevice block block e device.old device.new) }
     ensures unprinted { IfErr result (λ e. e ≢ Failure.CannotWrite → output.new ≡ output.old) }
     ensures only_read { OnlyRead D.SectorDevice device.old device.new }
-    ensures unstopped { IfErr result (λ e. e ≢ Failure.Stopped) }
 {
     match read_current(device, block) {
         Ok(Some(bytes)) => print(listing(&bytes).as_slice(), output),
@@ -94,7 +92,6 @@ pub(super) fn export_anyway<D: SectorDevice, W: Write>(
     ensures unprinted { IfErr result (λ e. e ≢ Failure.Device → e ≢ Failure.CannotWrite → output.new ≡ output.old) }
     // Whatever the answer is, nothing was written or synced.
     ensures only_read { OnlyRead D.SectorDevice device.old device.new }
-    ensures unstopped { failure ≢ Failure.Stopped → IfErr result (λ e. e ≢ Failure.Stopped) }
 {
     // of an image that is refused no block is printed
     if is_of_device(failure) {

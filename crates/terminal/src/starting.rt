@@ -2,11 +2,13 @@
 //! Rule: PROGRAM, Exit status and messages.
 ghost use Rattle.std.specs.Prelude.{◌↔◌, ◌≤ℤ◌, pos, IsTrue};
 
-use super::attending::{advise, greet, is_target_there};
+use super::attending::{advise, greet};
 use super::failure::Failure;
 use super::hints::hint;
 use super::input::{Input, Led};
-use super::program::{command, told, traced_in_memory};
+use super::program::{command_over, told, traced_in_memory};
+use super::std_world::StdWorld;
+use super::streams::Streams;
 use interpreter::promise::Lines;
 use sector_disk::{FileDisk, MemoryDisk};
 use sessions::ByteReader;
@@ -69,38 +71,53 @@ fn call_program<
     if is_attended {
         ask_for_traces(rt.alloc(), &mut words)?;
     }
-    let mut input = Led::new(rt.alloc(), ByteReader::new(input));
-    let mut output = BufWriter::new(rt.alloc(), output)?;
+    let input = Led::new(rt.alloc(), ByteReader::new(input));
+    let output = BufWriter::new(rt.alloc(), output)?;
     let words = words.as_slice();
     let is_typed = is_attended && is_terminal && greet(rt, words, errors);
-    let was_there = is_attended && is_target_there(rt, words);
     let messages = Messages {
         rt,
         words,
         is_typed,
         errors,
     };
-    let status = called::<F, M, _, _, _>(rt, words, is_attended, &mut input, &mut output, messages);
+    let streams = Streams {
+        input,
+        output,
+        errors: messages,
+    };
+    let status = called::<F, M, _, _, _>(rt, words, is_attended, streams);
     if is_attended {
-        advise(rt, words, was_there, status, errors);
+        advise(rt, words, status, errors);
     }
     Ok(status)
 }
 
 /// Does what the words ask for. A person is told where faults come in a session in memory too, which has no option for
 /// that.
-fn called<F: Lines<FileDisk>, M: Lines<MemoryDisk>, R: Input, W: Write, E: Write + Drop>(
+fn called<
+    F: Lines<FileDisk>,
+    M: Lines<MemoryDisk>,
+    R: Input + Drop,
+    W: Write + Drop,
+    E: Write + Drop,
+>(
     rt: &(impl Files<File = File> + AllocGlobal),
     words: &[String],
     is_attended: bool,
-    input: &mut R,
-    output: &mut W,
-    mut messages: E,
+    mut streams: Streams<R, W, E>,
 ) -> u8 {
     if is_attended && words.len() < 2 {
-        return traced_in_memory::<M, _, _, _>(rt, input, output, &mut messages);
+        return traced_in_memory::<M, _, _, _>(
+            rt,
+            &mut streams.input,
+            &mut streams.output,
+            &mut streams.errors,
+        );
     }
-    command::<F, M, _, _, _, _>(rt, words, input, output, &mut messages)
+    let here = StdWorld::new(rt, words);
+    let (_, status) = command_over(&here.reached::<F, M>(), words, &mut streams);
+    status
 }
 
 /// Has `run` tell where faults come, as with `--trace`, where it isn't asked for that already.

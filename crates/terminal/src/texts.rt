@@ -1,8 +1,7 @@
 //! The texts of a system, by their names: each is opened to be read from its beginning.
 //! Rule: MANUAL, Commands; PROGRAM, Exit status and messages.
-ghost use Rattle.std.specs.Prelude.{◌≡◌, ◌≢◌, ◌⊎◌, ℕ, List, IfOk, IfErr};
+ghost use Rattle.std.specs.Prelude.{◌≡◌, ◌≢◌, ℕ, List, IfOk, IfErr};
 
-use super::failure::Failure;
 use std::fs::{File, Files};
 use std::io::{BufReader, Read};
 
@@ -29,22 +28,6 @@ pub trait TextFiles<B: Read> {
     fn open(&self, path: &str) -> Result<B, TextFault>
         ensures opens { IfOk result (λ reader. opens self.now path.now reader) }
         ensures refuses { IfErr result (λ fault. fault ≡ TextFault.Cannot → refuses self.now path.now) };
-}
-
-/// Opens a text. Its failures: `CannotRead` where the system refuses, and `NoMemory`.
-pub(super) fn open_text<B: Read, Q: TextFiles<B>>(texts: &Q, path: &str) -> Result<B, Failure>
-    ensures opens { IfOk result (λ reader. Q.opens texts.now path.now reader) }
-    ensures refuses { IfErr result (λ e. e ≡ Failure.CannotRead → Q.refuses texts.now path.now) }
-    ensures only { IfErr result (λ e. (e ≡ Failure.CannotRead) ⊎ (e ≡ Failure.NoMemory)) }
-    ensures device { IfErr result (λ e. e ≢ Failure.Device) }
-    ensures others { IfErr result (λ e. e ≢ Failure.NoBlock) }
-    ensures unstopped { IfErr result (λ e. e ≢ Failure.Stopped) }
-{
-    match texts.open(path) {
-        Ok(reader) => Ok(reader),
-        Err(TextFault::Cannot) => Err(Failure::CannotRead),
-        Err(TextFault::NoMemory) => Err(Failure::NoMemory),
-    }
 }
 
 /// The texts of this system: files, each read through a buffer.

@@ -28,7 +28,6 @@ pub(super) fn tell_more<D: SectorDevice, W: Write>(
         device.old device.new) }
     ensures only_read { OnlyRead D.SectorDevice device.old device.new }
     ensures unprinted { IfErr result (λ e. e ≢ Failure.Device → e ≢ Failure.CannotWrite → output.new ≡ output.old) }
-    ensures unstopped { failure ≢ Failure.Stopped → IfErr result (λ e. e ≢ Failure.Stopped) }
 {
     if is_of_device(failure) {
         tell_sectors(alloc, device, output)
@@ -54,7 +53,6 @@ fn tell_sectors<D: SectorDevice, W: Write>(
     ensures told { IfErr result (λ e. UnreadTold D.SectorDevice (W.contents output.old) (W.contents output.new) e device.old device.new) }
     ensures only_read { OnlyRead D.SectorDevice device.old device.new }
     ensures unprinted { IfErr result (λ e. e ≢ Failure.Device → e ≢ Failure.CannotWrite → output.new ≡ output.old) }
-    ensures unstopped { IfErr result (λ e. e ≢ Failure.Stopped) }
 {
     match tell_unread(alloc, device, output) {
         Ok(()) => Err(Failure::Device),

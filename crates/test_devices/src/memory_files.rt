@@ -3,7 +3,7 @@ ghost use Rattle.std.specs.Prelude.{◌≡◌, ◌≢◌, IsTrue, IfOk, IfErr};
 ghost use Rattle.test_devices.specs.MemoryFiles.{IsReopened, file_in};
 
 use crate::{MemoryFile, Script};
-use sector_disk::{FileFault, HostFault, HostFile, HostFiles};
+use sector_disk::{FileFault, HostFile, HostFiles};
 use std::alloc::Global;
 
 /// A system of files in memory. Each name is that of one file: an opening gives it as it was when the system was made,
@@ -48,6 +48,8 @@ impl HostFiles<MemoryFile> for MemoryFiles {
 
     ghost makes = { λ files path file. IsReopened ⟦<MemoryFile as HostFile>⟧ (file_in files) file };
 
+    ghost named = { λ files path file. IsTrue (⟦<MemoryFile as HostFile>⟧.keeps_model file) };
+
     fn open(&self, _path: &str) -> Result<MemoryFile, FileFault> {
         self.opened()
     }
@@ -56,7 +58,9 @@ impl HostFiles<MemoryFile> for MemoryFiles {
         self.opened()
     }
 
-    fn keep_name(&self, _path: &str) -> Result<(), HostFault> {
+    fn keep_name(&self, _path: &str, _file: &MemoryFile) -> Result<(), FileFault> {
         Ok(())
     }
+
+    fn drop_made(&self, _path: &str, _file: &MemoryFile) {}
 }

@@ -1,5 +1,5 @@
 //! Copies and salvages of an image of which a save is under way: what becomes of its blocks, and what a stop leaves of both images.
-use super::stopping::{Disk, FATES, Fate, LENGTH, Making, NAMED, OneDisk, copying_is_stopped};
+use super::stopping::{Disk, FATES, FILLED, Fate, LENGTH, Making, OneDisk, copying_is_stopped};
 use super::support::{call_over, call_over_both, make_over, transcript};
 use super::systems::{BOTH, SAVED, SEVENS};
 use crate::assertions::{Assert, assert_same};
@@ -15,7 +15,7 @@ const NO_RECOVERY: &str =
 const COPY: Making = Making {
     words: &["forth83", "copy", "A", "A"],
     length: LENGTH,
-    named: NAMED,
+    filled: FILLED,
 };
 
 const SALVAGE: Making = Making {
@@ -66,7 +66,7 @@ fn saves_that_are_under_way(rt: HostRuntime) -> Result<(), Fail> {
 }
 
 /// A copy is stopped at each call of either device, with one fate after another, and at the last ones with each: the old image stays
-/// byte for byte as it was, and the new one is none, or whole.
+/// byte for byte as it was, and nothing has the new name.
 #[test]
 fn copies_that_are_stopped(rt: HostRuntime) -> Result<(), Fail> {
     copyings_are_stopped(&rt, COPY)
@@ -91,11 +91,11 @@ fn copyings_are_stopped(
     let calls = new.calls();
     assert!(rt; left.status == 0 && (130..400).contains(&calls), "{calls}");
     for (k, fate) in (0..calls).zip(FATES.iter().cycle()) {
-        copying_is_stopped(rt, making, &old, k, *fate)?;
+        copying_is_stopped(rt, making, &old, (k, calls), *fate)?;
     }
     for k in calls.saturating_sub(6)..calls {
         for fate in FATES {
-            copying_is_stopped(rt, making, &old, k, fate)?;
+            copying_is_stopped(rt, making, &old, (k, calls), fate)?;
         }
     }
     assert!(rt; old.copy(rt)? == before, "{making:?}");

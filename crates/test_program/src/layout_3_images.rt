@@ -7,29 +7,29 @@ use std::test::Fail;
 /// The bytes of an image of 32 blocks.
 pub(crate) const LENGTH: usize = 278_528;
 
-/// The call that makes the name of such a file stay, counted from 0: five writes of zeros and a sync come before it.
-pub(crate) const NAMED: u64 = 6;
+/// How many calls fill such a file: five writes of zeros and a sync.
+pub(crate) const FILLED: u64 = 6;
 
 const MAKING: Making = Making {
     words: &["forth83", "new", "A", "--blocks", "32", "--layout", "3"],
     length: LENGTH,
-    named: NAMED,
+    filled: FILLED,
 };
 
 const UPGRADE: Upgrade = Upgrade {
     words: &["forth83", "upgrade", "OLD", "NEW", "--layout", "3"],
     length: LENGTH,
-    named: NAMED,
+    filled: FILLED,
     // Not a multiple of the four calls that a block takes.
     each: 13,
 };
 
-/// `new` by layout 3 is stopped: the file is no image, or a whole one of blank blocks.
+/// `new` by layout 3 is stopped: nothing has the name.
 #[test]
 fn makings_of_layout_3_that_are_stopped(rt: HostRuntime) -> Result<(), Fail> {
     let calls = making_is_stopped_now_and_then(&rt, MAKING)?;
-    // After the file is made: a sync and a read of the label, four sectors of each block, gate and records, a sync, the label and a sync.
-    assert_same!(rt; calls, 7 + 2 + 4 * 32 + 3 + 1 + 2);
+    // After the file is filled: a sync and a read of the label, four sectors of each block, gate and records, a sync, the label and a sync, and its name.
+    assert_same!(rt; calls, FILLED + 2 + 4 * 32 + 3 + 1 + 2 + 1);
     Ok(())
 }
 
@@ -42,5 +42,5 @@ fn upgrades_to_layout_3_whose_old_image_fails(rt: HostRuntime) -> Result<(), Fai
 /// Calls of the new one fail.
 #[test]
 fn upgrades_to_layout_3_whose_new_image_fails(rt: HostRuntime) -> Result<(), Fail> {
-    new_image_fails(&rt, UPGRADE, 7 + 2 + 4 * 32 + 3 + 1 + 2)
+    new_image_fails(&rt, UPGRADE, FILLED + 2 + 4 * 32 + 3 + 1 + 2 + 1)
 }

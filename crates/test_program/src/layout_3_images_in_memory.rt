@@ -1,5 +1,5 @@
 //! Images of layout 3 on disks in memory, whose calls fail and are stopped, that are checked, copied, salvaged, and listed and exported by reads alone.
-use super::layout_3_images::{LENGTH, NAMED};
+use super::layout_3_images::{FILLED, LENGTH};
 use super::stopping::{Disk, FATES, Fate, Making, OneDisk, Opened, copying_is_stopped};
 use super::support::{
     DEVICE_FAULT, Left, call_over, call_over_both, check, overwrite, run_over_files, told_of_making,
@@ -18,13 +18,13 @@ use std::test::Fail;
 const BOTH_SEVENS: &[(u16, &str)] = &[(1, "\x07\x00"), (2, "\x07\x00")];
 
 /// What each salvage tells.
-const PAGES_NO_RECOVERY: &str =
+pub(crate) const PAGES_NO_RECOVERY: &str =
     "salvaged, not recovered: a damaged block may be older, or written and not saved, or blank\n";
 
 const COPY: Making = Making {
     words: &["forth83", "copy", "A", "A"],
     length: LENGTH,
-    named: NAMED,
+    filled: FILLED,
 };
 
 const SALVAGE: Making = Making {
@@ -268,7 +268,7 @@ fn images_of_layout_3_with_a_sector_that_cannot_be_read(rt: HostRuntime) -> Resu
 }
 
 /// A copy is stopped at each eleventh call of either device, and at the last ones with each fate: the old image stays byte for byte as it was, and
-/// the new one is none, or whole.
+/// nothing has the new name.
 #[test]
 fn copies_of_layout_3_that_are_stopped(rt: HostRuntime) -> Result<(), Fail> {
     // Of the old image label, gate, record and each block with its tag, and then the two sectors of each block.
@@ -294,19 +294,19 @@ fn copyings_are_stopped(
     let left = call_over_both(rt, &files, &looking, making.words, b"");
     let calls = new.calls();
     assert_same!(rt; left.status, 0, "{making:?}");
-    // The file is made first; then come a sync and a read of the label, four sectors of each block, gate and records, a sync, the label and a sync.
-    let made = NAMED + 1;
+    // The file is filled first; then come a sync and a read of the label, four sectors of each block, gate and records, a sync, the label and a sync, and its
+    // name.
     assert_same!(rt;
         calls,
-        made + reads as u64 + 2 + 4 * 32 + 3 + 1 + 2,
+        FILLED + reads as u64 + 2 + 4 * 32 + 3 + 1 + 2 + 1,
         "{making:?}"
     );
     for (k, fate) in (0..calls).step_by(11).zip(FATES.iter().cycle()) {
-        copying_is_stopped(rt, making, &old, k, *fate)?;
+        copying_is_stopped(rt, making, &old, (k, calls), *fate)?;
     }
     for k in calls.saturating_sub(6)..calls {
         for fate in FATES {
-            copying_is_stopped(rt, making, &old, k, fate)?;
+            copying_is_stopped(rt, making, &old, (k, calls), fate)?;
         }
     }
     assert!(rt; old.copy(rt)? == before, "{making:?}");
@@ -326,6 +326,8 @@ impl<'a> HostFiles<Opened<'a>> for Unwritable<'a> {
 
     ghost makes = { λ files path file. Unit {0} };
 
+    ghost named = { λ files path file. Unit {0} };
+
     fn open(&self, _path: &str) -> Result<Opened<'a>, FileFault> {
         Err(if self.is_in_use {
             FileFault::InUse
@@ -338,8 +340,12 @@ impl<'a> HostFiles<Opened<'a>> for Unwritable<'a> {
         self.files.make(path)
     }
 
-    fn keep_name(&self, path: &str) -> Result<(), HostFault> {
-        self.files.keep_name(path)
+    fn keep_name(&self, path: &str, file: &Opened<'a>) -> Result<(), FileFault> {
+        self.files.keep_name(path, file)
+    }
+
+    fn drop_made(&self, path: &str, file: &Opened<'a>) {
+        self.files.drop_made(path, file)
     }
 }
 
@@ -414,8 +420,10 @@ fn listings_by_reads_alone_that_are_refused(rt: HostRuntime) -> Result<(), Fail>
     }
     // So many sectors no image has: 542.
     let cut = Disk::of_length(&rt, 277_504)?;
-    let _ = OneDisk::new(&cut).make("A");
+    let files = OneDisk::new(&cut);
+    files.keep_name("A", &files.make("A")?)?;
     cut.set(whole.as_slice());
+    cut.begin(u64::MAX);
     check_unlisted(&rt, &cut, "1", "bad size")?;
     assert_same!(rt; cut.calls(), 0);
     Ok(())

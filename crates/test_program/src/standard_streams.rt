@@ -1,4 +1,5 @@
 //! The standard streams of the program: outputs that fail, inputs that fail, and how many calls reach them.
+use super::layout_3_images_in_memory::PAGES_NO_RECOVERY;
 use super::streams::{Failing, Narrow};
 use super::support::{call, check, command, fresh_folder, overwrite};
 use crate::assertions::{Assert, assert_same};
@@ -47,7 +48,8 @@ fn outputs_that_fail(rt: HostRuntime) -> Result<(), Fail> {
         check_narrow(&rt, &["forth83", "--help"], 10, failing);
         let salvage = ["forth83", "salvage", path, "program_outputs/B"];
         check_narrow(&rt, &salvage, 20, failing);
-        fs::remove_file(&rt, "program_outputs/B")?;
+        assert!(rt; fs::metadata(&rt, "program_outputs/B").is_err());
+        assert!(rt; fs::metadata(&rt, "program_outputs/B.part").is_err());
     }
     fs::remove_dir_all(&rt, "program_outputs")?;
     Ok(())
@@ -89,7 +91,7 @@ const SAVES: [&[u8]; 2] = [b"1 5 BLOCK ! UPDATE FLUSH\n", b"2 5 BLOCK ! UPDATE F
 /// Prints what was saved there.
 const FIFTH: &[u8] = b"5 BLOCK @ .\n";
 
-/// What can't be printed is told, and what was to be salvaged is there.
+/// What can't be printed is told, and nothing has the name of what was to be salvaged: the next salvage makes it.
 #[test]
 fn outputs_of_checks_and_salvages_that_fail(rt: HostRuntime) -> Result<(), Fail> {
     fresh_folder(&rt, "program_newer_outputs")?;
@@ -104,11 +106,23 @@ fn outputs_of_checks_and_salvages_that_fail(rt: HostRuntime) -> Result<(), Fail>
     let mut damaged = whole.clone()?;
     overwrite(damaged.as_mut_slice(), 57_344, b"x");
     for failing in [Failing::Refuses, Failing::TakesNone] {
-        for (bytes, fifth) in [(&whole, b"2  ok\n".as_slice()), (&damaged, b"1  ok\n")] {
+        for (bytes, damage, fifth) in [
+            (&whole, "", b"2  ok\n".as_slice()),
+            (
+                &damaged,
+                "block 5: damaged, whole in its other place\n",
+                b"1  ok\n",
+            ),
+        ] {
             fs::write(&rt, old, bytes.as_slice())?;
             check_narrow(&rt, &["forth83", "check", old], 0, failing);
             check_narrow(&rt, &["forth83", "check", old], 20, failing);
-            check_narrow(&rt, &["forth83", "salvage", old, new], 20, failing);
+            let salvage = ["forth83", "salvage", old, new];
+            check_narrow(&rt, &salvage, 20, failing);
+            assert!(rt; fs::metadata(&rt, new).is_err());
+            assert!(rt; fs::metadata(&rt, "program_newer_outputs/NEW.part").is_err());
+            let told = format!(in rt.alloc(); "{damage}{PAGES_NO_RECOVERY}")?;
+            check(&rt, &salvage, b"", 0, told.as_bytes(), b"");
             check(&rt, &["forth83", "run", new], FIFTH, 0, fifth, b"");
             fs::remove_file(&rt, new)?;
         }
@@ -249,7 +263,6 @@ fn texts_and_statuses(rt: HostRuntime) -> Result<(), Fail> {
         (Failure::NotAScreen, "input: not a screen 4"),
         (Failure::CannotWrite, "output: cannot write 4"),
         (Failure::NoMemory, "no memory 5"),
-        (Failure::Stopped, "input: a fault ended a line 1"),
     ];
     for (failure, text) in rows {
         let shown = format!(in rt.alloc(); "{failure} {}", failure.status())?;

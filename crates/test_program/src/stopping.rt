@@ -13,8 +13,8 @@ use std::test::Fail;
 /// The bytes of an image of 32 blocks by layout 2.
 pub(crate) const LENGTH: usize = 67_072;
 
-/// The call that makes the name of such a file stay, counted from 0: two writes of zeros and a sync come before it.
-pub(crate) const NAMED: u64 = 3;
+/// How many calls fill such a file: two writes of zeros and a sync.
+pub(crate) const FILLED: u64 = 3;
 
 /// What becomes of the sectors that weren't synced.
 #[derive(Clone, Copy, Debug, PartialEq, Eq)]
@@ -104,6 +104,8 @@ impl Bytes {
 pub(crate) struct Disk {
     bytes: RefCell<Bytes>,
     is_there: Cell<bool>,
+    // It is being made: it has no name yet, and wasn't let go of.
+    is_begun: Cell<bool>,
     made: Cell<u64>,
     stops_at: Cell<u64>,
     scar: Cell<u64>,
@@ -126,6 +128,7 @@ impl Disk {
                 unsynced,
             }),
             is_there: Cell::new(false),
+            is_begun: Cell::new(false),
             made: Cell::new(0),
             stops_at: Cell::new(u64::MAX),
             scar: Cell::new(u64::MAX),
@@ -293,6 +296,8 @@ impl<'a> HostFiles<Opened<'a>> for OneDisk<'a> {
 
     ghost makes = { λ files path file. Unit {0} };
 
+    ghost named = { λ files path file. Unit {0} };
+
     fn open(&self, path: &str) -> Result<Opened<'a>, FileFault> {
         if path != "A" || !self.disk.is_there.get() {
             return Err(FileFault::Cannot);
@@ -307,8 +312,11 @@ impl<'a> HostFiles<Opened<'a>> for OneDisk<'a> {
         if path != "A" {
             return Err(FileFault::Cannot);
         }
-        if self.disk.is_there.replace(true) {
+        if self.disk.is_there.get() {
             return Err(FileFault::Exists);
+        }
+        if self.disk.is_begun.replace(true) {
+            return Err(FileFault::InUse);
         }
         Ok(Opened {
             disk: self.disk,
@@ -316,9 +324,23 @@ impl<'a> HostFiles<Opened<'a>> for OneDisk<'a> {
         })
     }
 
-    fn keep_name(&self, _path: &str) -> Result<(), HostFault> {
+    fn keep_name(&self, path: &str, _file: &Opened<'a>) -> Result<(), FileFault> {
         let (_, outcome) = self.power.next(0);
-        outcome
+        outcome.map_err(|_| FileFault::Cannot)?;
+        if path != "A" || !self.disk.is_begun.get() {
+            return Err(FileFault::Cannot);
+        }
+        if self.disk.is_there.replace(true) {
+            return Err(FileFault::Exists);
+        }
+        self.disk.is_begun.set(false);
+        Ok(())
+    }
+
+    fn drop_made(&self, path: &str, _file: &Opened<'a>) {
+        if path == "A" {
+            self.disk.is_begun.set(false);
+        }
     }
 }
 
@@ -399,21 +421,21 @@ pub(crate) struct Making {
     pub(crate) words: &'static [&'static str],
     /// How many bytes its file has.
     pub(crate) length: usize,
-    /// The call that makes the name of the file stay, counted from 0.
-    pub(crate) named: u64,
+    /// How many calls fill the file.
+    pub(crate) filled: u64,
 }
 
 const MAKING: Making = Making {
     words: &["forth83", "new", "A", "--blocks", "32"],
     length: LENGTH,
-    named: NAMED,
+    filled: FILLED,
 };
 
-/// `new` is stopped at each sixteenth call, and at the last ones: the file is no image, or a whole one of blank blocks.
+/// `new` is stopped at each sixteenth call, and at the last ones: nothing has the name.
 #[test]
 fn makings_that_are_stopped(rt: HostRuntime) -> Result<(), Fail> {
     let calls = making_is_stopped_now_and_then(&rt, MAKING)?;
-    assert_same!(rt; calls, 4 + 71);
+    assert_same!(rt; calls, FILLED + 71 + 1);
     Ok(())
 }
 
@@ -428,19 +450,20 @@ pub(crate) fn making_is_stopped_now_and_then(
     let calls = disk.made.get();
     for k in (0..calls).rev().step_by(16) {
         for fate in FATES {
-            making_is_stopped(rt, making, k, fate)?;
+            making_is_stopped(rt, making, (k, calls), fate)?;
         }
     }
     for k in calls.saturating_sub(8)..calls {
-        making_is_stopped(rt, making, k, Fate::EvenKept)?;
+        making_is_stopped(rt, making, (k, calls), Fate::EvenKept)?;
     }
     Ok(calls)
 }
 
+/// It is stopped at a call, of so many. Nothing has the name then, and the next making gives a whole image.
 fn making_is_stopped(
     rt: &(impl Files<File = File> + AllocGlobal + Abort),
     making: Making,
-    k: u64,
+    (k, calls): (u64, u64),
     fate: Fate,
 ) -> Result<(), Fail> {
     let disk = Disk::of_length(rt, making.length)?;
@@ -448,43 +471,54 @@ fn making_is_stopped(
     disk.begin(k);
     let left = call_over(rt, &files, making.words, b"");
     assert_same!(rt; left.status, 3, "at {k}");
-    let told = told_of_making(k, making.named).as_bytes();
+    let told = told_of_making(k, making.filled, calls).as_bytes();
     assert_same!(rt; left.errors.as_slice(), told, "at {k}");
     disk.restart(fate);
-    is_none_or(rt, &files, BLANK, k, fate)
+    is_not_there(rt, &files, k);
+    let left = call_over(rt, &files, making.words, b"");
+    assert_same!(rt; (left.status, left.errors.as_slice()), (0, b"".as_slice()), "at {k}");
+    is_there(rt, &files, BLANK, k);
+    Ok(())
 }
 
-/// A copy or a salvage of an image with sevens in both blocks is stopped: the new file is no image, or a whole one.
+/// A copy or a salvage of an image with sevens in both blocks is stopped at a call, of so many: nothing has the new name then, and the next one makes a whole
+/// image.
 pub(crate) fn copying_is_stopped(
     rt: &(impl Files<File = File> + AllocGlobal + Abort),
     making: Making,
     old: &Disk,
-    k: u64,
+    (k, calls): (u64, u64),
     fate: Fate,
 ) -> Result<(), Fail> {
     let new = Disk::of_length(rt, making.length)?;
     let (looking, files) = (OneDisk::beside(old, &new), OneDisk::new(&new));
     new.begin(k);
     let left = call_over_both(rt, &files, &looking, making.words, b"");
-    assert_same!(rt; (left.status, left.output.is_empty()), (3, true), "at {k}");
-    let told = told_of_making(k, making.named).as_bytes();
+    let told = told_of_making(k, making.filled, calls).as_bytes();
+    assert_same!(rt; left.status, 3, "at {k}");
     assert_same!(rt; left.errors.as_slice(), told, "at {k}");
     new.restart(fate);
-    is_none_or(rt, &files, SEVENS, k, fate)
+    is_not_there(rt, &files, k);
+    let left = call_over_both(rt, &files, &looking, making.words, b"");
+    assert_same!(rt; (left.status, left.errors.as_slice()), (0, b"".as_slice()), "at {k}");
+    is_there(rt, &files, SEVENS, k);
+    Ok(())
 }
 
-/// The file is no image, or one of which a session prints this of both blocks.
-fn is_none_or(
+/// Nothing has the name.
+fn is_not_there(rt: &(impl Files<File = File> + AllocGlobal + Abort), files: &OneDisk<'_>, k: u64) {
+    let left = call_over(rt, files, &["forth83", "run", "A"], BOTH.as_bytes());
+    assert_same!(rt; left.status, 3, "at {k}");
+    assert_same!(rt; left.errors.as_slice(), b"forth83: image: cannot open\n".as_slice(), "at {k}");
+}
+
+/// It is the name of an image of which a session prints this of both blocks.
+fn is_there(
     rt: &(impl Files<File = File> + AllocGlobal + Abort),
     files: &OneDisk<'_>,
     printed: &str,
     k: u64,
-    fate: Fate,
-) -> Result<(), Fail> {
+) {
     let left = call_over(rt, files, &["forth83", "run", "A"], BOTH.as_bytes());
-    let is_none = left.status == 3
-        && left.errors.as_slice() == b"forth83: image: no label\n".as_slice();
-    let is_whole = left.status == 0 && left.output.as_slice() == printed.as_bytes();
-    assert!(rt; is_none || is_whole, "{fate:?} at {k}");
-    Ok(())
+    assert_same!(rt; (left.status, left.output.as_slice()), (0, printed.as_bytes()), "at {k}");
 }

@@ -13,7 +13,7 @@ use std::rt::Files;
 use std::test::Fail;
 use std::{fs, io};
 use stores::Store;
-use terminal::{Led, StdTexts, TextFiles};
+use terminal::{Led, Reached, StdTexts, StdWorld, Streams, TextFiles, command_over};
 
 /// What a call of the program left.
 #[derive(Debug, Drop)]
@@ -26,9 +26,9 @@ pub(crate) struct Left {
 /// What is told where a call of an image fails.
 pub(crate) const DEVICE_FAULT: &str = "forth83: image: device fault\n";
 
-/// What is told where call `k` of an image that is being made fails. Up to `named`, which makes the name stay, they make its file.
-pub(crate) fn told_of_making(k: u64, named: u64) -> &'static str {
-    if k <= named {
+/// What is told where call `k` fails of those that make an image, of which there are so many. The first ones fill its file, and the last one gives it its name.
+pub(crate) fn told_of_making(k: u64, filled: u64, calls: u64) -> &'static str {
+    if k < filled || k.saturating_add(1) == calls {
         "forth83: image: cannot open\n"
     } else {
         DEVICE_FAULT
@@ -36,20 +36,25 @@ pub(crate) fn told_of_making(k: u64, named: u64) -> &'static str {
 }
 
 /// The program, over systems of the whole language.
-pub(crate) fn command<R: Read, W: Write, E: Write>(
+pub(crate) fn command<R: Read + Drop, W: Write + Drop, E: Write + Drop>(
     rt: &(impl Files<File = File> + AllocGlobal),
     words: &[&str],
-    input: &mut R,
-    output: &mut W,
-    errors: &mut E,
+    input: R,
+    output: W,
+    errors: E,
 ) -> u8 {
-    terminal::command::<Forth<FileDisk>, Forth<MemoryDisk>, _, Led<&mut R>, W, E>(
-        rt,
-        words,
-        &mut Led::new(rt.alloc(), input),
+    let mut streams = Streams {
+        input: Led::new(rt.alloc(), input),
         output,
         errors,
-    )
+    };
+    let here = StdWorld::new(rt, words);
+    let (_, status) = command_over(
+        &here.reached::<Forth<FileDisk>, Forth<MemoryDisk>>(),
+        words,
+        &mut streams,
+    );
+    status
 }
 
 /// Calls the program.
@@ -120,33 +125,20 @@ pub(crate) fn call_over_texts<
     B: Read + Drop,
     Q: TextFiles<B>,
 >(rt: &impl AllocGlobal, files: &O, looking: &P, texts: &Q, words: &[&str], input: &[u8]) -> Left {
-    let mut input = Led::new(rt.alloc(), input);
-    let mut output: Vec<u8> = Vec::new(rt.alloc());
-    let mut errors: Vec<u8> = Vec::new(rt.alloc());
-    let (_, status) = terminal::command_over::<
-        _,
-        _,
-        _,
-        _,
-        _,
-        _,
-        Forth<SectorFile<H>>,
-        Forth<MemoryDisk>,
-        _,
-        _,
-        _,
-        _,
-    >(
-        rt,
+    let world = Reached::<H, K, B, Forth<SectorFile<H>>, Forth<MemoryDisk>, O, P, Q>::new(
+        rt.alloc(),
         files,
         looking,
         looking,
         texts,
-        words,
-        &mut input,
-        &mut output,
-        &mut errors,
     );
+    let mut streams = Streams {
+        input: Led::new(rt.alloc(), input),
+        output: Vec::new(rt.alloc()),
+        errors: Vec::new(rt.alloc()),
+    };
+    let (_, status) = command_over(&world, words, &mut streams);
+    let Streams { output, errors, .. } = streams;
     Left {
         status,
         output,

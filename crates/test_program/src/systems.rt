@@ -16,6 +16,9 @@ use test_devices::{MemoryFile, Script};
 /// How many sectors an image of 32 blocks has by layout 2.
 const SECTORS: u32 = 131;
 
+/// How many calls fill the file of one: a write of each sector, since a call of a file in memory moves no more, and a sync.
+const FILLED: u64 = SECTORS as u64 + 1;
+
 /// What the calls of a system's files do, and how many there were.
 #[derive(Drop)]
 struct Calls {
@@ -23,7 +26,6 @@ struct Calls {
     interrupted: Cell<u64>,
     fails_at: Cell<u64>,
     made: Cell<u64>,
-    named: Cell<u64>,
     writes: Cell<u64>,
     openings: Cell<u64>,
 }
@@ -35,7 +37,6 @@ impl Calls {
             interrupted: Cell::new(0),
             fails_at: Cell::new(u64::MAX),
             made: Cell::new(0),
-            named: Cell::new(0),
             writes: Cell::new(0),
             openings: Cell::new(0),
         }
@@ -152,6 +153,8 @@ struct OneFile<'a> {
     file: &'a RefCell<MemoryFile>,
     calls: &'a Calls,
     is_there: Cell<bool>,
+    // It is being made: it has no name yet, and wasn't let go of.
+    is_begun: Cell<bool>,
 }
 
 impl<'a> OneFile<'a> {
@@ -161,6 +164,7 @@ impl<'a> OneFile<'a> {
             file,
             calls,
             is_there: Cell::new(false),
+            is_begun: Cell::new(false),
         }
     }
 }
@@ -169,6 +173,8 @@ impl<'a> HostFiles<Opened<'a>> for OneFile<'a> {
     ghost opens = { λ files path file. Unit {0} };
 
     ghost makes = { λ files path file. Unit {0} };
+
+    ghost named = { λ files path file. Unit {0} };
 
     fn open(&self, path: &str) -> Result<Opened<'a>, FileFault> {
         self.calls
@@ -187,8 +193,11 @@ impl<'a> HostFiles<Opened<'a>> for OneFile<'a> {
         if path != "A" {
             return Err(FileFault::Cannot);
         }
-        if self.is_there.replace(true) {
+        if self.is_there.get() {
             return Err(FileFault::Exists);
+        }
+        if self.is_begun.replace(true) {
+            return Err(FileFault::InUse);
         }
         Ok(Opened {
             file: self.file,
@@ -196,9 +205,22 @@ impl<'a> HostFiles<Opened<'a>> for OneFile<'a> {
         })
     }
 
-    fn keep_name(&self, _path: &str) -> Result<(), HostFault> {
-        self.calls.named.set(self.calls.made.get());
-        self.calls.next()
+    fn keep_name(&self, path: &str, _file: &Opened<'a>) -> Result<(), FileFault> {
+        self.calls.next().map_err(|_| FileFault::Cannot)?;
+        if path != "A" || !self.is_begun.get() {
+            return Err(FileFault::Cannot);
+        }
+        if self.is_there.replace(true) {
+            return Err(FileFault::Exists);
+        }
+        self.is_begun.set(false);
+        Ok(())
+    }
+
+    fn drop_made(&self, path: &str, _file: &Opened<'a>) {
+        if path == "A" {
+            self.is_begun.set(false);
+        }
     }
 }
 
@@ -373,26 +395,29 @@ fn saving_fails(
     Ok(made)
 }
 
-/// Each sixteenth call of `new` fails once, the last one too, and the one that makes the name stay: it is told, and the file stays.
+/// Each sixteenth call of `new` fails once, the last one too, which gives the name, and those where the file was just filled: it is told, and nothing has the
+/// name.
 #[test]
 fn images_whose_making_fails(rt: HostRuntime) -> Result<(), Fail> {
     let file = empty(&rt)?;
     let calls = Calls::new();
     let files = OneFile::new(&file, &calls);
     make_over(&rt, &files);
-    let named = calls.named.get();
-    for k in (0..calls.made.get()).rev().step_by(16) {
-        making_fails(&rt, k, named)?;
+    let made = calls.made.get();
+    // After the file is filled: a sync and a read of the label, gate and record, both sectors of each home, a sync, the label and a sync, and its name.
+    assert_same!(rt; made, FILLED + 2 + 2 + 2 * 32 + 1 + 2 + 1);
+    for k in (0..made).rev().step_by(16) {
+        making_fails(&rt, k, made)?;
     }
-    assert!(rt; named != 0);
-    making_fails(&rt, named, named)
+    making_fails(&rt, FILLED - 1, made)?;
+    making_fails(&rt, FILLED, made)
 }
 
-/// Makes an image, of which the call of this number fails; the call `named` makes its name stay.
+/// Makes an image, of which the call of this number fails, of so many. Nothing has its name then, and the next making goes well.
 fn making_fails(
     rt: &(impl Files<File = File> + AllocGlobal + Abort),
     k: u64,
-    named: u64,
+    made: u64,
 ) -> Result<(), Fail> {
     let file = empty(rt)?;
     let calls = Calls::new();
@@ -403,13 +428,14 @@ fn making_fails(
     assert_same!(rt; (left.status, left.output.is_empty()), (3, true), "at {k}");
     assert_same!(rt;
         left.errors.as_slice(),
-        told_of_making(k, named).as_bytes(),
+        told_of_making(k, FILLED, made).as_bytes(),
         "at {k}"
     );
+    assert!(rt; !files.is_there.get(), "at {k}");
     let left = call_over(rt, &files, words, b"");
     assert_same!(rt;
         (left.status, left.errors.as_slice()),
-        (3, b"forth83: image: exists\n".as_slice()),
+        (0, b"".as_slice()),
         "at {k}"
     );
     Ok(())
@@ -558,6 +584,8 @@ impl<'a> HostFiles<Opened<'a>> for Unwritable<'a, '_> {
 
     ghost makes = { λ files path file. Unit {0} };
 
+    ghost named = { λ files path file. Unit {0} };
+
     fn open(&self, _path: &str) -> Result<Opened<'a>, FileFault> {
         match self.fault {
             FileFault::InUse => Err(FileFault::InUse),
@@ -569,8 +597,12 @@ impl<'a> HostFiles<Opened<'a>> for Unwritable<'a, '_> {
         self.files.make(path)
     }
 
-    fn keep_name(&self, path: &str) -> Result<(), HostFault> {
-        self.files.keep_name(path)
+    fn keep_name(&self, path: &str, file: &Opened<'a>) -> Result<(), FileFault> {
+        self.files.keep_name(path, file)
+    }
+
+    fn drop_made(&self, path: &str, file: &Opened<'a>) {
+        self.files.drop_made(path, file)
     }
 }
 

@@ -1,5 +1,5 @@
 //! Upgrades whose calls fail or are stopped, over an old image of which a save is under way: what is told, and what stays of both images.
-use super::stopping::{Disk, FATES, Fate, LENGTH, NAMED, OneDisk, Opened};
+use super::stopping::{Disk, FATES, FILLED, Fate, LENGTH, OneDisk, Opened};
 use super::support::{DEVICE_FAULT, call_over, overwrite, told_of_making};
 use super::systems::{BOTH, SEVENS};
 use crate::assertions::{Assert, assert_same};
@@ -16,23 +16,23 @@ pub(crate) struct Upgrade {
     pub(crate) words: &'static [&'static str],
     /// How many bytes the new file has.
     pub(crate) length: usize,
-    /// The call of it that makes its name stay, counted from 0.
-    pub(crate) named: u64,
-    /// Of the calls after that one, those are tried whose number this divides.
+    /// How many calls fill it.
+    pub(crate) filled: u64,
+    /// Of the calls after these, those are tried whose number this divides.
     pub(crate) each: u64,
 }
 
 impl Upgrade {
     /// Whether it is tried with a failure of this call.
     fn fails_at(self, k: u64) -> bool {
-        k <= self.named || k.checked_rem(self.each).unwrap_or(0) == 0
+        k < self.filled || k.checked_rem(self.each).unwrap_or(0) == 0
     }
 }
 
 const UPGRADE: Upgrade = Upgrade {
     words: &["forth83", "upgrade", "OLD", "NEW"],
     length: LENGTH,
-    named: NAMED,
+    filled: FILLED,
     each: 1,
 };
 
@@ -57,6 +57,8 @@ impl<'a> HostFiles<Opened<'a>> for TwoDisks<'a> {
 
     ghost makes = { λ files path file. Unit {0} };
 
+    ghost named = { λ files path file. Unit {0} };
+
     fn open(&self, path: &str) -> Result<Opened<'a>, FileFault> {
         match path {
             "OLD" => self.old.open("A"),
@@ -73,8 +75,17 @@ impl<'a> HostFiles<Opened<'a>> for TwoDisks<'a> {
         }
     }
 
-    fn keep_name(&self, path: &str) -> Result<(), HostFault> {
-        self.new.keep_name(path)
+    fn keep_name(&self, path: &str, file: &Opened<'a>) -> Result<(), FileFault> {
+        match path {
+            "NEW" => self.new.keep_name("A", file),
+            _ => Err(FileFault::Cannot),
+        }
+    }
+
+    fn drop_made(&self, path: &str, file: &Opened<'a>) {
+        if path == "NEW" {
+            self.new.drop_made("A", file);
+        }
     }
 }
 
@@ -93,7 +104,8 @@ fn make_old(image: &mut [u8], first: u8, second: u8) {
 /// An image of layout 1 of which a save is under way: its gate is open over two blocks that begin with 7, and their homes are blank.
 fn old_image(rt: &impl AllocGlobal) -> Result<Disk, Fail> {
     let disk = Disk::new(rt)?;
-    let _ = OneDisk::new(&disk).make("A");
+    let files = OneDisk::new(&disk);
+    files.keep_name("A", &files.make("A")?)?;
     let mut bytes = disk.copy(rt)?;
     for home in 67..131_usize {
         overwrite(bytes.as_mut_slice(), 512 * home, &[b' '; 512]);
@@ -127,7 +139,7 @@ fn check_upgrade(
     assert!(rt; is_whole(rt, files));
 }
 
-/// Whether the new file is the whole image; else it is none.
+/// Whether the new file is the whole image; else nothing has its name.
 fn is_whole(rt: &(impl Files<File = File> + AllocGlobal + Abort), files: &TwoDisks<'_>) -> bool {
     let left = call_over(rt, files, &["forth83", "run", "NEW"], BOTH.as_bytes());
     if left.status == 0 {
@@ -136,20 +148,20 @@ fn is_whole(rt: &(impl Files<File = File> + AllocGlobal + Abort), files: &TwoDis
     }
     assert_same!(rt;
         (left.status, left.errors.as_slice()),
-        (3, b"forth83: image: no label\n".as_slice())
+        (3, b"forth83: image: cannot open\n".as_slice())
     );
     false
 }
 
-/// Where the calls of either image fail from these on, that is told, nothing is printed, and what has the new name stays from then on. The
-/// power comes back: the old image still has its blocks. Gives whether the new one is whole; else it is none.
+/// Where the calls of either image fail from these on, that is told, nothing is printed, and nothing has the new name. The power comes back: the
+/// old image still has its blocks, and the next upgrade makes the new one, which stays from then on.
 fn upgrade_fails(
     rt: &(impl Files<File = File> + AllocGlobal + Abort),
     upgrade: Upgrade,
     at: (u64, u64),
     fate: Fate,
     told: &str,
-) -> Result<bool, Fail> {
+) -> Result<(), Fail> {
     let (old, new) = (old_image(rt)?, Disk::of_length(rt, upgrade.length)?);
     let files = TwoDisks::of(&old, &new);
     old.begin(at.0);
@@ -159,11 +171,9 @@ fn upgrade_fails(
     assert_same!(rt; left.errors.as_slice(), told.as_bytes(), "{at:?}");
     old.restart(fate);
     new.restart(fate);
-    new_file_stays(rt, upgrade, &files, &old, &new)?;
-    let whole = is_whole(rt, &files);
-    let again = Disk::of_length(rt, upgrade.length)?;
-    check_upgrade(rt, upgrade, &TwoDisks::of(&old, &again));
-    Ok(whole)
+    assert!(rt; !is_whole(rt, &files), "{at:?}");
+    check_upgrade(rt, upgrade, &files);
+    new_file_stays(rt, upgrade, &files, &old, &new)
 }
 
 /// A second upgrade to the new name is refused, with no call of either image.
@@ -175,6 +185,8 @@ fn new_file_stays(
     new: &Disk,
 ) -> Result<(), Fail> {
     let before = new.copy(rt)?;
+    old.begin(u64::MAX);
+    new.begin(u64::MAX);
     let left = call_over(rt, files, upgrade.words, b"");
     assert_same!(rt;
         (left.status, left.errors.as_slice()),
@@ -185,17 +197,17 @@ fn new_file_stays(
     Ok(())
 }
 
-/// Each call of the old image fails, with one fate after another of what wasn't synced: the new file is no image.
+/// Each call of the old image fails, with one fate after another of what wasn't synced.
 #[test]
 fn upgrades_whose_old_image_fails(rt: HostRuntime) -> Result<(), Fail> {
     // A recovery of two blocks, and then both sectors of each home.
     old_image_fails(&rt, UPGRADE, 15 + 64)
 }
 
-/// Each call of the new one fails, the last ones with each fate: it is no image before the label is written, and then none or the whole one.
+/// Each call of the new one fails, the last ones with each fate.
 #[test]
 fn upgrades_whose_new_image_fails(rt: HostRuntime) -> Result<(), Fail> {
-    new_image_fails(&rt, UPGRADE, 4 + 71)
+    new_image_fails(&rt, UPGRADE, FILLED + 71 + 1)
 }
 
 /// Calls of the old image fail, of which there are so many.
@@ -208,8 +220,7 @@ pub(crate) fn old_image_fails(
     assert_same!(rt; calls, wanted);
     for (k, fate) in (0..calls).zip(FATES.iter().cycle()) {
         if upgrade.fails_at(k) {
-            let whole = upgrade_fails(rt, upgrade, (k, u64::MAX), *fate, DEVICE_FAULT)?;
-            assert!(rt; !whole, "at {k}");
+            upgrade_fails(rt, upgrade, (k, u64::MAX), *fate, DEVICE_FAULT)?;
         }
     }
     Ok(())
@@ -223,22 +234,17 @@ pub(crate) fn new_image_fails(
 ) -> Result<(), Fail> {
     let (_, calls) = calls_of_both(rt, upgrade)?;
     assert_same!(rt; calls, wanted);
-    let label = calls.saturating_sub(2);
+    let label = calls.saturating_sub(3);
     for (k, fate) in (0..label).zip(FATES.iter().cycle()) {
         if upgrade.fails_at(k) {
-            let told = told_of_making(k, upgrade.named);
-            let whole = upgrade_fails(rt, upgrade, (u64::MAX, k), *fate, told)?;
-            assert!(rt; !whole, "at {k}");
+            let told = told_of_making(k, upgrade.filled, calls);
+            upgrade_fails(rt, upgrade, (u64::MAX, k), *fate, told)?;
         }
     }
     for k in label..calls {
         for fate in FATES {
-            let whole = upgrade_fails(rt, upgrade, (u64::MAX, k), fate, DEVICE_FAULT)?;
-            assert_same!(rt;
-                whole,
-                fate == Fate::Kept || fate == Fate::EvenKept,
-                "{fate:?} at {k}"
-            );
+            let told = told_of_making(k, upgrade.filled, calls);
+            upgrade_fails(rt, upgrade, (u64::MAX, k), fate, told)?;
         }
     }
     Ok(())

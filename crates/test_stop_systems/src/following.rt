@@ -44,7 +44,8 @@ fn follow(rt: &HostRuntime, text: &str) -> Result<usize, Fail> {
     match scenario.system {
         "store" => try_all(rt, &StoreCalls, &scenario, &mut report)?,
         "blocks" => try_all(rt, &BlockCalls, &scenario, &mut report)?,
-        "forth" => try_all(rt, &ForthLines, &scenario, &mut report)?,
+        "forth" => try_all(rt, &ForthLines { undoes: false }, &scenario, &mut report)?,
+        "events" => try_all(rt, &ForthLines { undoes: true }, &scenario, &mut report)?,
         "image" | "zeros" => {
             let calls = ImageCalls {
                 layout: scenario.medium.layout,

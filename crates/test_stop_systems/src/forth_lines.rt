@@ -1,7 +1,7 @@
 // Lines of Forth, which tell what they do to blocks.
 use interpreter::{Forth, Memory};
 use sector_disk::SectorDevice;
-use sessions::{RunFault, run_over};
+use sessions::{RunFault, Strictness, Untraced, run_over_until};
 use std::alloc::{AllocError, Global};
 use std::io::{Read, Write};
 use std::test::Fail;
@@ -57,22 +57,35 @@ pub fn lines_and_replies(alloc: Global, rows: &str) -> Result<(String, String), 
     Ok((lines, replies))
 }
 
-/// Runs lines over a device, between these streams: the device, and how the run ended.
+/// Runs lines over a device, between these streams, each of which may be an event: the device, and how the run ended.
 pub fn between<D: SectorDevice + Drop, R: Read, W: Write>(
     alloc: Global,
     device: D,
+    undoes: bool,
     reader: &mut R,
     writer: &mut W,
 ) -> Result<(D, Result<(), RunFault>), Fail> {
     let store = opened(device)?;
     let memory = Memory::new(alloc)?;
-    let (store, end) = run_over::<D, Forth<D>, R, W>(memory, store, 100_000_000, reader, writer);
-    Ok((store.into_device(), end))
+    let (store, end, _) = run_over_until::<D, Forth<D>, R, W, Untraced>(
+        memory,
+        store,
+        100_000_000,
+        reader,
+        writer,
+        Strictness::Never,
+        undoes,
+        &mut Untraced,
+    );
+    Ok((store.into_device(), end.map(|_| ())))
 }
 
 /// Interprets lines.
 #[derive(Clone, Copy)]
-pub struct ForthLines;
+pub struct ForthLines {
+    /// Whether a line that fails is undone.
+    pub undoes: bool,
+}
 
 impl Player for ForthLines {
     fn play<D: SectorDevice + Drop>(
@@ -84,7 +97,13 @@ impl Player for ForthLines {
     ) -> Result<Played<D>, Fail> {
         let (lines, _) = lines_and_replies(alloc, rows)?;
         let mut written: Vec<u8> = Vec::new(alloc);
-        let (device, end) = between(alloc, device, &mut lines.as_bytes(), &mut written)?;
+        let (device, end) = between(
+            alloc,
+            device,
+            self.undoes,
+            &mut lines.as_bytes(),
+            &mut written,
+        )?;
         end?;
         let replies = str::from_utf8(written.as_slice())?;
         Ok(Played {

@@ -187,7 +187,7 @@ fn try_streams(
         is_due: false,
     };
     let disk = calls.disk.try_clone(rt.alloc())?;
-    let (disk, end) = between(rt.alloc(), disk, &mut reader, &mut writer)?;
+    let (disk, end) = between(rt.alloc(), disk, false, &mut reader, &mut writer)?;
     let left = left_in(disk)?;
     report.runs = report.runs.saturating_add(1);
     report.images = report.images.saturating_add(1);

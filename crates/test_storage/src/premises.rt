@@ -1,5 +1,7 @@
 //! Laws: the premises on devices and files are met.
 ghost use Rattle.std.specs.Prelude.{◌≡◌, false, IsTrue};
+ghost use Rattle.journal.specs.Layouts.{asks};
+ghost use Rattle.journal.specs.declared.sizes.Layout.{Layout};
 ghost use Rattle.recovery.specs.Label.{is_size};
 ghost use Rattle.journal.specs.Suits.{suits};
 
@@ -11,7 +13,12 @@ pub fn disks_in_memory(device: &MemoryDisk)
     ensures { IsTrue (suits ⟦<MemoryDisk as SectorDevice>⟧ device.now) }
 {}
 
-/// Does nothing. Its contract is a law: so does a disk that has its whole history.
+/// Does nothing. Its contract is a law: it keeps the model as each layout asks for it.
+pub fn disks_in_memory_by_layout(device: &MemoryDisk)
+    ensures { (layout : Layout) → IsTrue (asks ⟦<MemoryDisk as SectorDevice>⟧ layout device.now) }
+{}
+
+/// Does nothing. Its contract is a law: a disk that has its whole history suits a store of either layout.
 pub fn recorded_disks(device: &Recorded)
     ensures { IsTrue (suits ⟦<Recorded as SectorDevice>⟧ device.now) }
 {}

@@ -8,7 +8,7 @@ use std::cell::Cell;
 use std::fs::{File, Files};
 use std::io::{Error, ErrorKind, Read, Write};
 use std::{fs, io, mem};
-use terminal::{Led, command};
+use terminal::{Led, StdWorld, Streams, command_over};
 
 /// A command of a line; commands are divided by `; `.
 enum Command<'a> {
@@ -159,8 +159,8 @@ impl Shell {
         words: &str,
         shown: &Cell<&[u8]>,
     ) -> io::Result<Vec<u8>> {
-        let mut screen = Screen::new(rt.alloc(), shown);
-        let errors = self.call(rt, words, &mut Keyboard::new(shown), &mut screen)?;
+        let screen = Screen::new(rt.alloc(), shown);
+        let (screen, errors) = self.call(rt, words, Keyboard::new(shown), screen)?;
         let mut came = screen.into_rest();
         came.extend_from_slice(errors.as_slice())?;
         Ok(came)
@@ -171,32 +171,36 @@ impl Shell {
         &mut self,
         rt: &(impl Files<File = File> + AllocGlobal),
         words: &str,
-        mut input: &[u8],
+        input: &[u8],
     ) -> io::Result<Vec<u8>> {
-        let mut output: Vec<u8> = Vec::new(rt.alloc());
-        let errors = self.call(rt, words, &mut input, &mut output)?;
+        let (mut output, errors) = self.call(rt, words, input, Vec::new(rt.alloc()))?;
         output.extend_from_slice(errors.as_slice())?;
         Ok(output)
     }
 
-    /// Calls the program, and gives what it wrote to the standard error.
-    fn call<R: Read, W: Write>(
+    /// Calls the program, and gives its output back, and what it wrote to the standard error.
+    fn call<R: Read + Drop, W: Write + Drop>(
         &mut self,
         rt: &(impl Files<File = File> + AllocGlobal),
         words: &str,
-        input: &mut R,
-        output: &mut W,
-    ) -> io::Result<Vec<u8>> {
+        input: R,
+        output: W,
+    ) -> io::Result<(W, Vec<u8>)> {
         let words: Vec<&str> = words.split_whitespace().collect(rt.alloc())?;
-        let mut errors: Vec<u8> = Vec::new(rt.alloc());
-        self.status = command::<Forth<FileDisk>, Forth<MemoryDisk>, _, Led<&mut R>, W, Vec<u8>>(
-            rt,
-            words.as_slice(),
-            &mut Led::new(rt.alloc(), input),
+        let mut streams = Streams {
+            input: Led::new(rt.alloc(), input),
             output,
-            &mut errors,
+            errors: Vec::new(rt.alloc()),
+        };
+        let here = StdWorld::new(rt, words.as_slice());
+        let (_, status) = command_over(
+            &here.reached::<Forth<FileDisk>, Forth<MemoryDisk>>(),
+            words.as_slice(),
+            &mut streams,
         );
-        Ok(errors)
+        self.status = status;
+        let Streams { output, errors, .. } = streams;
+        Ok((output, errors))
     }
 
     /// What the program writes as a stage of a pipe. What it tells as an error is shown later, or goes where the words say.
@@ -204,11 +208,10 @@ impl Shell {
         &mut self,
         rt: &(impl Files<File = File> + AllocGlobal),
         text: &str,
-        mut input: &[u8],
+        input: &[u8],
     ) -> io::Result<Vec<u8>> {
         let (words, errors) = Errors::of(text);
-        let mut output: Vec<u8> = Vec::new(rt.alloc());
-        let told = self.call(rt, words, &mut input, &mut output)?;
+        let (mut output, told) = self.call(rt, words, input, Vec::new(rt.alloc()))?;
         match errors {
             Errors::Shown => self.told.extend_from_slice(told.as_slice())?,
             Errors::Joined => output.extend_from_slice(told.as_slice())?,

@@ -2,7 +2,7 @@
 ghost use Rattle.std.specs.Prelude.{◌≡◌, ◌≢◌, ◌⊎◌, ◌<◌, ◌≤◌, ◌+◌, ◌*◌, true, false, IsTrue, OnOk, IfOk, IfErr, IfSome, IfNone, MatchBool, MatchOption};
 ghost use Rattle.sector_disk.specs.Counting.{count_up};
 ghost use Rattle.sector_disk.specs.Disk.{MayLeave};
-ghost use Rattle.journal.specs.Calls.{StopsLeave, BeginsAtMost, ReadsAtMost, CostsAtMost, Passes, Proceeds};
+ghost use Rattle.journal.specs.Calls.{StopsLeave, BeginsAtMost, ReadsAtMost, Proceeds, Reads};
 ghost use Rattle.journal.specs.Layout.{most_blocks};
 ghost use Rattle.journal.specs.Maps.{block_in};
 ghost use Rattle.journal.specs.PageImages.{block_of, current_of};
@@ -87,11 +87,7 @@ fn read_named<D: SectorDevice>(device: &mut D, b: u16) -> Result<Option<[u8; 102
         (stands_whole (D.disk device.old).content b ≡ false) (λ _. stands_whole (D.disk device.old).content b ≡ true)) }
     ensures bytes { IsTrue (D.keeps_model device.old)
         → IfOk result (λ found. IfSome found (λ bytes. bytes ≡ block_of (D.disk device.old).content b)) }
-    ensures disk { IsTrue (D.keeps_model device.old) → D.disk device.new ≡ D.disk device.old }
-    ensures stops { IsTrue (D.keeps_model device.old)
-        → StopsLeave D.SectorDevice device.old device.new (MayLeave (D.disk device.old)) }
-    ensures passes { Passes D.SectorDevice device.old device.new result }
-    ensures costs { CostsAtMost D.SectorDevice device.old device.new 0 0 5 }
+    ensures reads { Reads D.SectorDevice device.old device.new 5 result }
 {
     let mut listing = [0; 512];
     read_record(device, &mut listing)?;
@@ -111,11 +107,7 @@ fn read_under<D: SectorDevice>(
         (λ _. holds_whole (D.disk device.old).content b (current_at listing.now b) ≡ true)) }
     ensures bytes { IsTrue (D.keeps_model device.old)
         → IfOk result (λ found. IfSome found (λ bytes. bytes ≡ current_of listing.now (D.disk device.old).content b)) }
-    ensures disk { IsTrue (D.keeps_model device.old) → D.disk device.new ≡ D.disk device.old }
-    ensures stops { IsTrue (D.keeps_model device.old)
-        → StopsLeave D.SectorDevice device.old device.new (MayLeave (D.disk device.old)) }
-    ensures passes { Passes D.SectorDevice device.old device.new result }
-    ensures costs { CostsAtMost D.SectorDevice device.old device.new 0 0 3 }
+    ensures reads { Reads D.SectorDevice device.old device.new 3 result }
 {
     let mut bytes = [0; 1024];
     if read_place(device, b, current_sector(listing, b), &mut bytes)? {

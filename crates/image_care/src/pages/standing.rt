@@ -2,7 +2,7 @@
 ghost use Rattle.std.specs.Prelude.{◌≡◌, ◌≢◌, ◌<◌, ◌≤◌, ◌+◌, ◌*◌, ◌^◌, true, false, if◌then◌else◌, IsTrue, OnOk, IfOk, IfErr, IfSome, MatchBool, MatchOption};
 ghost use Rattle.sector_disk.specs.Counting.{count_up};
 ghost use Rattle.sector_disk.specs.Disk.{MayLeave};
-ghost use Rattle.journal.specs.Calls.{StopsLeave, BeginsAtMost, ReadsAtMost, CostsAtMost, Passes, Proceeds};
+ghost use Rattle.journal.specs.Calls.{StopsLeave, BeginsAtMost, ReadsAtMost, Proceeds, Reads};
 ghost use Rattle.journal.specs.Images.{pair_at};
 ghost use Rattle.journal.specs.Layout.{most_blocks};
 ghost use Rattle.recovery.specs.declared.fault.OpenFault.TheVariants.{BadSize, Device};
@@ -43,11 +43,7 @@ pub(super) fn read_place<D: SectorDevice>(
         → IfOk result (λ is_whole. is_whole ≡ holds_whole (D.disk device.old).content b k) }
     ensures bytes { IsTrue (D.keeps_model device.old)
         → OnOk result (bytes.new ≡ pair_at (D.disk device.old).content k) }
-    ensures disk { IsTrue (D.keeps_model device.old) → D.disk device.new ≡ D.disk device.old }
-    ensures stops { IsTrue (D.keeps_model device.old)
-        → StopsLeave D.SectorDevice device.old device.new (MayLeave (D.disk device.old)) }
-    ensures passes { Passes D.SectorDevice device.old device.new result }
-    ensures costs { CostsAtMost D.SectorDevice device.old device.new 0 0 3 }
+    ensures reads { Reads D.SectorDevice device.old device.new 3 result }
 {
     read_pair(device, k, bytes)?;
     let found = read_tag(device, k + 2)?;
@@ -69,11 +65,7 @@ fn take_other<D: SectorDevice>(
         → IfOk result (λ found. found ≡ standing_under listing.now (D.disk device.old).content b) }
     ensures bytes { IsTrue (D.keeps_model device.old)
         → OnOk result (bytes.new ≡ salvaged_under listing.now (D.disk device.old).content b) }
-    ensures disk { IsTrue (D.keeps_model device.old) → D.disk device.new ≡ D.disk device.old }
-    ensures stops { IsTrue (D.keeps_model device.old)
-        → StopsLeave D.SectorDevice device.old device.new (MayLeave (D.disk device.old)) }
-    ensures passes { Passes D.SectorDevice device.old device.new result }
-    ensures costs { CostsAtMost D.SectorDevice device.old device.new 0 0 3 }
+    ensures reads { Reads D.SectorDevice device.old device.new 3 result }
 {
     if read_place(device, b, free_sector(listing, b), bytes)? {
         return Ok(Standing::Other);
@@ -96,11 +88,7 @@ pub(crate) fn take_block<D: SectorDevice>(
         → IfOk result (λ found. found ≡ standing_under listing.now (D.disk device.old).content b) }
     ensures bytes { IsTrue (D.keeps_model device.old)
         → OnOk result (bytes.new ≡ salvaged_under listing.now (D.disk device.old).content b) }
-    ensures disk { IsTrue (D.keeps_model device.old) → D.disk device.new ≡ D.disk device.old }
-    ensures stops { IsTrue (D.keeps_model device.old)
-        → StopsLeave D.SectorDevice device.old device.new (MayLeave (D.disk device.old)) }
-    ensures passes { Passes D.SectorDevice device.old device.new result }
-    ensures costs { CostsAtMost D.SectorDevice device.old device.new 0 0 6 }
+    ensures reads { Reads D.SectorDevice device.old device.new 6 result }
     ensures few { IsTrue (D.keeps_model device.old) → ReadsAtMost D.SectorDevice device.old device.new
         (if is_damaged_under listing.now (D.disk device.old).content b then 6 else 3) }
 {
@@ -162,11 +150,7 @@ fn look_up<D: SectorDevice>(device: &mut D, b: u16) -> Result<Standing, DeviceFa
     requires within { 48 + 16 * b ≤ D.sector_count device.old }
     ensures standing { IsTrue (D.keeps_model device.old)
         → IfOk result (λ found. found ≡ standing_of (D.disk device.old).content b) }
-    ensures disk { IsTrue (D.keeps_model device.old) → D.disk device.new ≡ D.disk device.old }
-    ensures stops { IsTrue (D.keeps_model device.old)
-        → StopsLeave D.SectorDevice device.old device.new (MayLeave (D.disk device.old)) }
-    ensures passes { Passes D.SectorDevice device.old device.new result }
-    ensures costs { CostsAtMost D.SectorDevice device.old device.new 0 0 8 }
+    ensures reads { Reads D.SectorDevice device.old device.new 8 result }
 {
     let mut listing = [0; 512];
     read_record(device, &mut listing)?;

@@ -7,7 +7,7 @@ ghost use Rattle.journal.specs.Layout.{fewest_blocks, most_blocks, listed, bits_
 ghost use Rattle.journal.specs.Sizes.{is_pages_size, is_pages_size_for, pages_blocks_in};
 ghost use Rattle.journal.specs.PageLayout.{sectors_for, label_of, bit_differs, bits_apart, gate_word, gate_bytes, gate_open, gate_sum, is_gate_of, gate_at, record_at, place_at, current_at, free_at, sum_in, tag_in};
 
-use crate::layout::{FEWEST_BLOCKS, MOST_BLOCKS, is_listed, label as older_label};
+use crate::layout::{BITS, FEWEST_BLOCKS, MOST_BLOCKS, is_listed, label as older_label};
 
 /// The version of the layout, as a label tells it.
 pub const VERSION: u16 = 3;
@@ -20,9 +20,6 @@ const UNIT: u32 = 8;
 
 /// The sectors of an image before the places of its blocks.
 const HEAD: u32 = 4 * UNIT;
-
-/// The bytes of a record before its sum.
-const BITS: usize = 480;
 
 /// How many sectors an image of layout 3 with so many blocks has, 3,840 or fewer.
 pub fn sectors_for(blocks: u16) -> u32

@@ -1,15 +1,13 @@
 // Tags are read, and made of the bytes that a device has.
 ghost use Rattle.std.specs.Prelude.{◌≡◌, ◌<◌, ◌+◌, ◌^◌, IsTrue, IfOk};
-ghost use Rattle.sector_disk.specs.Disk.{MayLeave};
-ghost use Rattle.journal.specs.Calls.{StopsLeave, BeginsAtMost, ReadsAtMost};
-ghost use Rattle.journal.specs.PageCalls.{Passes};
+ghost use Rattle.journal.specs.Calls.{Reads};
 ghost use Rattle.journal.specs.Images.{pair_at};
 ghost use Rattle.journal.specs.PageLayout.{tag_in};
 ghost use Rattle.journal.specs.Tags.{tag_of};
 
 use super::layout::tag;
-use super::pairs::add_pair;
 use super::tags::begin_tag;
+use crate::hashing::add_pair;
 use sector_disk::{DeviceFault, SectorDevice};
 use sha2::Digest;
 
@@ -19,12 +17,7 @@ pub fn read_tag<D: SectorDevice>(device: &mut D, k: u32) -> Result<[u8; 32], Dev
     requires { k < D.sector_count device.old }
     ensures bytes { IsTrue (D.keeps_model device.old)
         → IfOk result (λ found. found ≡ tag_in ((D.disk device.old).content k)) }
-    ensures disk { IsTrue (D.keeps_model device.old) → D.disk device.new ≡ D.disk device.old }
-    ensures stops { IsTrue (D.keeps_model device.old)
-        → StopsLeave D.SectorDevice device.old device.new (MayLeave (D.disk device.old)) }
-    ensures passes { Passes D.SectorDevice device.old device.new result }
-    ensures begins { BeginsAtMost D.SectorDevice device.old device.new 0 0 }
-    ensures reads { ReadsAtMost D.SectorDevice device.old device.new 1 }
+    ensures reads { Reads D.SectorDevice device.old device.new 1 result }
 {
     let mut bytes = [0; 512];
     device.read(k, &mut bytes)?;
@@ -39,12 +32,7 @@ pub fn made_tag<D: SectorDevice>(device: &mut D, b: u16, k: u32) -> Result<[u8; 
     requires within { k + 1 < D.sector_count device.old }
     ensures tag { IsTrue (D.keeps_model device.old)
         → IfOk result (λ made. made ≡ tag_of b (pair_at (D.disk device.old).content k)) }
-    ensures disk { IsTrue (D.keeps_model device.old) → D.disk device.new ≡ D.disk device.old }
-    ensures stops { IsTrue (D.keeps_model device.old)
-        → StopsLeave D.SectorDevice device.old device.new (MayLeave (D.disk device.old)) }
-    ensures passes { Passes D.SectorDevice device.old device.new result }
-    ensures begins { BeginsAtMost D.SectorDevice device.old device.new 0 0 }
-    ensures reads { ReadsAtMost D.SectorDevice device.old device.new 2 }
+    ensures reads { Reads D.SectorDevice device.old device.new 2 result }
 {
     let mut hasher = begin_tag(b);
     add_pair(device, k, &mut hasher)?;

@@ -1,8 +1,7 @@
 // The steps of a save.
-ghost use Rattle.std.specs.Prelude.{◌≡◌, ◌⊎◌, ◌<◌, ◌≤◌, not, if◌then◌else◌, IsTrue, OnOk};
+ghost use Rattle.std.specs.Prelude.{◌≡◌, ◌⊎◌, ◌<◌, ◌≤◌, ◌*◌, ℕ, false, not, if◌then◌else◌, IsTrue, OnOk};
 ghost use Rattle.sector_disk.specs.Disk.{written, settled};
-ghost use Rattle.journal.specs.Calls.{StopsLeave, CostsAtMost};
-ghost use Rattle.journal.specs.PageCalls.{Passes};
+ghost use Rattle.journal.specs.Calls.{StopsLeave, CostsAtMost, Passes};
 ghost use Rattle.journal.specs.Layout.{most_blocks, listed};
 ghost use Rattle.journal.specs.PageImages.{current_of};
 ghost use Rattle.journal.specs.PageLayout.{HasFlipped, sectors_for, gate_at, gate_bytes, record_at, sum_in};
@@ -11,8 +10,8 @@ ghost use Rattle.journal.specs.Steps.{IsAsSynced};
 ghost use Rattle.journal.specs.PageSteps.{HasBlocks, HasSpilled, IsSound, HasSaved, merged};
 
 use super::layout::{GATE, gate, list, record_sector, sum, with_sum};
-use super::pairs::write_through;
 use crate::layout::is_listed;
+use crate::pairs::write_through;
 use sector_disk::{DeviceFault, SectorDevice};
 
 // Whether the second place of a block is to be the current one.
@@ -27,13 +26,28 @@ fn is_second(listing: &[u8; 512], pending: &[u8; 512], b: u16) -> bool
     }
 }
 
+// The bits of the first blocks, so many bytes of them, in the record that is to count.
+fn flipped_bytes(listing: &[u8; 512], pending: &[u8; 512], whole: usize) -> [u8; 512]
+    requires { whole ≤ 480 }
+    ensures each { (b : ℕ) → b < 8 * whole
+        → listed result b ≡ (if listed pending.now b then not (listed listing.now b) else listed listing.now b) }
+    ensures rest { (b : ℕ) → 8 * whole ≤ b → listed result b ≡ false }
+{
+    let mut bits = [0; 512];
+    for i in 0..whole {
+        bits[i] = listing[i] ^ pending[i];
+    }
+    bits
+}
+
 // The bits of the record that is to count.
 fn flipped(blocks: u16, listing: &[u8; 512], pending: &[u8; 512]) -> [u8; 512]
     requires { blocks ≤ most_blocks }
     ensures { HasFlipped blocks listing.now pending.now result }
 {
-    let mut bits = [0; 512];
-    for b in 0..blocks {
+    let whole = blocks / 8;
+    let mut bits = flipped_bytes(listing, pending, whole as usize);
+    for b in 8 * whole..blocks {
         if is_second(listing, pending, b) {
             list(&mut bits, b);
         }

@@ -1,12 +1,10 @@
 // A block is written to its free place, with its tag, which is exchanged in a sum.
 // Rule: IMAGE, Layout 3, A save.
 ghost use Rattle.std.specs.Prelude.{◌≡◌, ◌<◌, ◌≤◌, ◌+◌, ◌*◌, ◌^◌, ◌++◌, length, replicate, if◌then◌else◌, IsTrue, OnOk, IfOk};
-ghost use Rattle.sector_disk.specs.Disk.{MayLeave};
 ghost use Rattle.sector_disk.specs.Pages.{InPage};
-ghost use Rattle.journal.specs.Calls.{StopsLeave, CostsAtMost};
+ghost use Rattle.journal.specs.Calls.{StopsLeave, CostsAtMost, Passes, Reads};
 ghost use Rattle.journal.specs.Images.{pair_at};
 ghost use Rattle.journal.specs.Layout.{most_blocks, listed};
-ghost use Rattle.journal.specs.PageCalls.{Passes};
 ghost use Rattle.journal.specs.PageImages.{free_of, free_tag};
 ghost use Rattle.journal.specs.PageLayout.{current_at, free_at};
 ghost use Rattle.journal.specs.PageSteps.{merged_tag};
@@ -14,10 +12,10 @@ ghost use Rattle.journal.specs.Steps.{WritesOnly, IsAsSynced};
 ghost use Rattle.journal.specs.Tags.{tag_of, xor_bytes};
 
 use super::layout::{current_sector, free_sector, tag_sector};
-use super::pairs::{write_pair, write_sector};
 use super::reading::read_tag;
 use super::tags::{exchange, tag_of_bytes};
 use crate::layout::is_listed;
+use crate::pairs::{write_pair, write_sector};
 use sector_disk::{DeviceFault, SectorDevice};
 
 // Where the latest text of a block is: what is pending is in its free place.
@@ -44,11 +42,7 @@ fn read_latest_tag<D: SectorDevice>(
     requires within { 48 + 16 * b ≤ D.sector_count device.old }
     ensures bytes { IsTrue (D.keeps_model device.old)
         → IfOk result (λ found. found ≡ merged_tag listing.now pending.now (D.disk device.old).content b) }
-    ensures disk { IsTrue (D.keeps_model device.old) → D.disk device.new ≡ D.disk device.old }
-    ensures stops { IsTrue (D.keeps_model device.old)
-        → StopsLeave D.SectorDevice device.old device.new (MayLeave (D.disk device.old)) }
-    ensures passes { Passes D.SectorDevice device.old device.new result }
-    ensures costs { CostsAtMost D.SectorDevice device.old device.new 0 0 1 }
+    ensures reads { Reads D.SectorDevice device.old device.new 1 result }
 {
     let k = latest_sector(listing, pending, b);
     read_tag(device, k + 2)

@@ -1,7 +1,7 @@
 //! Files of this system as devices: locks, places, calls that fail, and what a save leaves in one.
 use crate::sectors::{put, sector};
 use recovery::format;
-use sector_disk::{FileDisk, FileFault, HostFault, HostFiles, SectorDevice, SectorFile, StdFiles};
+use sector_disk::{FileDisk, FileFault, HostFiles, SectorDevice, SectorFile, StdFiles};
 use std::fs;
 use std::fs::Permissions;
 use std::os::unix::fs::{MetadataExt, PermissionsExt, symlink};
@@ -38,15 +38,63 @@ fn a_file_is_opened_once(rt: HostRuntime) -> Result<(), Fail> {
     Ok(())
 }
 
-/// A name is kept by its folder's sync: where there is no such folder that is told.
+/// A file that is made has its name once that was kept, and not before, unless something else has got it: that stays. What is let go of is gone.
 #[test]
-fn a_name_in_no_folder_is_not_kept(rt: HostRuntime) {
+fn a_file_has_its_name_once_it_is_kept(rt: HostRuntime) -> Result<(), Fail> {
+    let (folder, path, part) = ("files_kept", "files_kept/image", "files_kept/image.part");
+    let _ = fs::remove_dir_all(&rt, folder);
+    fs::create_dir(&rt, folder)?;
     let files = StdFiles::new(&rt);
+    let file = files.make(path)?;
+    assert!(rt; fs::metadata(&rt, path).is_err());
     assert_eq!(rt;
-        files.keep_name("files_nowhere/image"),
-        Err(HostFault::Failed)
+        files.keep_name("files_nowhere/image", &file),
+        Err(FileFault::Cannot)
     );
-    assert_eq!(rt; files.keep_name("image"), Ok(()));
+    assert_eq!(rt; files.keep_name(path, &file), Ok(()));
+    assert!(rt; fs::metadata(&rt, path).is_ok() && fs::metadata(&rt, part).is_err());
+    drop(file);
+    assert_eq!(rt; files.make(path).err(), Some(FileFault::Exists));
+    fs::remove_file(&rt, path)?;
+    let file = files.make(path)?;
+    fs::write(&rt, path, b"other".as_slice())?;
+    assert_eq!(rt; files.keep_name(path, &file), Err(FileFault::Exists));
+    files.drop_made(path, &file);
+    assert!(rt; fs::metadata(&rt, part).is_err());
+    assert!(rt; fs::read(&rt, path)?.as_slice() == b"other".as_slice());
+    fs::remove_dir_all(&rt, folder)?;
+    Ok(())
+}
+
+/// Of two makings of one name the second is refused. What one that was cut has left goes, but what is no file stays, and so does an image that has
+/// its own name and that of its making.
+#[test]
+fn a_making_that_was_cut_is_begun_anew(rt: HostRuntime) -> Result<(), Fail> {
+    let (folder, path, part) = ("files_cut", "files_cut/image", "files_cut/image.part");
+    let _ = fs::remove_dir_all(&rt, folder);
+    fs::create_dir(&rt, folder)?;
+    let files = StdFiles::new(&rt);
+    let first = files.make(path)?;
+    assert_eq!(rt; files.make(path).err(), Some(FileFault::InUse));
+    files.keep_name(path, &first)?;
+    drop(first);
+    fs::rename(&rt, path, part)?;
+    drop(FileDisk::create(&rt, path, SECTORS)?);
+    assert!(rt; fs::metadata(&rt, part).is_err());
+    let other = "files_cut/other";
+    fs::rename(&rt, path, other)?;
+    fs::hard_link(&rt, other, part)?;
+    drop(FileDisk::create(&rt, path, SECTORS)?);
+    assert_eq!(rt; fs::metadata(&rt, other)?.nlink(), 1);
+    fs::remove_file(&rt, path)?;
+    fs::create_dir(&rt, part)?;
+    assert_eq!(rt;
+        FileDisk::create(&rt, path, SECTORS).err(),
+        Some(FileFault::Cannot)
+    );
+    assert!(rt; fs::metadata(&rt, path).is_err());
+    fs::remove_dir_all(&rt, folder)?;
+    Ok(())
 }
 
 /// A file that is made has the rights of the one that it is to be like, whatever the mask takes away; and where that one's can't be seen, it is its owner's.
@@ -59,11 +107,13 @@ fn a_file_has_the_rights_of_another(rt: HostRuntime) -> Result<(), Fail> {
     fs::write(&rt, old, b"".as_slice())?;
     for rights in [0o600, 0o640, 0o664, 0o666, 0o755, 0o400] {
         fs::set_permissions(&rt, old, Permissions::from_mode(rights))?;
-        drop(StdFiles::with_rights_of(&rt, Some(old)).make(new)?);
+        let files = StdFiles::with_rights_of(&rt, Some(old));
+        files.keep_name(new, &files.make(new)?)?;
         assert_eq!(rt; fs::metadata(&rt, new)?.mode() & 0o777, rights);
         fs::remove_file(&rt, new)?;
     }
-    drop(StdFiles::with_rights_of(&rt, Some("files_rights/none")).make(new)?);
+    let files = StdFiles::with_rights_of(&rt, Some("files_rights/none"));
+    files.keep_name(new, &files.make(new)?)?;
     assert_eq!(rt; fs::metadata(&rt, new)?.mode() & 0o177, 0);
     fs::remove_dir_all(&rt, folder)?;
     Ok(())

@@ -24,16 +24,15 @@ fn save(store: &mut Store<MemoryDisk>, b: u16, byte: u8) -> Result<(), &'static 
     store.commit().map_err(|_| "commit failed")
 }
 
-// An image of 32 blocks of which the first so many of these were saved, each in a save of its own and full of its byte.
-fn saved(
-    alloc: Global,
-    newer: bool,
-    saves: &[(u16, u8)],
-    count: usize,
-) -> Result<MemoryDisk, Fail> {
+// An image of 32 blocks of which the first so many of these were saved, each in a save of its own and full of its byte, as in `1A 1B`.
+fn saved(alloc: Global, newer: bool, saves: &str, count: usize) -> Result<MemoryDisk, Fail> {
     let mut store = made(alloc, newer)?;
-    for (b, byte) in saves.iter().take(count) {
-        save(&mut store, *b, *byte)?;
+    for one in saves.split(" ").take(count) {
+        let bytes = one.as_bytes();
+        if bytes.len() != 2 {
+            return Err("a save is a digit and a byte")?;
+        }
+        save(&mut store, u16::from(bytes[0].wrapping_sub(b'0')), bytes[1])?;
     }
     Ok(store.into_device())
 }
@@ -79,77 +78,68 @@ fn turn(disk: &mut MemoryDisk, k: u32, first: u16, past: u16) -> Result<(), &'st
     put(disk, k, &bytes)
 }
 
-// Turns each of these bits alone. A row has a sector, its bits from one on to the one before another, and what is found then.
-fn each_alone(
-    rt: &impl Abort,
-    disk: &mut MemoryDisk,
-    rows: &[(u32, u16, u16, &'static str)],
-) -> Result<(), Fail> {
+// What a row wants, behind its first bar; a remark may stand behind another.
+fn wanted(row: &str) -> &str {
+    row.split(" | ").nth(1).unwrap_or("")
+}
+
+// The number at this place of a row.
+fn number(row: &str, place: usize) -> Result<u32, &'static str> {
+    let word = row.split(" ").nth(place).unwrap_or("");
+    word.parse().map_err(|_| "a row lacks a number")
+}
+
+// Turns bits of an image. A row has a sector, its bits from one on to the one before another, and what is found: `each` of them is turned alone, or, where none
+// is looked at or each is one of a block, `all` together.
+fn turn_bits(rt: &impl Abort, disk: &mut MemoryDisk, rows: &str) -> Result<(), Fail> {
     let digest = digest_of(disk)?;
-    for (k, first, past, want) in rows {
-        let k = *k;
-        for bit in *first..*past {
-            turn(disk, k, bit, bit.saturating_add(1))?;
-            assert_same!(rt; found(disk, &digest), *want, "sector {k} bit {bit}");
-            turn(disk, k, bit, bit.saturating_add(1))?;
+    for row in rows.lines() {
+        let k = number(row, 1)?;
+        let first = bit_in(row, 2)?;
+        let past = bit_in(row, 3)?;
+        let count = if row.starts_with("each") {
+            1
+        } else {
+            past.saturating_sub(first).max(1)
+        };
+        for bit in (first..past).step_by(usize::from(count)) {
+            turn(disk, k, bit, bit.saturating_add(count))?;
+            assert_same!(rt; found(disk, &digest), wanted(row), "{row}: bit {bit}");
+            turn(disk, k, bit, bit.saturating_add(count))?;
         }
     }
     Ok(())
 }
 
-// Turns all bits of a row together: none of them is looked at, or each of them is one of a block.
-fn all_together(
-    rt: &impl Abort,
-    disk: &mut MemoryDisk,
-    rows: &[(u32, u16, u16, &'static str)],
-) -> Result<(), Fail> {
-    let digest = digest_of(disk)?;
-    for (k, first, past, want) in rows {
-        let k = *k;
-        turn(disk, k, *first, *past)?;
-        assert_same!(rt; found(disk, &digest), *want, "sector {k}");
-        turn(disk, k, *first, *past)?;
-    }
-    Ok(())
+fn bit_in(row: &str, place: usize) -> Result<u16, &'static str> {
+    let bit = number(row, place)?;
+    u16::try_from(bit).map_err(|_| "a sector has no such bit")
 }
 
 // Each bit of a label is told. Of the 32 blocks block 1 was saved: it has the slot in sectors 5 and 6, and the home in 69 and 70.
 #[test]
 fn by_layout_2_each_bit_of_the_label_is_told(rt: HostRuntime) -> Result<(), Fail> {
-    let mut disk = saved(rt.alloc(), false, &[(1, b'A')], 1)?;
-    each_alone(
-        &rt,
-        &mut disk,
-        &[
-            (0, 0, 64, "no label"),
-            (0, 64, 80, "other version"),
-            (0, 80, 96, "wrong count"),
-            (0, 96, 4096, "no label"),
-        ],
-    )
+    let mut disk = saved(rt.alloc(), false, "1A", 1)?;
+    let rows = "each 0 0 64 | no label
+each 0 64 80 | other version
+each 0 80 96 | wrong count
+each 0 96 4096 | no label";
+    turn_bits(&rt, &mut disk, rows)
 }
 
 // Between saves no bit of a home is told, and gate, record and slots don't count.
 #[test]
 fn by_layout_2_no_bit_of_a_home_is_told(rt: HostRuntime) -> Result<(), Fail> {
-    let mut disk = saved(rt.alloc(), false, &[(1, b'A')], 1)?;
-    each_alone(
-        &rt,
-        &mut disk,
-        &[(1, 0, 64, "same"), (69, 0, 4096, "other")],
-    )?;
-    all_together(
-        &rt,
-        &mut disk,
-        &[
-            (1, 64, 4096, "same"),
-            (2, 0, 4096, "same"),
-            (5, 0, 4096, "same"),
-            (6, 0, 4096, "same"),
-            (7, 0, 4096, "same"),
-            (70, 0, 4096, "other"),
-        ],
-    )
+    let mut disk = saved(rt.alloc(), false, "1A", 1)?;
+    let rows = "each 1 0 64 | same
+each 69 0 4096 | other
+all 1 64 4096 | same
+all 2 0 4096 | same
+all 5 0 4096 | same
+all 6 0 4096 | same
+all 7 0 4096 | same
+all 70 0 4096 | other";
+    turn_bits(&rt, &mut disk, rows)
 }
 
 fn open_gate() -> [u8; 512] {
@@ -161,127 +151,90 @@ fn open_gate() -> [u8; 512] {
 // A save that was stopped once its gate was open, and before a home was written. A bit of the gate takes it away.
 #[test]
 fn by_layout_2_record_and_slots_of_a_save_under_way_are_told(rt: HostRuntime) -> Result<(), Fail> {
-    let mut disk = saved(rt.alloc(), false, &[(1, b'A')], 1)?;
+    let mut disk = saved(rt.alloc(), false, "1A", 1)?;
     put(&mut disk, 1, &open_gate())?;
     put(&mut disk, 69, &[b' '; 512])?;
     put(&mut disk, 70, &[b' '; 512])?;
-    each_alone(
-        &rt,
-        &mut disk,
-        &[
-            (1, 0, 64, "other"),
-            (2, 0, 4096, "damaged"),
-            (5, 0, 4096, "damaged"),
-            (6, 0, 4096, "damaged"),
-        ],
-    )?;
-    all_together(
-        &rt,
-        &mut disk,
-        &[
-            (1, 64, 4096, "same"),
-            (3, 0, 4096, "same"), // the slot of a block that isn't listed
-            (67, 0, 4096, "other"), // its home
-            (69, 0, 4096, "same"),
-            (70, 0, 4096, "same"),
-        ],
-    )
+    let rows = "each 1 0 64 | other
+each 2 0 4096 | damaged
+each 5 0 4096 | damaged
+each 6 0 4096 | damaged
+all 1 64 4096 | same
+all 3 0 4096 | same | the slot of a block that isn't listed
+all 67 0 4096 | other | its home
+all 69 0 4096 | same
+all 70 0 4096 | same";
+    turn_bits(&rt, &mut disk, rows)
 }
 
 // Block 0 was saved once, and so counts in its second place, in sectors 40 to 42. Block 1 has blanks in its first place, and nothing in the other.
 #[test]
 fn by_layout_3_each_bit_of_label_and_record_is_told(rt: HostRuntime) -> Result<(), Fail> {
-    let mut disk = saved(rt.alloc(), true, &[(0, b'A')], 1)?;
-    each_alone(
-        &rt,
-        &mut disk,
-        &[
-            (0, 0, 64, "no label"),
-            (0, 64, 80, "other version"),
-            (0, 80, 96, "wrong count"),
-            (0, 96, 4096, "no label"),
-            (8, 0, 64, "same"),
-            (8, 64, 320, "same, told"),
-            (16, 0, 32, "damaged"),
-            (16, 3840, 4096, "damaged"),
-        ],
-    )
+    let mut disk = saved(rt.alloc(), true, "0A", 1)?;
+    let rows = "each 0 0 64 | no label
+each 0 64 80 | other version
+each 0 80 96 | wrong count
+each 0 96 4096 | no label
+each 8 0 64 | same
+each 8 64 320 | same, told
+each 16 0 32 | damaged
+each 16 3840 4096 | damaged";
+    turn_bits(&rt, &mut disk, rows)
 }
 
 #[test]
 fn by_layout_3_each_bit_of_a_block_and_its_tag_is_told(rt: HostRuntime) -> Result<(), Fail> {
-    let mut disk = saved(rt.alloc(), true, &[(0, b'A')], 1)?;
-    each_alone(
-        &rt,
-        &mut disk,
-        &[
-            (40, 0, 4096, "damaged"),
-            (41, 0, 4096, "damaged"),
-            (42, 0, 256, "damaged"),
-            (48, 0, 4096, "damaged"),
-            (49, 0, 4096, "damaged"),
-            (50, 0, 256, "damaged"),
-        ],
-    )
+    let mut disk = saved(rt.alloc(), true, "0A", 1)?;
+    let rows = "each 40 0 4096 | damaged
+each 41 0 4096 | damaged
+each 42 0 256 | damaged
+each 48 0 4096 | damaged
+each 49 0 4096 | damaged
+each 50 0 256 | damaged";
+    turn_bits(&rt, &mut disk, rows)
 }
 
 // The rest of what is read, the other record, the other places, and the other sectors of the pages.
 #[test]
 fn by_layout_3_no_other_bit_counts(rt: HostRuntime) -> Result<(), Fail> {
-    let mut disk = saved(rt.alloc(), true, &[(0, b'A')], 1)?;
-    all_together(
-        &rt,
-        &mut disk,
-        &[
-            (8, 320, 4096, "same"),
-            (9, 0, 4096, "same"),
-            (16, 32, 3840, "same"),
-            (17, 0, 4096, "same"),
-            (24, 0, 4096, "same"),
-            (32, 0, 4096, "same"),
-            (33, 0, 4096, "same"),
-            (34, 0, 4096, "same"),
-            (42, 256, 4096, "same"),
-            (43, 0, 4096, "same"),
-            (50, 256, 4096, "same"),
-            (56, 0, 4096, "same"),
-            (57, 0, 4096, "same"),
-            (58, 0, 4096, "same"),
-        ],
-    )
+    let mut disk = saved(rt.alloc(), true, "0A", 1)?;
+    let rows = "all 8 320 4096 | same
+all 9 0 4096 | same
+all 16 32 3840 | same
+all 17 0 4096 | same
+all 24 0 4096 | same
+all 32 0 4096 | same
+all 33 0 4096 | same
+all 34 0 4096 | same
+all 42 256 4096 | same
+all 43 0 4096 | same
+all 50 256 4096 | same
+all 56 0 4096 | same
+all 57 0 4096 | same
+all 58 0 4096 | same";
+    turn_bits(&rt, &mut disk, rows)
 }
 
-// What is found of the image with all these saves, once sectors of it were put back as they were when fewer were done: whether it is the one with so many.
-fn put_back(
-    alloc: Global,
-    newer: bool,
-    saves: &[(u16, u8)],
-    before: usize,
-    sectors: (u32, u32),
-    like: usize,
-) -> Result<&'static str, Fail> {
-    let (first, past) = sectors;
-    let mut disk = saved(alloc, newer, saves, saves.len())?;
-    let mut old = saved(alloc, newer, saves, before)?;
-    let digest = digest_of(&mut saved(alloc, newer, saves, like)?)?;
-    for k in first..past {
-        put(&mut disk, k, &sector(&mut old, k)?)?;
-    }
-    Ok(found(&mut disk, &digest))
-}
-
-// A row has the number of saves of the older image, the sectors from one on to the one before another, the number of saves of the wanted image, and what is
-// found.
+// Puts sectors of the image with all these saves back as they were when fewer were done. A row has how many were, the sectors from one on to the one before
+// another, the number of saves of the image that is wanted, and what is found.
 fn each_put_back(
     rt: &(impl AllocGlobal + Abort),
     newer: bool,
-    saves: &[(u16, u8)],
-    rows: &[(usize, u32, u32, usize, &'static str)],
+    saves: &str,
+    rows: &str,
 ) -> Result<(), Fail> {
-    for (before, first, past, like, want) in rows {
-        let (first, past) = (*first, *past);
-        let said = put_back(rt.alloc(), newer, saves, *before, (first, past), *like)?;
-        assert_same!(rt; said, *want, "sectors {first} to {past}");
+    for row in rows.lines() {
+        let before = number(row, 0)? as usize;
+        let first = number(row, 1)?;
+        let past = number(row, 2)?;
+        let like = number(row, 3)? as usize;
+        let mut disk = saved(rt.alloc(), newer, saves, saves.len())?;
+        let mut old = saved(rt.alloc(), newer, saves, before)?;
+        let digest = digest_of(&mut saved(rt.alloc(), newer, saves, like)?)?;
+        for k in first..past {
+            put(&mut disk, k, &sector(&mut old, k)?)?;
+        }
+        assert_same!(rt; found(&mut disk, &digest), wanted(row), "{row}");
     }
     Ok(())
 }
@@ -289,18 +242,12 @@ fn each_put_back(
 // By layout 2 a home that comes back isn't told, and nothing else of an image at rest counts.
 #[test]
 fn by_layout_2_what_comes_back_is_not_told(rt: HostRuntime) -> Result<(), Fail> {
-    each_put_back(
-        &rt,
-        false,
-        &[(1, b'A'), (1, b'B')],
-        &[
-            (1, 0, 3, 2, "same"), // label, gate and record
-            (1, 5, 7, 2, "same"), // the slot
-            (1, 69, 71, 1, "same"), // the home
-            (1, 69, 70, 1, "other"), // a half of it, so that the block is of two saves
-            (1, 0, 131, 1, "same"),
-        ],
-    )
+    let rows = "1 0 3 2 | same | label, gate and record
+1 5 7 2 | same | the slot
+1 69 71 1 | same | the home
+1 69 70 1 | other | a half of it, so that the block is of two saves
+1 0 131 1 | same";
+    each_put_back(&rt, false, "1A 1B", rows)
 }
 
 // A gate whose closing was lost, over the slots of its record: the recovery does the save again. Over another text in one of them it is told.
@@ -308,7 +255,7 @@ fn by_layout_2_what_comes_back_is_not_told(rt: HostRuntime) -> Result<(), Fail> 
 fn by_layout_2_an_open_gate_that_comes_back_is_harmless_or_told(
     rt: HostRuntime,
 ) -> Result<(), Fail> {
-    let mut disk = saved(rt.alloc(), false, &[(1, b'A')], 1)?;
+    let mut disk = saved(rt.alloc(), false, "1A", 1)?;
     let digest = digest_of(&mut disk)?;
     put(&mut disk, 1, &open_gate())?;
     assert_same!(rt; found(&mut disk, &digest), "same");
@@ -323,37 +270,25 @@ fn by_layout_2_an_open_gate_that_comes_back_is_harmless_or_told(
 fn by_layout_3_a_gate_that_comes_back_is_not_told_and_a_record_is(
     rt: HostRuntime,
 ) -> Result<(), Fail> {
-    each_put_back(
-        &rt,
-        true,
-        &[(0, b'A'), (1, b'B'), (2, b'C')],
-        &[
-            (2, 0, 8, 3, "same"), // the label
-            (2, 8, 16, 2, "same"), // the gate
-            (1, 8, 16, 3, "same, told"), // the gate of two saves before
-            (2, 16, 24, 1, "same, told"), // the record that counts
-            (2, 8, 24, 2, "same"), // both
-            (1, 24, 32, 3, "same"), // the other record
-            (2, 72, 80, 3, "damaged"), // the place of block 2
-            (1, 0, 544, 1, "same"),
-        ],
-    )
+    let rows = "2 0 8 3 | same | the label
+2 8 16 2 | same | the gate
+1 8 16 3 | same, told | the gate of two saves before
+2 16 24 1 | same, told | the record that counts
+2 8 24 2 | same | both
+1 24 32 3 | same | the other record
+2 72 80 3 | damaged | the place of block 2
+1 0 544 1 | same";
+    each_put_back(&rt, true, "0A 1B 2C", rows)
 }
 
 // The same where one block was saved each time.
 #[test]
 fn by_layout_3_a_record_over_a_later_text_is_told(rt: HostRuntime) -> Result<(), Fail> {
-    each_put_back(
-        &rt,
-        true,
-        &[(0, b'A'), (0, b'B'), (0, b'C')],
-        &[
-            (2, 8, 16, 2, "same"), // the gate
-            (2, 16, 24, 1, "damaged"), // the record: the place that it names has a later text
-            (2, 40, 48, 3, "damaged"), // an older text with its true tag
-            (2, 32, 40, 3, "same"), // the other place
-        ],
-    )
+    let rows = "2 8 16 2 | same | the gate
+2 16 24 1 | damaged | the record: the place that it names has a later text
+2 40 48 3 | damaged | an older text with its true tag
+2 32 40 3 | same | the other place";
+    each_put_back(&rt, true, "0A 0B 0C", rows)
 }
 
 // And where a block was spilled since, over the place that it had by that gate.
@@ -365,7 +300,7 @@ fn by_layout_3_a_gate_over_a_later_spill_is_told(rt: HostRuntime) -> Result<(), 
     spill(&mut store, 0, b'C')?;
     let mut disk = store.into_device();
     let digest = digest_of(&mut disk)?;
-    let mut old = saved(rt.alloc(), true, &[(0, b'A')], 1)?;
+    let mut old = saved(rt.alloc(), true, "0A", 1)?;
     put(&mut disk, 8, &sector(&mut old, 8)?)?;
     assert_same!(rt; found(&mut disk, &digest), "damaged");
     Ok(())
@@ -375,9 +310,9 @@ fn by_layout_3_a_gate_over_a_later_spill_is_told(rt: HostRuntime) -> Result<(), 
 // has this record's sum once all 40 are there, and before that the old one's, or a part of each.
 #[test]
 fn by_layout_3_a_gate_that_was_half_written_is_told(rt: HostRuntime) -> Result<(), Fail> {
-    let saves = [(0, b'A'), (1, b'B'), (2, b'C')];
-    let mut disk = saved(rt.alloc(), true, &saves, 3)?;
-    let mut old = saved(rt.alloc(), true, &saves, 2)?;
+    let saves = "0A 1B 2C";
+    let mut disk = saved(rt.alloc(), true, saves, 3)?;
+    let mut old = saved(rt.alloc(), true, saves, 2)?;
     let (new_gate, old_gate) = (sector(&mut disk, 8)?, sector(&mut old, 8)?);
     for (written, like, want) in [
         (0, 2, "same"),
@@ -393,7 +328,7 @@ fn by_layout_3_a_gate_that_was_half_written_is_told(rt: HostRuntime) -> Result<(
             gate[at % 512] = new_gate[at % 512];
         }
         put(&mut disk, 8, &gate)?;
-        let digest = digest_of(&mut saved(rt.alloc(), true, &saves, like)?)?;
+        let digest = digest_of(&mut saved(rt.alloc(), true, saves, like)?)?;
         assert_same!(rt; found(&mut disk, &digest), want, "{written} bytes");
     }
     Ok(())

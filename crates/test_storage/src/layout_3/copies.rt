@@ -6,9 +6,9 @@ use image_care::{copy, examine};
 use journal::pages::layout::label;
 use recovery::{OpenFault, UpgradeFault};
 use sector_disk::{Counts, Fate, Fused, MemoryDisk, SectorDevice};
-use shadow::open;
 use std::alloc::Global;
 use std::test::Fail;
+use stores::open;
 use test_devices::Coarse;
 
 const SAVES: [(u16, u8); 3] = [(5, b'A'), (5, b'B'), (31, b'C')];

@@ -7,9 +7,9 @@ use journal::Store;
 use journal::pages::layout::{current_sector, sum, tag, tag_sector, with_sum};
 use journal::pages::tags::{add, tag_of};
 use sector_disk::{Fused, MemoryDisk, SectorDevice};
-use shadow::open;
 use std::alloc::{AllocError, Global};
 use std::test::Fail;
+use stores::open;
 use test_devices::Coarse;
 
 pub(crate) const BLOCKS: u16 = 32;

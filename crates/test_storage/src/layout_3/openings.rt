@@ -4,9 +4,9 @@ use crate::layout_3::images::{blank, opened, spill, told};
 use crate::sectors::{put, sector};
 use recovery::OpenFault;
 use sector_disk::{Fate, MemoryDisk};
-use shadow::open;
 use std::alloc::Global;
 use std::test::Fail;
+use stores::open;
 use test_devices::Coarse;
 
 /// Why an image isn't opened, or `opened`.
@@ -54,14 +54,9 @@ fn each_image_is_opened_or_refused(rt: HostRuntime) -> Result<(), Fail> {
     Ok(())
 }
 
-// The label of an older image is looked at, and that of no image isn't.
+// A size that no image has is refused.
 #[test]
-fn sizes_of_other_images_are_refused(rt: HostRuntime) -> Result<(), Fail> {
-    let mut older = MemoryDisk::new(rt.alloc(), 131)?;
-    let mut label = [0; 512];
-    label[..12].copy_from_slice(b"F83BLOCK\x02\x00\x20\x00");
-    put(&mut older, 0, &label)?;
-    assert_same!(rt; refusal(older), "other version");
+fn sizes_of_no_image_are_refused(rt: HostRuntime) -> Result<(), Fail> {
     assert_same!(rt; refusal(MemoryDisk::new(rt.alloc(), 546)?), "bad size");
     Ok(())
 }

@@ -6,9 +6,9 @@ use image_care::{Taken, read_block, salvage};
 use journal::layout::is_listed;
 use recovery::{OpenFault, UpgradeFault};
 use sector_disk::{Counts, Fused, MemoryDisk, SectorDevice};
-use shadow::open;
 use std::alloc::Global;
 use std::test::Fail;
+use stores::open;
 
 // Block 5 counts in its first place, over an older one of A in its second; and block 31 in its second, over a blank one.
 pub(crate) const SAVES: [(u16, u8); 3] = [(5, b'A'), (5, b'B'), (31, b'C')];

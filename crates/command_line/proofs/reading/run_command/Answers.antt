@@ -7,7 +7,8 @@ returns-clause-app c =
     let three = c.with_argument-command-2.ensures.app _ _ two c.load_option.ensures.rule c.load_option.ensures.local in
     let four = c.with_argument-command-3.ensures.app _ _ three c.steps_option.ensures.rule c.steps_option.ensures.local in
     let five = c.with_argument-command-4.ensures.app _ _ four c.strict_option.ensures.rule c.strict_option.ensures.local in
-    c.with_argument.ensures.app _ _ five c.trace_option.ensures.rule c.trace_option.ensures.local
+    let six = c.with_argument-command-5.ensures.app _ _ five c.trace_option.ensures.rule c.trace_option.ensures.local in
+    c.with_argument.ensures.app _ _ six c.undo_option.ensures.rule c.undo_option.ensures.local
 
 pub returns-clause-local : goal.returns-clause-local
 returns-clause-local c =
@@ -16,4 +17,5 @@ returns-clause-local c =
     let three = c.with_argument-command-2.ensures.local two c.load_option.ensures.local in
     let four = c.with_argument-command-3.ensures.local three c.steps_option.ensures.local in
     let five = c.with_argument-command-4.ensures.local four c.strict_option.ensures.local in
-    c.with_argument.ensures.local five c.trace_option.ensures.local
+    let six = c.with_argument-command-5.ensures.local five c.trace_option.ensures.local in
+    c.with_argument.ensures.local six c.undo_option.ensures.local

@@ -1,8 +1,7 @@
-use Rattle.std.proofs.Common.{◌≡◌, ◌++◌, ℕ, ◌*◌, List, IsTrue, Ok}
+use Rattle.std.proofs.Common.{◌++◌, ℕ, ◌*◌, List, IsTrue, Ok}
 use Rattle.sha2.specs.Hashers.{Holds256}
-use Rattle.sector_disk.specs.Disk.{MayLeave}
 use Rattle.sector_disk.specs.declared.device.DeviceFault.{DeviceFault}
-use Rattle.journal.specs.Calls.{StopsLeave, CostsAtMost, Passes}
+use Rattle.journal.specs.Calls.{Reads}
 use Rattle.image_care.specs.View.{found_by}
 use Rattle.image_care.specs.Examined.{joined_below}
 use Rattle.image_care.proofs.blocks.add_blocks.Given as goal
@@ -15,8 +14,5 @@ invariant-loop-b g l =
     record {
       added : IsTrue (D.keeps_model old) → (m : List ℕ) → Holds256 l.initial.hasher m
           → Holds256 l.hasher (m ++ joined_below (found_by l.view (D.disk old).content) l.b);
-      disk : IsTrue (D.keeps_model old) → D.disk now ≡ D.disk old;
-      stops : IsTrue (D.keeps_model old) → StopsLeave D old now (MayLeave (D.disk old));
-      costs : CostsAtMost D old now 0 0 (2 * l.b);
-      passes : Passes D {T = Unit {0}} {E = DeviceFault} old now (Ok tt);
+      reads : Reads D {T = Unit {0}} {E = DeviceFault} old now (2 * l.b) (Ok tt);
     }

@@ -11,7 +11,7 @@ use Rattle.shadow.specs.Upgraded.{known_blocks}
 use Rattle.image_care.specs.Copied.{copied_blocks, copy_refusal, copy_size_refusal}
 use Rattle.image_care.specs.Made.{IsMade, MakingLeaves}
 use Rattle.image_care.proofs.Copies.{copy_blocks, copy_refused}
-use Rattle.image_care.proofs.Makings.{by_size, nothing_made}
+use Rattle.image_care.proofs.Makings.{nothing_made}
 use Rattle.image_care.proofs.copying.copy.Goals as goal
 
 pub returns-in_err-size-clause-new_stops : goal.returns-in_err-size-clause-new_stops
@@ -92,7 +92,7 @@ returns-in-Ok-clause-made g c =
 
 pub returns-in-Ok-clause-new_units : goal.returns-in-Ok-clause-new_units
 returns-in-Ok-clause-new_units g c =
-    λ keeps. c.lay.ensures.carries.units (by_size g.B.SectorDevice c.args.new.now keeps)
+    λ keeps. c.lay.ensures.carries.passes.unit (suits_keeps g.B.SectorDevice g.met.B.SectorDevice.keeps_both c.args.new.now keeps)
 
 pub returns-in-Ok-clause-exact : goal.returns-in-Ok-clause-exact
 returns-in-Ok-clause-exact g c = λ source.

@@ -8,9 +8,9 @@ use Rattle.image_care.proofs.examining.add_up.Goals as goal
 pub returns-in-Ok-clause-fits : goal.returns-in-Ok-clause-fits
 returns-in-Ok-clause-fits g c = λ keeps.
     let D = g.D.SectorDevice in
-    let honest : IsTrue (D.keeps_model c.digest_of_blocks.new.device) = subst IsTrue (sym c.digest_of_blocks.ensures.passes.model) keeps in
+    let honest : IsTrue (D.keeps_model c.digest_of_blocks.new.device) = subst IsTrue (sym c.digest_of_blocks.ensures.reads.passes.model) keeps in
     if_ok c.with_digest.result
-    (λ found is. is ∙ ap (λ (d : Disk). fits_by c.args.view.now.listing d.content) (c.digest_of_blocks.ensures.disk keeps))
+    (λ found is. is ∙ ap (λ (d : Disk). fits_by c.args.view.now.listing d.content) (c.digest_of_blocks.ensures.reads.disk keeps))
     (c.with_digest.ensures.fits honest)
 
 pub returns-in-Ok-clause-digest : goal.returns-in-Ok-clause-digest
@@ -19,4 +19,4 @@ returns-in-Ok-clause-digest g c = λ keeps. if_ok c.with_digest.result (λ found
 pub returns-in-Ok-clause-passes : goal.returns-in-Ok-clause-passes
 returns-in-Ok-clause-passes g c =
     proceeds_then g.D.SectorDevice c.args.device.now c.digest_of_blocks.new.device c.with_digest.new.device g.met.D.SectorDevice.widens
-    (proceeds g.D.SectorDevice c.args.device.now c.digest_of_blocks.new.device c.digest_of_blocks.ensures.passes) c.with_digest.ensures.passes
+    (proceeds g.D.SectorDevice c.args.device.now c.digest_of_blocks.new.device c.digest_of_blocks.ensures.reads.passes) c.with_digest.ensures.passes

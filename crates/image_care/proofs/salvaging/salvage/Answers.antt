@@ -13,7 +13,8 @@ use Rattle.image_care.specs.Made.{IsMade, MakingLeaves}
 use Rattle.image_care.specs.Salvaged.{salvaged_blocks}
 use Rattle.image_care.specs.Taken.{IsBest, Notes, reads_by, stands_by, taken_by}
 use Rattle.image_care.specs.View.{is_journal}
-use Rattle.image_care.proofs.Makings.{by_size, nothing_made}
+use Rattle.journal.proofs.Suited.{suits_keeps}
+use Rattle.image_care.proofs.Makings.{nothing_made}
 use Rattle.image_care.proofs.Salvages.{best_blocks, best_reads, lost_told, others_told, undamaged_meaning, unread}
 use Rattle.image_care.proofs.salvaging.salvage.Goals as goal
 
@@ -194,7 +195,7 @@ returns-in-Ok-clause-made g c =
 
 pub returns-in-Ok-clause-new_units : goal.returns-in-Ok-clause-new_units
 returns-in-Ok-clause-new_units g c =
-    λ keeps. c.lay.ensures.carries.units (by_size g.B.SectorDevice c.args.new.now keeps)
+    λ keeps. c.lay.ensures.carries.passes.unit (suits_keeps g.B.SectorDevice g.met.B.SectorDevice.keeps_both c.args.new.now keeps)
 
 pub returns-in-Ok-clause-old_stops : goal.returns-in-Ok-clause-old_stops
 returns-in-Ok-clause-old_stops g c =
@@ -234,7 +235,7 @@ returns-in-Ok-clause-old_reads g c =
 
 pub returns-in-Err-clause-new_units : goal.returns-in-Err-clause-new_units
 returns-in-Err-clause-new_units g c =
-    λ keeps. c.lay.ensures.carries.units (by_size g.B.SectorDevice c.args.new.now keeps)
+    λ keeps. c.lay.ensures.carries.passes.unit (suits_keeps g.B.SectorDevice g.met.B.SectorDevice.keeps_both c.args.new.now keeps)
 
 pub returns-in-Err-clause-old_stops : goal.returns-in-Err-clause-old_stops
 returns-in-Err-clause-old_stops g c =

@@ -2,7 +2,7 @@ use Rattle.std.proofs.Common.{refl, sym, subst, IsTrue}
 use Rattle.std.proofs.lemmas.Result.{on_ok_weaker}
 use Rattle.sector_disk.specs.Disk.{Disk, settled}
 use Rattle.journal.specs.Steps.{HasRedone}
-use Rattle.journal.proofs.Calls.{passes_by, passes_err, passes_then}
+use Rattle.journal.proofs.Calls.{passes_by, passes_err, passes_then, unit_synced}
 use Rattle.journal.proofs.commit.copy_and_sync.Goals as goal
 
 pub returns-clause-ok : goal.returns-clause-ok
@@ -28,4 +28,5 @@ pub returns-clause-passes : goal.returns-clause-passes
 returns-clause-passes g c =
     let D = g.D.SectorDevice in
     passes_then D c.args.device.now c.copy_homes.new.device c.sync.new.self g.met.D.SectorDevice.widens c.in_ok-copy_homes.ensures.passes
-    (passes_by D c.copy_homes.new.device c.sync.new.self c.sync.ensures.sectors c.sync.ensures.model c.sync.ensures.units c.sync.ensures.time c.sync.ensures.failures) refl
+    (passes_by D c.copy_homes.new.device c.sync.new.self c.sync.ensures.sectors c.sync.ensures.model c.sync.ensures.units
+    (λ keeps. unit_synced c.sync.result (D.disk c.copy_homes.new.device) (D.disk c.sync.new.self) (c.sync.ensures.ok keeps) (c.sync.ensures.err keeps)) c.sync.ensures.time c.sync.ensures.failures) refl

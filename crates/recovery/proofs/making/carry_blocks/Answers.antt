@@ -1,7 +1,8 @@
 use Rattle.std.proofs.Common.{◌≡◌, ◌∙◌, ◌+◌, ◌*◌, ℕ, List, sym, subst, arith, rules, Err, IsTrue}
 use Rattle.sector_disk.specs.Disk.{Disk}
 use Rattle.journal.specs.Calls.{ReadsAtMost}
-use Rattle.recovery.specs.Making.{IsApart, Carries, suits}
+use Rattle.journal.specs.Layouts.{asks}
+use Rattle.recovery.specs.Making.{IsApart, Carries}
 use Rattle.recovery.proofs.Makings.{suits_on, only_on, stops_on, carries_then, read_more, read_within, times_more, times_within}
 use Rattle.recovery.proofs.making.carry_blocks.Goals as goal
 
@@ -23,7 +24,7 @@ loop-b-preserved g c =
     let next = c.carry_block.new.new in
     let image = (A.disk from).content in
     let honest : IsTrue (A.keeps_model from) → IsTrue (A.keeps_model read) = λ keeps. subst IsTrue (sym inv.carries.source.passes.model) keeps in
-    let kept : IsTrue (suits B T.by_sectors to) → IsTrue (suits B T.by_sectors mid) = suits_on B T.by_sectors to mid inv.carries.passes in
+    let kept : IsTrue (asks B T.layout to) → IsTrue (asks B T.layout mid) = suits_on B T.layout to mid inv.carries.passes in
     let same : IsTrue (A.keeps_model from) → S.bytes_in c.loop-b.source (A.disk read).content ≡ S.bytes_in c.args.source.now image =
     λ keeps t. inv.same_bytes t (inv.carries.source.disk keeps t).content in
     record {
@@ -38,9 +39,9 @@ loop-b-preserved g c =
       same_bytes = step.same_bytes ∙ inv.same_bytes;
       same_reads = step.same_reads ∙ inv.same_reads;
       left = λ keeps k left. ok.left (kept keeps) k left ∙ inv.left keeps k left;
-      only = only_on B (IsApart T.by_sectors) T.by_sectors to mid next inv.carries.passes inv.only step.only;
-      stops = stops_on B (IsApart T.by_sectors) T.by_sectors to mid next inv.carries.passes step.carries.passes inv.only inv.stops step.stops;
-      carries = carries_then A B T.by_sectors from read c.carry_block.new.old to mid next g.met.A.SectorDevice.widens g.met.B.SectorDevice.widens
+      only = only_on B (IsApart T.layout) T.layout to mid next inv.carries.passes inv.only step.only;
+      stops = stops_on B (IsApart T.layout) T.layout to mid next inv.carries.passes step.carries.passes inv.only inv.stops step.stops;
+      carries = carries_then A B from read c.carry_block.new.old to mid next g.met.A.SectorDevice.widens g.met.B.SectorDevice.widens
           (T.block_writes * b) 0 0 T.block_writes 0 0 (T.block_writes * (b + 1)) 0 0 (times_more T.block_writes b) (omega arith) (omega arith)
           inv.carries.well inv.carries ok.carries;
       reads = λ source. read_more (S.reads_in c.args.source.now image) b
@@ -57,8 +58,8 @@ returns-in_err-carry_block-clause-carries g c =
     let w = T.block_writes in
     let inv = c.loop-b.invariant in
     let told : c.from_residual.result ≡ Err c.in_err-carry_block.field-0.0 = search rules in
-    subst (λ r. Carries A B T.by_sectors c.args.old.now c.carry_block.new.old c.args.new.now c.carry_block.new.new (w * c.args.blocks.number) 0 0 r) (sym told)
-    (carries_then A B T.by_sectors c.args.old.now c.loop-b.old c.carry_block.new.old c.args.new.now c.loop-b.new c.carry_block.new.new
+    subst (λ r. Carries A B c.args.old.now c.carry_block.new.old c.args.new.now c.carry_block.new.new (w * c.args.blocks.number) 0 0 r) (sym told)
+    (carries_then A B c.args.old.now c.loop-b.old c.carry_block.new.old c.args.new.now c.loop-b.new c.carry_block.new.new
     g.met.A.SectorDevice.widens g.met.B.SectorDevice.widens (w * c.loop-b.b) 0 0 w 0 0 (w * c.args.blocks.number) 0 0
     (times_within w c.loop-b.b c.args.blocks.number c.loop-b-test.true) (omega arith) (omega arith)
     inv.carries.well inv.carries c.in_err-carry_block.ensures.carries)

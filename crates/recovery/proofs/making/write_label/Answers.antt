@@ -3,12 +3,10 @@ use Rattle.std.proofs.lemmas.Result.{on_ok_weaker}
 use Rattle.sector_disk.specs.Disk.{MayLeaveEither, settled}
 use Rattle.sector_disk.proofs.Moments.{leaves_then}
 use Rattle.journal.specs.Steps.{IsAsSynced}
-use Rattle.journal.proofs.Calls.{passes_by, passes_then}
-use Rattle.journal.proofs.Units.{wrote, synced_or_not, sync_left}
+use Rattle.journal.proofs.Calls.{passes_by, passes_then, unit_written, unit_synced}
+use Rattle.journal.proofs.Units.{wrote, may_only, call_left, synced_or_not, sync_left}
 use Rattle.recovery.specs.Making.{InUnit}
 use Rattle.journal.proofs.Paging.{now_left}
-use Rattle.journal.proofs.PageCalls.{unit_written, unit_synced}
-use Rattle.recovery.proofs.Makings.{may_unit, unit_left}
 use Rattle.recovery.proofs.making.write_label.Goals as goal
 
 pub returns-clause-ok : goal.returns-clause-ok
@@ -22,7 +20,7 @@ returns-in_err-write-clause-stops g c = λ keeps x since.
     let D = g.D.SectorDevice in
     let d = D.disk c.args.device.now in
     let e = D.disk c.write.new.self in
-    unit_left d 0 e x (wrote c.write.result d e 0 c.args.bytes.now (c.write.ensures.ok keeps) (c.write.ensures.err keeps)) (c.write.ensures.stops x since)
+    call_left (InUnit d 0) d 0 (λ j same. same) e x (wrote c.write.result d e 0 c.args.bytes.now (c.write.ensures.ok keeps) (c.write.ensures.err keeps)) (c.write.ensures.stops x since)
 
 pub returns-clause-stops : goal.returns-clause-stops
 returns-clause-stops g c = λ keeps.
@@ -37,8 +35,8 @@ returns-clause-stops g c = λ keeps.
     leaves_then D.time D.left_since old mid new
     (MayLeaveEither d e) (MayLeaveEither e (D.disk new)) (IsAsSynced (InUnit d 0) d)
     c.write.ensures.time c.sync.ensures.time c.write.ensures.stops c.sync.ensures.stops
-    (λ x either. unit_left d 0 e x wrote either)
-    (λ x either. now_left (InUnit d 0) d e x (may_unit d 0 e wrote)
+    (λ x either. call_left (InUnit d 0) d 0 (λ j same. same) e x wrote either)
+    (λ x either. now_left (InUnit d 0) d e x (may_only (InUnit d 0) d 0 (λ j same. same) e wrote)
     (sync_left e (D.disk new) x (g.met.D.SectorDevice.present mid honest)
     (synced_or_not c.sync.result e (D.disk new) (c.sync.ensures.ok honest) (c.sync.ensures.err honest)) either))
 
@@ -51,18 +49,5 @@ returns-clause-passes g c =
     let w = c.write.ensures in
     let s = c.sync.ensures in
     passes_then D old mid new g.met.D.SectorDevice.widens
-    (passes_by D old mid w.sectors w.model w.units w.time c.in_ok-write.ensures.failures)
-    (passes_by D mid new s.sectors s.model s.units s.time s.failures) refl
-
-pub returns-in_err-write-clause-units : goal.returns-in_err-write-clause-units
-returns-in_err-write-clause-units g c = λ keeps.
-    let D = g.D.SectorDevice in
-    unit_written c.write.result (D.disk c.args.device.now) (D.disk c.write.new.self) 0 c.args.bytes.now (c.write.ensures.ok keeps) (c.write.ensures.err keeps)
-
-pub returns-clause-units : goal.returns-clause-units
-returns-clause-units g c = λ keeps.
-    let D = g.D.SectorDevice in
-    let mid = c.write.new.self in
-    let honest : IsTrue (D.keeps_model mid) = subst IsTrue (sym c.write.ensures.model) keeps in
-    unit_synced c.sync.result (D.disk mid) (D.disk c.sync.new.self) (c.sync.ensures.ok honest) (c.sync.ensures.err honest)
-    ∙ unit_written c.write.result (D.disk c.args.device.now) (D.disk mid) 0 c.args.bytes.now (c.write.ensures.ok keeps) (c.write.ensures.err keeps)
+    (passes_by D old mid w.sectors w.model w.units (λ keeps. unit_written c.write.result (D.disk old) (D.disk mid) 0 c.args.bytes.now (w.ok keeps) (w.err keeps)) w.time c.in_ok-write.ensures.failures)
+    (passes_by D mid new s.sectors s.model s.units (λ keeps. unit_synced c.sync.result (D.disk mid) (D.disk new) (s.ok keeps) (s.err keeps)) s.time s.failures) refl

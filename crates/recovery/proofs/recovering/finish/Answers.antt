@@ -5,7 +5,7 @@ use Rattle.sector_disk.proofs.Moments.{leaves_then}
 use Rattle.journal.specs.Chain.{MayRedo}
 use Rattle.journal.specs.Images.{is_true_record}
 use Rattle.journal.specs.Layout.{gate_open}
-use Rattle.journal.proofs.Calls.{passes_by, proceeds, proceeds_then}
+use Rattle.journal.proofs.Calls.{passes_by, proceeds, proceeds_then, unit_read}
 use Rattle.recovery.specs.Recovered.{damage_refusal_by, has_good_record, FinishLeaves}
 use Rattle.recovery.proofs.Recoveries.{good_record}
 use Rattle.recovery.proofs.recovering.finish.Goals as goal
@@ -29,7 +29,7 @@ returns-in-Ok-clause-stops g c = λ keeps.
     let none : damage_refusal_by version n d.content ≡ None =
     good_record (version == 1) (gate_open (d.content 1)) (is_true_record n (d.content 2) d.content) good in
     let first = proceeds_then D old read known g.met.D.SectorDevice.widens
-    (proceeds D old read (passes_by D old read c.read.ensures.sectors c.read.ensures.model c.read.ensures.units c.read.ensures.time c.read.ensures.failures))
+    (proceeds D old read (passes_by D old read c.read.ensures.sectors c.read.ensures.model c.read.ensures.units (λ keeps. unit_read _ _ (c.read.ensures.disk keeps)) c.read.ensures.time c.read.ensures.failures))
     c.read_record.ensures.passes in
     leaves_then D.time D.left_since old known c.apply.new.device
     (MayLeave d) (MayRedo n (D.disk known).content) (FinishLeaves version n d.content)
@@ -50,7 +50,7 @@ returns-in-Ok-clause-passes g c =
     let known = c.read_record.new.device in
     let r = c.read.ensures in
     proceeds_then D old known c.apply.new.device g.met.D.SectorDevice.widens
-    (proceeds_then D old read known g.met.D.SectorDevice.widens (proceeds D old read (passes_by D old read r.sectors r.model r.units r.time r.failures)) c.read_record.ensures.passes)
+    (proceeds_then D old read known g.met.D.SectorDevice.widens (proceeds D old read (passes_by D old read r.sectors r.model r.units (λ keeps. unit_read _ _ (r.disk keeps)) r.time r.failures)) c.read_record.ensures.passes)
     (proceeds D known c.apply.new.device c.apply.ensures.passes)
 
 pub returns-in-Err-clause-stops : goal.returns-in-Err-clause-stops
@@ -72,7 +72,7 @@ returns-in-Err-clause-stops g c = λ keeps.
     let none : damage_refusal_by version n d.content ≡ None =
     good_record (version == 1) (gate_open (d.content 1)) (is_true_record n (d.content 2) d.content) good in
     let first = proceeds_then D old read known g.met.D.SectorDevice.widens
-    (proceeds D old read (passes_by D old read c.read.ensures.sectors c.read.ensures.model c.read.ensures.units c.read.ensures.time c.read.ensures.failures))
+    (proceeds D old read (passes_by D old read c.read.ensures.sectors c.read.ensures.model c.read.ensures.units (λ keeps. unit_read _ _ (c.read.ensures.disk keeps)) c.read.ensures.time c.read.ensures.failures))
     c.read_record.ensures.passes in
     leaves_then D.time D.left_since old known c.apply.new.device
     (MayLeave d) (MayRedo n (D.disk known).content) (FinishLeaves version n d.content)
@@ -93,7 +93,7 @@ returns-in-Err-clause-passes g c =
     let known = c.read_record.new.device in
     let r = c.read.ensures in
     proceeds_then D old known c.apply.new.device g.met.D.SectorDevice.widens
-    (proceeds_then D old read known g.met.D.SectorDevice.widens (proceeds D old read (passes_by D old read r.sectors r.model r.units r.time r.failures)) c.read_record.ensures.passes)
+    (proceeds_then D old read known g.met.D.SectorDevice.widens (proceeds D old read (passes_by D old read r.sectors r.model r.units (λ keeps. unit_read _ _ (r.disk keeps)) r.time r.failures)) c.read_record.ensures.passes)
     (proceeds D known c.apply.new.device c.apply.ensures.passes)
 
 pub returns-in_err-read_record-clause-passes : goal.returns-in_err-read_record-clause-passes
@@ -103,7 +103,7 @@ returns-in_err-read_record-clause-passes g c =
     let read = c.read.new.self in
     let r = c.read.ensures in
     proceeds_then D old read c.read_record.new.device g.met.D.SectorDevice.widens
-    (proceeds D old read (passes_by D old read r.sectors r.model r.units r.time r.failures)) c.read_record.ensures.passes
+    (proceeds D old read (passes_by D old read r.sectors r.model r.units (λ keeps. unit_read _ _ (r.disk keeps)) r.time r.failures)) c.read_record.ensures.passes
 
 pub returns-in_err-read_record-clause-stops : goal.returns-in_err-read_record-clause-stops
 returns-in_err-read_record-clause-stops g c =

@@ -1,16 +1,14 @@
-use Rattle.std.proofs.Common.{◌∙◌, ap, subst, sym, IsTrue}
-use Rattle.sector_disk.specs.Disk.{Disk}
-use Rattle.journal.proofs.PageCalls.{unit_synced}
+use Rattle.std.proofs.Common.{refl}
+use Rattle.journal.proofs.Calls.{passes_then, passes_by, unit_read, unit_synced}
 use Rattle.recovery.proofs.settling.settle.Goals as goal
 
-pub returns-in_err-sync-clause-units : goal.returns-in_err-sync-clause-units
-returns-in_err-sync-clause-units g c = λ keeps.
+pub returns-clause-passes : goal.returns-clause-passes
+returns-clause-passes g c =
     let D = g.D.SectorDevice in
-    unit_synced c.sync.result (D.disk c.args.device.now) (D.disk c.sync.new.self) (c.sync.ensures.ok keeps) (c.sync.ensures.err keeps)
-
-pub returns-clause-units : goal.returns-clause-units
-returns-clause-units g c = λ keeps.
-    let D = g.D.SectorDevice in
+    let old = c.args.device.now in
     let mid = c.sync.new.self in
-    ap (λ (d : Disk). d.unit) (c.read.ensures.disk (subst IsTrue (sym c.sync.ensures.model) keeps))
-    ∙ unit_synced c.sync.result (D.disk c.args.device.now) (D.disk mid) (c.sync.ensures.ok keeps) (c.sync.ensures.err keeps)
+    let s = c.sync.ensures in
+    let r = c.read.ensures in
+    passes_then D old mid c.read.new.self g.met.D.SectorDevice.widens
+    (passes_by D old mid s.sectors s.model s.units (λ keeps. unit_synced c.sync.result (D.disk old) (D.disk mid) (s.ok keeps) (s.err keeps)) s.time c.in_ok-sync.ensures.failures)
+    (passes_by D mid c.read.new.self r.sectors r.model r.units (λ keeps. unit_read _ _ (r.disk keeps)) r.time r.failures) refl

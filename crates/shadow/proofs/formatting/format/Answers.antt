@@ -3,7 +3,7 @@ use Rattle.journal.specs.Maps.{fresh}
 use Rattle.recovery.specs.Formatted.{blank_blocks}
 use Rattle.shadow.specs.Formatted.{FormatLeaves}
 use Rattle.journal.specs.Store.{StandsFor}
-use Rattle.journal.proofs.PageCalls.{keeps_on, kept_before}
+use Rattle.journal.proofs.Calls.{keeps_on, kept_before}
 use Rattle.journal.specs.Technique.{is_journal}
 use Rattle.journal.proofs.Stores.{left_pages}
 use Rattle.shadow.proofs.Formats.{half_now, making, blanks_are, made_means, made_clean, blank_meaning}

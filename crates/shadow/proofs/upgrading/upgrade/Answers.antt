@@ -12,7 +12,6 @@ use Rattle.journal.specs.PageImages.{Means}
 use Rattle.journal.specs.PageLayout.{label_of}
 use Rattle.shadow.specs.Upgraded.{known_blocks, older_refusal, upgrade_refusal, found_of, found_blocks, reads_to_list}
 use Rattle.shadow.proofs.Formats.{half_now, making}
-use Rattle.shadow.proofs.Makings.{with_units}
 use Rattle.shadow.proofs.Upgrades.{are_found, made_stays, taken_blocks, taken_bytes, settled_left, upgrade_refused, anyway}
 use Rattle.shadow.proofs.upgrading.upgrade.Goals as goal
 
@@ -162,5 +161,4 @@ returns-in-Err-clause-old_reads g c = λ keeps.
     (omega (arith, c.find.ensures.reads keeps))
 
 pub returns-in-Ok-clause-new_passes : goal.returns-in-Ok-clause-new_passes
-returns-in-Ok-clause-new_passes g c =
-    with_units g.B.SectorDevice c.args.new.now c.carry.new.target c.carry.ensures.carries.passes c.carry.ensures.carries.units
+returns-in-Ok-clause-new_passes g c = c.carry.ensures.carries.passes

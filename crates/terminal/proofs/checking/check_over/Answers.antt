@@ -24,18 +24,16 @@ returns-in-Ok-clause-only_read g c =
 pub returns-in-Ok-tell_damage-clause-only_read : goal.returns-in-Ok-tell_damage-clause-only_read
 returns-in-Ok-tell_damage-clause-only_read g c =
     let looked = c.examine.ensures in
-    let read = c.tell_damage.ensures in
     only_read_then g.D.SectorDevice c.args.device.now c.examine.new.device c.tell_damage.new.device g.met.D.SectorDevice.widens
     (record { disk = looked.disk; stops = looked.stops; passes = looked.passes; begins = looked.begins })
-    (record { disk = read.same; stops = read.stops; passes = read.passes; begins = read.begins })
+    c.tell_damage.ensures.only_read
 
 pub returns-in-Err-tell_damage-clause-only_read : goal.returns-in-Err-tell_damage-clause-only_read
 returns-in-Err-tell_damage-clause-only_read g c =
     let looked = c.examine.ensures in
-    let read = c.tell_damage.ensures in
     only_read_then g.D.SectorDevice c.args.device.now c.examine.new.device c.tell_damage.new.device g.met.D.SectorDevice.widens
     (record { disk = looked.disk; stops = looked.stops; passes = looked.passes; begins = looked.begins })
-    (record { disk = read.same; stops = read.stops; passes = read.passes; begins = read.begins })
+    c.tell_damage.ensures.only_read
 
 pub returns-in-Err-clause-only_read : goal.returns-in-Err-clause-only_read
 returns-in-Err-clause-only_read g c =

@@ -1,6 +1,5 @@
 use Rattle.std.proofs.Common.{ap}
 use Rattle.std.proofs.lemmas.Result.{IfErr-weaker}
-use Rattle.recovery.proofs.Upgrades.{only_read_then}
 use Rattle.terminal.specs.Checked.{ChecksImage}
 use Rattle.terminal.proofs.Ended.{device_first}
 use Rattle.terminal.proofs.Unread.{check_fails, more_unprinted, never_ok}
@@ -31,14 +30,6 @@ returns-in-Err-clause-failed g c =
       silent = λ two other. ap contents (looked.silent two other);
     }) told)
     c.tell_more.ensures.told
-
-pub returns-in-Err-clause-only_read : goal.returns-in-Err-clause-only_read
-returns-in-Err-clause-only_read g c =
-    only_read_then g.D.SectorDevice c.args.device.now c.check_over.new.device c.tell_more.new.device g.met.D.SectorDevice.widens
-    c.check_over.ensures.only_read c.tell_more.ensures.only_read
-
-pub returns-in-Err-clause-unstopped : goal.returns-in-Err-clause-unstopped
-returns-in-Err-clause-unstopped g c = c.tell_more.ensures.unstopped c.in-Err.ensures.unstopped
 
 pub returns-in-Err-clause-unprinted : goal.returns-in-Err-clause-unprinted
 returns-in-Err-clause-unprinted g c =

@@ -1,5 +1,4 @@
-use Rattle.std.proofs.Common.{◌∙◌, sym}
-use Rattle.terminal.proofs.Copies.{becomes, either_failed, left_after, never_stopped, no_new_device, no_old_device, not_refused, tells, told_device, told_first}
+use Rattle.terminal.proofs.Copies.{becomes, left_after, not_refused, tells}
 use Rattle.terminal.proofs.copying.copy_over.Goals as goal
 
 pub returns-in-Ok-clause-copies : goal.returns-in-Ok-clause-copies
@@ -20,24 +19,6 @@ returns-in-Ok-clause-copies g c =
       reads = did.old_reads;
     }
 
-pub returns-in-Err-clause-exact : goal.returns-in-Err-clause-exact
-returns-in-Err-clause-exact g c = λ keeps. told_first c.from.result c.in-Err.fault _ c.from.ensures (c.in-Err.ensures.exact keeps)
-
-pub returns-in-Err-clause-device : goal.returns-in-Err-clause-device
-returns-in-Err-clause-device g c = λ is.
-    either_failed c.in-Err.fault (told_device c.in-Err.fault (sym c.from.ensures ∙ is)) c.in-Err.ensures.old_device c.in-Err.ensures.new_device
-
-pub returns-in-Err-clause-refused : goal.returns-in-Err-clause-refused
-returns-in-Err-clause-refused g c = λ other. (
-  c.in-Err.ensures.old_well (no_old_device c.from.result c.in-Err.fault c.from.ensures other),
-  c.in-Err.ensures.new_well (no_new_device c.from.result c.in-Err.fault c.from.ensures other),
-)
-
-pub returns-in-Err-clause-unasked : goal.returns-in-Err-clause-unasked
-returns-in-Err-clause-unasked g c = λ other.
-    c.in-Err.ensures.new_same (no_old_device c.from.result c.in-Err.fault c.from.ensures other)
-    (no_new_device c.from.result c.in-Err.fault c.from.ensures other)
-
 pub returns-in-Err-clause-failed : goal.returns-in-Err-clause-failed
 returns-in-Err-clause-failed g c =
     let did = c.in-Err.ensures in
@@ -52,6 +33,3 @@ returns-in-Err-clause-failed g c =
       tells = tells g.A.SectorDevice g.B.SectorDevice _ _ c.from.result c.in-Err.fault c.args.old.now c.copy.new.old c.args.new.now c.copy.new.new
           c.from.ensures did.old_device did.new_device did.old_well did.new_well did.new_same did.exact;
     }
-
-pub returns-in-Err-clause-unstopped : goal.returns-in-Err-clause-unstopped
-returns-in-Err-clause-unstopped g c = λ same. never_stopped c.in-Err.fault (sym c.from.ensures ∙ same)

@@ -1,6 +1,5 @@
 use Rattle.std.proofs.Common.{◌≡◌, IsTrue, string_bytes}
-use Rattle.sector_disk.specs.Disk.{MayLeave}
-use Rattle.journal.specs.Calls.{BeginsAtMost, Proceeds, StopsLeave}
+use Rattle.recovery.specs.Steps.{OnlyRead}
 use Rattle.image_care.specs.Standing.{standing_of}
 use Rattle.terminal.specs.Damage.{damage_lines}
 use Rattle.terminal.proofs.damage.damage_of.Given as goal
@@ -13,8 +12,5 @@ invariant-loop-b g l =
     record {
       told : IsTrue (D.keeps_model old) → string_bytes l.text ≡ damage_lines l.b (standing_of (D.disk old).content);
       well : D.failures now ≡ D.failures old;
-      same : IsTrue (D.keeps_model old) → D.disk now ≡ D.disk old;
-      stops : IsTrue (D.keeps_model old) → StopsLeave D old now (MayLeave (D.disk old));
-      passes : Proceeds D old now;
-      begins : BeginsAtMost D old now 0 0;
+      read : OnlyRead D old now;
     }

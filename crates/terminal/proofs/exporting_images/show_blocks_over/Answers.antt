@@ -7,20 +7,8 @@ use Rattle.terminal.specs.Failures.{of_image}
 use Rattle.terminal.specs.Shown.{blocks_refusal}
 use Rattle.terminal.proofs.BlocksShown.{found_of, refused_first, shows_or_not, told_or_not}
 use Rattle.terminal.proofs.Refused.{device_of}
-use Rattle.terminal.proofs.Standings.{found_fails, none_missing, not_shown, of_an_image, ok_both}
+use Rattle.terminal.proofs.Standings.{found_fails, not_shown, ok_both}
 use Rattle.terminal.proofs.exporting_images.show_blocks_over.Goals as goal
-
-pub returns-in-Ok-clause-only_read : goal.returns-in-Ok-clause-only_read
-returns-in-Ok-clause-only_read g c =
-    let one = c.look.ensures in
-    only_read_then g.D.SectorDevice c.args.device.now c.look.new.device c.show_found.new.device g.met.D.SectorDevice.widens
-    (record { disk = one.disk; stops = one.stops; passes = one.passes; begins = one.begins }) c.show_found.ensures.only_read
-
-pub returns-in-Err-clause-only_read : goal.returns-in-Err-clause-only_read
-returns-in-Err-clause-only_read g c =
-    let one = c.look.ensures in
-    only_read_then g.D.SectorDevice c.args.device.now c.look.new.device c.export_anyway.new.device g.met.D.SectorDevice.widens
-    (record { disk = one.disk; stops = one.stops; passes = one.passes; begins = one.begins }) c.export_anyway.ensures.only_read
 
 pub returns-in-Ok-clause-shows : goal.returns-in-Ok-clause-shows
 returns-in-Ok-clause-shows g c =
@@ -84,12 +72,3 @@ returns-in-Err-clause-failed g c =
     (λ keeps. refused_first c.from.result c.in-Err.fault c.args.first c.args.last (D.sector_count old) (D.disk old).content c.from.ensures (c.in-Err.ensures.exact keeps))
     told)
     c.export_anyway.ensures.failed
-
-pub returns-in-Err-clause-no_block : goal.returns-in-Err-clause-no_block
-returns-in-Err-clause-no_block g c =
-    none_missing g.D.SectorDevice _ c.args.first c.args.last c.in-Err.fault c.from.result c.look.new.device c.export_anyway.new.device
-    c.export_anyway.result c.from.ensures c.export_anyway.ensures.failed
-
-pub returns-in-Err-clause-unstopped : goal.returns-in-Err-clause-unstopped
-returns-in-Err-clause-unstopped g c =
-    c.export_anyway.ensures.unstopped (λ is. (of_an_image c.in-Err.fault).1 (sym c.from.ensures ∙ is))

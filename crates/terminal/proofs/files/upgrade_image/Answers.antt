@@ -1,25 +1,18 @@
 use Rattle.std.proofs.Common.{inl, refl}
-use Rattle.sector_disk.specs.contracts.sector_file.SectorFileSectorDevice.TheImpl.{ghosts}
-use Rattle.command_line.specs.declared.orders.Layout.TheVariants.{Two}
-use Rattle.terminal.specs.Files.{IsMade}
-use Rattle.terminal.proofs.Ended.{unopened}
-use Rattle.terminal.proofs.Upgrading.{upgrade_done, upgrade_failed}
+use Rattle.terminal.specs.declared.left.Left.TheVariants.{Opened, Upgraded}
+use Rattle.terminal.proofs.Copied.{both_left, some_left}
 use Rattle.terminal.proofs.files.upgrade_image.Goals as goal
 
-pub returns-in-Ok-clause-made : goal.returns-in-Ok-clause-made
-returns-in-Ok-clause-made g c =
-    upgrade_done (ghosts g.row.H g.H.HostFile g.H.HostFile-dict) Two c.upgrade_into.result.1 c.upgrade_into.result.0 c.in-Ok.source _
-    (IsMade g.H.HostFile (g.O.HostFiles.makes c.args.files.now c.args.new.now)) (record { file = c.in-Ok.ensures.file; sectors = c.in-Ok.ensures.sectors; counts = c.in-Ok.ensures.counts; failures = c.in-Ok.ensures.failures })
-    c.upgrade_into.ensures.made
+pub returns-in-Ok-clause-done : goal.returns-in-Ok-clause-done
+returns-in-Ok-clause-done g c =
+    let ended = c.upgrade_into-target in
+    both_left (λ a. Opened a) (λ a b. Upgraded a b) ended.result.0 ended.result.1 c.upgraded.result _ c.in-Ok.source ended.new.source _ c.in-Ok.ensures.opened c.upgraded.ensures ended.ensures.made
 
 pub returns-in-Ok-clause-failed : goal.returns-in-Ok-clause-failed
 returns-in-Ok-clause-failed g c =
-    upgrade_failed (ghosts g.row.H g.H.HostFile g.H.HostFile-dict) Two c.upgrade_into.result.1 c.upgrade_into.result.0 c.in-Ok.source _
-    (IsMade g.H.HostFile (g.O.HostFiles.makes c.args.files.now c.args.new.now)) _ (record { file = c.in-Ok.ensures.file; sectors = c.in-Ok.ensures.sectors; counts = c.in-Ok.ensures.counts; failures = c.in-Ok.ensures.failures })
-    c.upgrade_into.ensures.failed
-
-pub returns-in-Ok-clause-well : goal.returns-in-Ok-clause-well
-returns-in-Ok-clause-well g c = c.upgrade_into.ensures.well c.in-Ok.ensures.failures
+    let ended = c.upgrade_into-target in
+    some_left (λ a. Opened a) (λ a b. Upgraded a b) ended.result.0 ended.result.1 c.upgraded.result _ _ c.in-Ok.source ended.new.source c.in-Ok.ensures.opened c.upgraded.ensures _
+    ended.ensures.unmade ended.ensures.failed
 
 pub returns-in-Err-clause-failed : goal.returns-in-Err-clause-failed
-returns-in-Err-clause-failed g c = inl (inl (inl (refl, unopened c.in-Err.fault c.from.result c.in-Err.ensures.refusal c.from.ensures)))
+returns-in-Err-clause-failed g c = inl (inl (refl, c.in-Err.ensures.unopened))

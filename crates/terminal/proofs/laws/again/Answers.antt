@@ -1,5 +1,4 @@
 use Rattle.terminal.proofs.Found.{any_moment_import_then_run, any_moment_put_then_run, any_moment_then_run, broken_then_run, chain, ended, fault_then_run, import_then_run, new_then_import, put_then_run, run_then_export, run_then_run, stopped, stopped_import_then_run, stopped_put_then_run, stopped_recovery, stopped_run_then_run}
-use Rattle.terminal.specs.Texts.{IsTextOf}
 use Rattle.terminal.proofs.laws.again.Goals as goal
 
 pub returns-clause-stopped : goal.returns-clause-stopped
@@ -15,39 +14,39 @@ returns-clause-stopped_recovery g c =
     let D = g.met.D.SectorDevice in stopped_recovery g.D.SectorDevice D.present D.keeps_both D.only_now
 
 pub returns-clause-new_then_import : goal.returns-clause-new_then_import
-returns-clause-new_then_import g c = λ texts.
+returns-clause-new_then_import g c = λ world.
     let D = g.met.D.SectorDevice in
-    new_then_import g.D.SectorDevice D.present D.keeps_both D.only_now (λ path. IsTextOf g.B.Read.remaining (g.Q.TextFiles.opens texts path))
+    new_then_import g.D.SectorDevice D.present D.keeps_both D.only_now (g.X.World.gives world).is_text
 
 pub returns-clause-import_then_run : goal.returns-clause-import_then_run
-returns-clause-import_then_run g c = λ texts.
+returns-clause-import_then_run g c = λ world.
     let D = g.met.D.SectorDevice in
-    import_then_run g.D.SectorDevice D.present D.keeps_both D.only_now (λ path. IsTextOf g.B.Read.remaining (g.Q.TextFiles.opens texts path))
+    import_then_run g.D.SectorDevice D.present D.keeps_both D.only_now (g.X.World.gives world).is_text
 
 pub returns-clause-stopped_import_then_run : goal.returns-clause-stopped_import_then_run
-returns-clause-stopped_import_then_run g c = λ texts.
+returns-clause-stopped_import_then_run g c = λ world.
     let D = g.met.D.SectorDevice in
-    stopped_import_then_run g.D.SectorDevice D.present D.keeps_both D.only_now (λ path. IsTextOf g.B.Read.remaining (g.Q.TextFiles.opens texts path))
+    stopped_import_then_run g.D.SectorDevice D.present D.keeps_both D.only_now (g.X.World.gives world).is_text
 
 pub returns-clause-any_moment_import_then_run : goal.returns-clause-any_moment_import_then_run
-returns-clause-any_moment_import_then_run g c = λ texts.
+returns-clause-any_moment_import_then_run g c = λ world.
     let D = g.met.D.SectorDevice in
-    any_moment_import_then_run g.D.SectorDevice D.present D.keeps_both D.only_now (λ path. IsTextOf g.B.Read.remaining (g.Q.TextFiles.opens texts path))
+    any_moment_import_then_run g.D.SectorDevice D.present D.keeps_both D.only_now (g.X.World.gives world).is_text
 
 pub returns-clause-put_then_run : goal.returns-clause-put_then_run
-returns-clause-put_then_run g c = λ texts.
+returns-clause-put_then_run g c = λ world.
     let D = g.met.D.SectorDevice in
-    put_then_run g.D.SectorDevice D.present D.keeps_both D.only_now (λ path. IsTextOf g.B.Read.remaining (g.Q.TextFiles.opens texts path))
+    put_then_run g.D.SectorDevice D.present D.keeps_both D.only_now (g.X.World.gives world).is_text
 
 pub returns-clause-stopped_put_then_run : goal.returns-clause-stopped_put_then_run
-returns-clause-stopped_put_then_run g c = λ texts.
+returns-clause-stopped_put_then_run g c = λ world.
     let D = g.met.D.SectorDevice in
-    stopped_put_then_run g.D.SectorDevice D.present D.keeps_both D.only_now (λ path. IsTextOf g.B.Read.remaining (g.Q.TextFiles.opens texts path))
+    stopped_put_then_run g.D.SectorDevice D.present D.keeps_both D.only_now (g.X.World.gives world).is_text
 
 pub returns-clause-any_moment_put_then_run : goal.returns-clause-any_moment_put_then_run
-returns-clause-any_moment_put_then_run g c = λ texts.
+returns-clause-any_moment_put_then_run g c = λ world.
     let D = g.met.D.SectorDevice in
-    any_moment_put_then_run g.D.SectorDevice D.present D.keeps_both D.only_now (λ path. IsTextOf g.B.Read.remaining (g.Q.TextFiles.opens texts path))
+    any_moment_put_then_run g.D.SectorDevice D.present D.keeps_both D.only_now (g.X.World.gives world).is_text
 
 pub returns-clause-run_then_run : goal.returns-clause-run_then_run
 returns-clause-run_then_run g c =
@@ -66,15 +65,15 @@ returns-clause-broken_then_run g c =
     let D = g.met.D.SectorDevice in broken_then_run g.D.SectorDevice D.present D.keeps_both D.only_now
 
 pub returns-clause-fault_then_run : goal.returns-clause-fault_then_run
-returns-clause-fault_then_run g c = λ texts.
+returns-clause-fault_then_run g c = λ world.
     let D = g.met.D.SectorDevice in
-    fault_then_run g.D.SectorDevice D.present D.keeps_both D.only_now (λ path. IsTextOf g.B.Read.remaining (g.Q.TextFiles.opens texts path))
+    fault_then_run g.D.SectorDevice D.present D.keeps_both D.only_now (g.X.World.gives world).is_text
 
 pub returns-clause-run_then_export : goal.returns-clause-run_then_export
 returns-clause-run_then_export g c =
     let D = g.met.D.SectorDevice in run_then_export g.D.SectorDevice D.present D.keeps_both D.only_now
 
 pub returns-clause-chain : goal.returns-clause-chain
-returns-clause-chain g c = λ texts.
+returns-clause-chain g c = λ world.
     let D = g.met.D.SectorDevice in
-    chain g.D.SectorDevice D.present D.keeps_both D.only_now (λ path. IsTextOf g.B.Read.remaining (g.Q.TextFiles.opens texts path))
+    chain g.D.SectorDevice D.present D.keeps_both D.only_now (g.X.World.gives world).is_text

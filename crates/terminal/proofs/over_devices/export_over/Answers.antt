@@ -39,6 +39,3 @@ returns-in-Err-clause-failed g c =
     IfErr-weaker said.result _ _
     (λ e told. not_printed G c.args.first c.args.last (ExportFails G c.args.first c.args.last) c.in-Err.failure e c.args.device c.in-Err.device said.new.device c.in-Err.ensures.kept told)
     said.ensures.failed
-
-pub returns-in-Err-clause-unstopped : goal.returns-in-Err-clause-unstopped
-returns-in-Err-clause-unstopped g c = c.export_anyway-outcome.ensures.unstopped c.in-Err.ensures.unstopped

@@ -39,6 +39,3 @@ returns-in-Err-clause-failed g c =
     IfErr-weaker said.result _ _
     (λ e told. not_printed G c.args.block c.args.block (ListFails G c.args.block) c.in-Err.failure e c.args.device c.in-Err.device said.new.device c.in-Err.ensures.kept told)
     said.ensures.failed
-
-pub returns-in-Err-clause-unstopped : goal.returns-in-Err-clause-unstopped
-returns-in-Err-clause-unstopped g c = c.list_anyway-outcome.ensures.unstopped c.in-Err.ensures.unstopped

@@ -3,7 +3,7 @@ use Rattle.std.proofs.lemmas.Result.{IfErr-weaker, on_ok_weaker}
 use Rattle.std.specs.Io.KnownBytes.{Appends}
 use Rattle.recovery.specs.Label.{is_size}
 use Rattle.terminal.specs.Copying.{salvage_told, standing_by}
-use Rattle.terminal.proofs.Copies.{becomes, either_failed, left_after, never_memory, never_stopped, never_untold, no_new_device, no_old_device, told_device, told_first_or_untold, told_or_untold, told_plain, told_same, untold_only}
+use Rattle.terminal.proofs.Copies.{becomes, either_failed, left_after, never_memory, never_untold, no_new_device, no_old_device, told_device, told_first_or_untold, told_or_untold, told_plain, told_same, untold_only}
 use Rattle.terminal.proofs.salvaging.salvage_over.Goals as goal
 
 pub returns-in-Ok-clause-salvages : goal.returns-in-Ok-clause-salvages
@@ -104,6 +104,3 @@ returns-in-Err-clause-failed g c =
       well = λ other. (did.old_well (no_old_device c.from.result c.in-Err.fault c.from.ensures other), did.new_well (no_new_device c.from.result c.in-Err.fault c.from.ensures other));
       told = told_or_untold c.from.result c.in-Err.fault _ c.from.ensures did.exact;
     }
-
-pub returns-in-Err-clause-unstopped : goal.returns-in-Err-clause-unstopped
-returns-in-Err-clause-unstopped g c = λ same. never_stopped c.in-Err.fault (sym c.from.ensures ∙ same)

@@ -1,6 +1,5 @@
 use Rattle.std.proofs.Common.{ℕ, List, inl, inr, refl}
 use Rattle.std.proofs.lemmas.Result.{IfErr-weaker, on_ok_weaker}
-use Rattle.recovery.proofs.Upgrades.{only_read_then}
 use Rattle.terminal.specs.Failed.{ReadFails}
 use Rattle.terminal.specs.Through.{SalvagesRead}
 use Rattle.image_care.proofs.Through.{on_each}
@@ -36,11 +35,6 @@ returns-in-Ok-clause-salvages g c =
 
 pub returns-in-Ok-clause-new_well : goal.returns-in-Ok-clause-new_well
 returns-in-Ok-clause-new_well g c = on_ok_weaker c.salvage_read.result (λ well. well.1) c.salvage_read.ensures.well
-
-pub returns-in-Ok-clause-kept : goal.returns-in-Ok-clause-kept
-returns-in-Ok-clause-kept g c =
-    only_read_then g.A.SectorDevice c.args.old.now c.read_through.new.device c.salvage_read.new.old g.met.A.SectorDevice.widens
-    c.read_through.ensures.only_read c.salvage_read.ensures.kept
 
 pub returns-in-Ok-clause-failed : goal.returns-in-Ok-clause-failed
 returns-in-Ok-clause-failed g c =

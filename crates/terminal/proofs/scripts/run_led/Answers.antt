@@ -1,17 +1,16 @@
-use Rattle.std.proofs.Common.{inl, refl}
-use Rattle.terminal.specs.declared.left.Left.TheVariants.{Opened}
-use Rattle.terminal.proofs.Ended.{failed_on, session_on, unopened}
+use Rattle.std.proofs.Common.{inl, inr, refl}
+use Rattle.std.proofs.lemmas.Result.{IfErr-weaker, IfOk-weaker}
 use Rattle.terminal.proofs.scripts.run_led.Goals as goal
 
 pub returns-in-Ok-clause-ends : goal.returns-in-Ok-clause-ends
 returns-in-Ok-clause-ends g c =
-    session_on (λ d. Opened d) _ _ c.in-Ok.disk c.run_over.result.0 c.run_over.result.1 c.opened.result.1 c.opened.result.0
-    (record { file = c.in-Ok.ensures.file; sectors = c.in-Ok.ensures.sectors; counts = c.in-Ok.ensures.counts; failures = c.in-Ok.ensures.failures }) c.opened.ensures.left c.opened.ensures.outcome c.run_over.ensures.ends
+    let ran = c.run_over-disk in
+    IfOk-weaker ran.result.1 _ _ (λ ended session. (ran.result.0, refl, (c.in-Ok.disk, c.in-Ok.ensures.opened, session))) ran.ensures.ends
 
 pub returns-in-Ok-clause-failed : goal.returns-in-Ok-clause-failed
 returns-in-Ok-clause-failed g c =
-    failed_on (λ d. Opened d) _ _ c.in-Ok.disk c.run_over.result.0 c.run_over.result.1 c.opened.result.1 c.opened.result.0
-    (record { file = c.in-Ok.ensures.file; sectors = c.in-Ok.ensures.sectors; counts = c.in-Ok.ensures.counts; failures = c.in-Ok.ensures.failures }) c.opened.ensures.left c.opened.ensures.outcome c.run_over.ensures.failed
+    let ran = c.run_over-disk in
+    IfErr-weaker ran.result.1 _ _ (λ e failed. inr (ran.result.0, refl, (c.in-Ok.disk, c.in-Ok.ensures.opened, failed))) ran.ensures.failed
 
 pub returns-in-Err-clause-failed : goal.returns-in-Err-clause-failed
-returns-in-Err-clause-failed g c = inl (refl, unopened c.in-Err.fault c.from.result c.in-Err.ensures.refusal c.from.ensures)
+returns-in-Err-clause-failed g c = inl (refl, c.in-Err.ensures.unopened)

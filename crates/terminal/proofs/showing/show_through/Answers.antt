@@ -1,6 +1,5 @@
 use Rattle.std.proofs.Common.{inl}
 use Rattle.std.proofs.lemmas.Result.{IfErr-weaker}
-use Rattle.recovery.proofs.Upgrades.{only_read_then}
 use Rattle.terminal.proofs.Standings.{not_listed, ok_both, shown_after, still_unprinted}
 use Rattle.terminal.proofs.showing.show_through.Goals as goal
 
@@ -23,14 +22,6 @@ returns-in-Err-clause-failed g c =
     (λ e told. not_listed g.D.SectorDevice c.args.block c.in-Err.failure e c.args.device.now c.show_over.new.device c.list_anyway.new.device
     c.show_over.ensures.only_read looked.device looked.refused looked.exact told)
     c.list_anyway.ensures.failed
-
-pub returns-in-Err-clause-only_read : goal.returns-in-Err-clause-only_read
-returns-in-Err-clause-only_read g c =
-    only_read_then g.D.SectorDevice c.args.device.now c.show_over.new.device c.list_anyway.new.device g.met.D.SectorDevice.widens
-    c.show_over.ensures.only_read c.list_anyway.ensures.only_read
-
-pub returns-in-Err-clause-unstopped : goal.returns-in-Err-clause-unstopped
-returns-in-Err-clause-unstopped g c = c.list_anyway.ensures.unstopped c.in-Err.ensures.unstopped
 
 pub returns-in-Err-clause-unprinted : goal.returns-in-Err-clause-unprinted
 returns-in-Err-clause-unprinted g c =

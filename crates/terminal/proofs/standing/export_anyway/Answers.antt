@@ -2,7 +2,7 @@ use Rattle.std.proofs.Common.{◌∙◌, ⊎_elim, inl, inr, refl, sym}
 use Rattle.std.proofs.lemmas.Result.{IfErr-weaker}
 use Rattle.terminal.proofs.Outcomes.{if_done}
 use Rattle.terminal.proofs.Refused.{unread}
-use Rattle.terminal.proofs.Standings.{exports_standing, standing_fails, stops_none}
+use Rattle.terminal.proofs.Standings.{exports_standing, standing_fails}
 use Rattle.terminal.proofs.Unread.{not_of_device, of_device}
 use Rattle.terminal.proofs.standing.export_anyway.Goals as goal
 
@@ -34,7 +34,3 @@ returns-else-is_of_device-clause-only_read g c = unread g.D.SectorDevice g.met.D
 pub returns-then-is_of_device-clause-unprinted : goal.returns-then-is_of_device-clause-unprinted
 returns-then-is_of_device-clause-unprinted g c =
     IfErr-weaker c.export_standing.result _ _ (λ e only device write. absurd (⊎_elim device write only)) c.export_standing.ensures.only
-
-pub returns-then-is_of_device-clause-unstopped : goal.returns-then-is_of_device-clause-unstopped
-returns-then-is_of_device-clause-unstopped g c = λ other.
-    IfErr-weaker c.export_standing.result _ _ stops_none c.export_standing.ensures.only

@@ -15,6 +15,3 @@ returns-else-is_of_device-clause-told g c =
 
 pub returns-else-is_of_device-clause-only_read : goal.returns-else-is_of_device-clause-only_read
 returns-else-is_of_device-clause-only_read g c = unread g.D.SectorDevice g.met.D.SectorDevice.only_now c.args.device.now
-
-pub returns-then-is_of_device-clause-unstopped : goal.returns-then-is_of_device-clause-unstopped
-returns-then-is_of_device-clause-unstopped g c = λ other. c.tell_sectors.ensures.unstopped

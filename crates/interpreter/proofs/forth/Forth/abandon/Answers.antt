@@ -15,7 +15,7 @@ returns-clause-clears g c = λ x h.
     let d = core c.args.self.now in
     let space = (c.close.ensures.space d (record { space = refl })).space in
     let whole : length (at_rest d).space ≡ 65536 = ap length space ∙ c.close.ensures.size in (
-      record { budget = c.close.new.self.budget; core = with_empty_stack (at_rest d); world = dropped x },
-      record { budget = refl; same_core = returns-clause-same_core g c d (record { space = refl }); rests = c.close.ensures.closes x h },
+      record { budget = c.close.new.self.budget.steps; undoes = c.close.new.self.budget.undoes; core = with_empty_stack (at_rest d); world = dropped x },
+      record { budget = refl; undoes = refl; same_core = returns-clause-same_core g c d (record { space = refl }); rests = c.close.ensures.closes x h },
       record { stack = refl; interprets = state_is_zero d whole; reads_the_line = blk_is_zero d whole; closed = refl },
     )

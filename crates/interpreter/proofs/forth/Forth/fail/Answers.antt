@@ -23,4 +23,4 @@ pub returns-clause-clears : goal.returns-clause-clears
 returns-clause-clears g c = λ x rests. c.say.ensures.clears (c.abandon.ensures.clears x rests) (dropped x) (c.abandon.ensures.closes x rests)
 
 pub returns-clause-placed : goal.returns-clause-placed
-returns-clause-placed g c = c.say.ensures.placed tt
+returns-clause-placed g c = c.say.ensures.placed c.requires

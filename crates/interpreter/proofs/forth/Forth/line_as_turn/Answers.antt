@@ -12,6 +12,6 @@ returns-clause-runs g c = λ opening system.
 pub returns-clause-sound : goal.returns-clause-sound
 returns-clause-sound g c =
     let s = c.requires.sound in
-    let opening : Forth = record { budget = c.args.self.now.budget; core = core c.args.self.now; world = s.0 } in
-    let h = c.run_line.ensures.lined opening (record { budget = refl; same_core = record { stack = refl; space = refl }; rests = s.1 }) in
+    let opening : Forth = record { budget = c.args.self.now.budget.steps; undoes = c.args.self.now.budget.undoes; core = core c.args.self.now; world = s.0 } in
+    let h = c.run_line.ensures.lined opening (record { budget = refl; undoes = refl; same_core = record { stack = refl; space = refl }; rests = s.1 }) in
     (h.world, h.rests)

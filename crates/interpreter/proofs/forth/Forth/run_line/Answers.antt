@@ -24,8 +24,8 @@ pub returns-in-Ok-clause-lined : goal.returns-in-Ok-clause-lined
 returns-in-Ok-clause-lined g c = λ opening represents.
     let D = g.met.D.SectorDevice in
     let short : nat_le (length c.args.text.now) 1024 ≡ true = le-leb _ _ (omega (arith, c.if-text-gt-LINE_LIMIT.false)) in
-    let opens = line_opens opening c.args.text.now c.args.self.now.budget (core c.take_line.new.self) represents.budget short (c.take_line.ensures.taken opening.core (record { stack = represents.same_core.stack; space = represents.same_core.space })) in
-    let h = c.in-Ok.ensures.ran (suc c.args.self.now.budget) [] (without_loads opening.world) (omega (arith, c.take_line.ensures.steps)) (c.take_line.ensures.stands opening.world represents.rests) in
+    let opens = line_opens opening c.args.text.now c.args.self.now.budget.steps (core c.take_line.new.self) represents.budget short (c.take_line.ensures.taken opening.core (record { stack = represents.same_core.stack; space = represents.same_core.space })) in
+    let h = c.in-Ok.ensures.ran (suc c.args.self.now.budget.steps) [] (without_loads opening.world) (omega (arith, c.take_line.ensures.steps)) (c.take_line.ensures.stands opening.world represents.rests) in
     lined_as g.T.Terminal _ c.finish.result c.args.self.now opening.world (λ r. refl) c.take_line.ensures.device refl
     (over_lined g.D.SectorDevice g.T.Terminal D.counts_now D.widens D.only_now _ h opens c.in-Ok.ensures.continues.lasts c.finish.ensures.lasts
     (c.finish.ensures.lined (core c.interpret.new.self) h.world (record { stack = refl; space = refl }) h.stands.rests))
@@ -34,9 +34,9 @@ pub returns-in-Err-Io-clause-lined : goal.returns-in-Err-Io-clause-lined
 returns-in-Err-Io-clause-lined g c = λ opening represents.
     let D = g.met.D.SectorDevice in
     let short : nat_le (length c.args.text.now) 1024 ≡ true = le-leb _ _ (omega (arith, c.if-text-gt-LINE_LIMIT.false)) in
-    let opens = line_opens opening c.args.text.now c.args.self.now.budget (core c.take_line.new.self) represents.budget short (c.take_line.ensures.taken opening.core (record { stack = represents.same_core.stack; space = represents.same_core.space })) in
+    let opens = line_opens opening c.args.text.now c.args.self.now.budget.steps (core c.take_line.new.self) represents.budget short (c.take_line.ensures.taken opening.core (record { stack = represents.same_core.stack; space = represents.same_core.space })) in
     let ran = rw c.in-Err-Io.field-0-is at c.in-Err-Io.ensures.ran in
-    let h = ran (suc c.args.self.now.budget) [] (without_loads opening.world) (omega (arith, c.take_line.ensures.steps)) (c.take_line.ensures.stands opening.world represents.rests) in
+    let h = ran (suc c.args.self.now.budget.steps) [] (without_loads opening.world) (omega (arith, c.take_line.ensures.steps)) (c.take_line.ensures.stands opening.world represents.rests) in
     lined_as g.T.Terminal _ end.Io c.args.self.now opening.world (λ r. refl) c.take_line.ensures.device refl
     (broke_lined g.D.SectorDevice g.T.Terminal D.counts_now D.widens D.only_now _ c.break_off.new.self h opens c.break_off.ensures.spares.device
     (λ d space. c.break_off.ensures.same_core d space) (c.break_off.ensures.closes h.world h.stands))
@@ -45,9 +45,9 @@ pub returns-in-Err-Fault-clause-lined : goal.returns-in-Err-Fault-clause-lined
 returns-in-Err-Fault-clause-lined g c = λ opening represents.
     let D = g.met.D.SectorDevice in
     let short : nat_le (length c.args.text.now) 1024 ≡ true = le-leb _ _ (omega (arith, c.if-text-gt-LINE_LIMIT.false)) in
-    let opens = line_opens opening c.args.text.now c.args.self.now.budget (core c.take_line.new.self) represents.budget short (c.take_line.ensures.taken opening.core (record { stack = represents.same_core.stack; space = represents.same_core.space })) in
+    let opens = line_opens opening c.args.text.now c.args.self.now.budget.steps (core c.take_line.new.self) represents.budget short (c.take_line.ensures.taken opening.core (record { stack = represents.same_core.stack; space = represents.same_core.space })) in
     let ran = rw c.in-Err-Fault.field-0-is at c.in-Err-Fault.ensures.ran in
-    let h = ran (suc c.args.self.now.budget) [] (without_loads opening.world) (omega (arith, c.take_line.ensures.steps)) (c.take_line.ensures.stands opening.world represents.rests) in
+    let h = ran (suc c.args.self.now.budget.steps) [] (without_loads opening.world) (omega (arith, c.take_line.ensures.steps)) (c.take_line.ensures.stands opening.world represents.rests) in
     let lasts = rw c.in-Err-Fault.field-0-is at c.in-Err-Fault.ensures.continues.lasts in
     lined_as g.T.Terminal _ c.fail-in-Err-Fault.result c.args.self.now opening.world (λ r. refl) c.take_line.ensures.device refl
     (fault_lined g.D.SectorDevice g.T.Terminal D.counts_now D.widens D.only_now _ c.in-Err-Fault.fault c.here_in_stream-place.result h opens lasts c.fail-in-Err-Fault.ensures.lasts
@@ -58,9 +58,9 @@ pub returns-in-Err-Quit-clause-lined : goal.returns-in-Err-Quit-clause-lined
 returns-in-Err-Quit-clause-lined g c = λ opening represents.
     let D = g.met.D.SectorDevice in
     let short : nat_le (length c.args.text.now) 1024 ≡ true = le-leb _ _ (omega (arith, c.if-text-gt-LINE_LIMIT.false)) in
-    let opens = line_opens opening c.args.text.now c.args.self.now.budget (core c.take_line.new.self) represents.budget short (c.take_line.ensures.taken opening.core (record { stack = represents.same_core.stack; space = represents.same_core.space })) in
+    let opens = line_opens opening c.args.text.now c.args.self.now.budget.steps (core c.take_line.new.self) represents.budget short (c.take_line.ensures.taken opening.core (record { stack = represents.same_core.stack; space = represents.same_core.space })) in
     let ran = rw c.in-Err-Quit.field-0-is at c.in-Err-Quit.ensures.ran in
-    let h = ran (suc c.args.self.now.budget) [] (without_loads opening.world) (omega (arith, c.take_line.ensures.steps)) (c.take_line.ensures.stands opening.world represents.rests) in
+    let h = ran (suc c.args.self.now.budget.steps) [] (without_loads opening.world) (omega (arith, c.take_line.ensures.steps)) (c.take_line.ensures.stands opening.world represents.rests) in
     let lasts = rw c.in-Err-Quit.field-0-is at c.in-Err-Quit.ensures.continues.lasts in
     lined_as g.T.Terminal _ c.quit.result c.args.self.now opening.world (λ r. refl) c.take_line.ensures.device refl
     (ends_lined g.D.SectorDevice g.T.Terminal D.counts_now D.widens D.only_now _ stop.Quit refl h opens lasts c.quit.ensures.lasts
@@ -70,9 +70,9 @@ pub returns-in-Err-Abort-clause-lined : goal.returns-in-Err-Abort-clause-lined
 returns-in-Err-Abort-clause-lined g c = λ opening represents.
     let D = g.met.D.SectorDevice in
     let short : nat_le (length c.args.text.now) 1024 ≡ true = le-leb _ _ (omega (arith, c.if-text-gt-LINE_LIMIT.false)) in
-    let opens = line_opens opening c.args.text.now c.args.self.now.budget (core c.take_line.new.self) represents.budget short (c.take_line.ensures.taken opening.core (record { stack = represents.same_core.stack; space = represents.same_core.space })) in
+    let opens = line_opens opening c.args.text.now c.args.self.now.budget.steps (core c.take_line.new.self) represents.budget short (c.take_line.ensures.taken opening.core (record { stack = represents.same_core.stack; space = represents.same_core.space })) in
     let ran = rw c.in-Err-Abort.field-0-is at c.in-Err-Abort.ensures.ran in
-    let h = ran (suc c.args.self.now.budget) [] (without_loads opening.world) (omega (arith, c.take_line.ensures.steps)) (c.take_line.ensures.stands opening.world represents.rests) in
+    let h = ran (suc c.args.self.now.budget.steps) [] (without_loads opening.world) (omega (arith, c.take_line.ensures.steps)) (c.take_line.ensures.stands opening.world represents.rests) in
     let lasts = rw c.in-Err-Abort.field-0-is at c.in-Err-Abort.ensures.continues.lasts in
     lined_as g.T.Terminal _ c.abort.result c.args.self.now opening.world (λ r. refl) c.take_line.ensures.device refl
     (ends_lined g.D.SectorDevice g.T.Terminal D.counts_now D.widens D.only_now _ stop.Abort refl h opens lasts c.abort.ensures.lasts
@@ -112,61 +112,61 @@ returns-then-text-gt-LINE_LIMIT-clause-clears g c = c.fail.ensures.clears c.requ
 
 pub returns-in-Ok-clause-clears : goal.returns-in-Ok-clause-clears
 returns-in-Ok-clause-clears g c =
-    let h = c.in-Ok.ensures.ran (suc c.args.self.now.budget) [] (without_loads c.requires.sound.0) (omega (arith, c.take_line.ensures.steps)) (c.take_line.ensures.stands c.requires.sound.0 c.requires.sound.1) in
+    let h = c.in-Ok.ensures.ran (suc c.args.self.now.budget.steps) [] (without_loads c.requires.sound.0) (omega (arith, c.take_line.ensures.steps)) (c.take_line.ensures.stands c.requires.sound.0 c.requires.sound.1) in
     c.finish.ensures.clears h.world h.stands.rests
 
 pub returns-in-Ok-clause-spends : goal.returns-in-Ok-clause-spends
 returns-in-Ok-clause-spends g c =
-    let h = c.in-Ok.ensures.ran (suc c.args.self.now.budget) [] (without_loads c.requires.sound.0) (omega (arith, c.take_line.ensures.steps)) (c.take_line.ensures.stands c.requires.sound.0 c.requires.sound.1) in
-    omega (arith, h.steps, c.take_line.ensures.steps, c.finish.ensures.steps, c.take_line.ensures.budget, c.in-Ok.ensures.continues.budget, c.finish.ensures.budget)
+    let h = c.in-Ok.ensures.ran (suc c.args.self.now.budget.steps) [] (without_loads c.requires.sound.0) (omega (arith, c.take_line.ensures.steps)) (c.take_line.ensures.stands c.requires.sound.0 c.requires.sound.1) in
+    omega (arith, h.steps, c.take_line.ensures.steps, c.finish.ensures.steps, ap (λ b. b.steps) c.take_line.ensures.budget, ap (λ b. b.steps) c.in-Ok.ensures.continues.budget, ap (λ b. b.steps) c.finish.ensures.budget)
 
 pub returns-in-Err-Fault-clause-clears : goal.returns-in-Err-Fault-clause-clears
 returns-in-Err-Fault-clause-clears g c =
     let ran = rw c.in-Err-Fault.field-0-is at c.in-Err-Fault.ensures.ran in
-    let h = ran (suc c.args.self.now.budget) [] (without_loads c.requires.sound.0) (omega (arith, c.take_line.ensures.steps)) (c.take_line.ensures.stands c.requires.sound.0 c.requires.sound.1) in
+    let h = ran (suc c.args.self.now.budget.steps) [] (without_loads c.requires.sound.0) (omega (arith, c.take_line.ensures.steps)) (c.take_line.ensures.stands c.requires.sound.0 c.requires.sound.1) in
     c.fail-in-Err-Fault.ensures.clears h.world h.stands
 
 pub returns-in-Err-Fault-clause-spends : goal.returns-in-Err-Fault-clause-spends
 returns-in-Err-Fault-clause-spends g c =
     let ran = rw c.in-Err-Fault.field-0-is at c.in-Err-Fault.ensures.ran in
-    let h = ran (suc c.args.self.now.budget) [] (without_loads c.requires.sound.0) (omega (arith, c.take_line.ensures.steps)) (c.take_line.ensures.stands c.requires.sound.0 c.requires.sound.1) in
-    omega (arith, h.steps, c.take_line.ensures.steps, c.fail-in-Err-Fault.ensures.steps, c.take_line.ensures.budget, c.in-Err-Fault.ensures.continues.budget, c.fail-in-Err-Fault.ensures.budget)
+    let h = ran (suc c.args.self.now.budget.steps) [] (without_loads c.requires.sound.0) (omega (arith, c.take_line.ensures.steps)) (c.take_line.ensures.stands c.requires.sound.0 c.requires.sound.1) in
+    omega (arith, h.steps, c.take_line.ensures.steps, c.fail-in-Err-Fault.ensures.steps, ap (λ b. b.steps) c.take_line.ensures.budget, ap (λ b. b.steps) c.in-Err-Fault.ensures.continues.budget, ap (λ b. b.steps) c.fail-in-Err-Fault.ensures.budget)
 
 pub returns-in-Err-Quit-clause-clears : goal.returns-in-Err-Quit-clause-clears
 returns-in-Err-Quit-clause-clears g c =
     let ran = rw c.in-Err-Quit.field-0-is at c.in-Err-Quit.ensures.ran in
-    let h = ran (suc c.args.self.now.budget) [] (without_loads c.requires.sound.0) (omega (arith, c.take_line.ensures.steps)) (c.take_line.ensures.stands c.requires.sound.0 c.requires.sound.1) in
+    let h = ran (suc c.args.self.now.budget.steps) [] (without_loads c.requires.sound.0) (omega (arith, c.take_line.ensures.steps)) (c.take_line.ensures.stands c.requires.sound.0 c.requires.sound.1) in
     c.quit.ensures.clears h.world h.stands
 
 pub returns-in-Err-Quit-clause-spends : goal.returns-in-Err-Quit-clause-spends
 returns-in-Err-Quit-clause-spends g c =
     let ran = rw c.in-Err-Quit.field-0-is at c.in-Err-Quit.ensures.ran in
-    let h = ran (suc c.args.self.now.budget) [] (without_loads c.requires.sound.0) (omega (arith, c.take_line.ensures.steps)) (c.take_line.ensures.stands c.requires.sound.0 c.requires.sound.1) in
-    omega (arith, h.steps, c.take_line.ensures.steps, c.quit.ensures.steps, c.take_line.ensures.budget, c.in-Err-Quit.ensures.continues.budget, c.quit.ensures.budget)
+    let h = ran (suc c.args.self.now.budget.steps) [] (without_loads c.requires.sound.0) (omega (arith, c.take_line.ensures.steps)) (c.take_line.ensures.stands c.requires.sound.0 c.requires.sound.1) in
+    omega (arith, h.steps, c.take_line.ensures.steps, c.quit.ensures.steps, ap (λ b. b.steps) c.take_line.ensures.budget, ap (λ b. b.steps) c.in-Err-Quit.ensures.continues.budget, ap (λ b. b.steps) c.quit.ensures.budget)
 
 pub returns-in-Err-Abort-clause-clears : goal.returns-in-Err-Abort-clause-clears
 returns-in-Err-Abort-clause-clears g c =
     let ran = rw c.in-Err-Abort.field-0-is at c.in-Err-Abort.ensures.ran in
-    let h = ran (suc c.args.self.now.budget) [] (without_loads c.requires.sound.0) (omega (arith, c.take_line.ensures.steps)) (c.take_line.ensures.stands c.requires.sound.0 c.requires.sound.1) in
+    let h = ran (suc c.args.self.now.budget.steps) [] (without_loads c.requires.sound.0) (omega (arith, c.take_line.ensures.steps)) (c.take_line.ensures.stands c.requires.sound.0 c.requires.sound.1) in
     c.abort.ensures.clears h.world h.stands
 
 pub returns-in-Err-Abort-clause-spends : goal.returns-in-Err-Abort-clause-spends
 returns-in-Err-Abort-clause-spends g c =
     let ran = rw c.in-Err-Abort.field-0-is at c.in-Err-Abort.ensures.ran in
-    let h = ran (suc c.args.self.now.budget) [] (without_loads c.requires.sound.0) (omega (arith, c.take_line.ensures.steps)) (c.take_line.ensures.stands c.requires.sound.0 c.requires.sound.1) in
-    omega (arith, h.steps, c.take_line.ensures.steps, c.abort.ensures.steps, c.take_line.ensures.budget, c.in-Err-Abort.ensures.continues.budget, c.abort.ensures.budget)
+    let h = ran (suc c.args.self.now.budget.steps) [] (without_loads c.requires.sound.0) (omega (arith, c.take_line.ensures.steps)) (c.take_line.ensures.stands c.requires.sound.0 c.requires.sound.1) in
+    omega (arith, h.steps, c.take_line.ensures.steps, c.abort.ensures.steps, ap (λ b. b.steps) c.take_line.ensures.budget, ap (λ b. b.steps) c.in-Err-Abort.ensures.continues.budget, ap (λ b. b.steps) c.abort.ensures.budget)
 
 pub returns-in-Err-Io-clause-clears : goal.returns-in-Err-Io-clause-clears
 returns-in-Err-Io-clause-clears g c =
     let ran = rw c.in-Err-Io.field-0-is at c.in-Err-Io.ensures.ran in
-    let h = ran (suc c.args.self.now.budget) [] (without_loads c.requires.sound.0) (omega (arith, c.take_line.ensures.steps)) (c.take_line.ensures.stands c.requires.sound.0 c.requires.sound.1) in
+    let h = ran (suc c.args.self.now.budget.steps) [] (without_loads c.requires.sound.0) (omega (arith, c.take_line.ensures.steps)) (c.take_line.ensures.stands c.requires.sound.0 c.requires.sound.1) in
     c.break_off.ensures.clears h.world h.stands
 
 pub returns-in-Err-Io-clause-spends : goal.returns-in-Err-Io-clause-spends
 returns-in-Err-Io-clause-spends g c =
     let ran = rw c.in-Err-Io.field-0-is at c.in-Err-Io.ensures.ran in
-    let h = ran (suc c.args.self.now.budget) [] (without_loads c.requires.sound.0) (omega (arith, c.take_line.ensures.steps)) (c.take_line.ensures.stands c.requires.sound.0 c.requires.sound.1) in
-    omega (arith, h.steps, c.take_line.ensures.steps, c.break_off.ensures.steps, c.take_line.ensures.budget, c.in-Err-Io.ensures.continues.budget, c.break_off.ensures.spares.budget)
+    let h = ran (suc c.args.self.now.budget.steps) [] (without_loads c.requires.sound.0) (omega (arith, c.take_line.ensures.steps)) (c.take_line.ensures.stands c.requires.sound.0 c.requires.sound.1) in
+    omega (arith, h.steps, c.take_line.ensures.steps, c.break_off.ensures.steps, ap (λ b. b.steps) c.take_line.ensures.budget, ap (λ b. b.steps) c.in-Err-Io.ensures.continues.budget, ap (λ b. b.steps) c.break_off.ensures.spares.budget)
 
 pub returns-then-text-gt-LINE_LIMIT-clause-lasts : goal.returns-then-text-gt-LINE_LIMIT-clause-lasts
 returns-then-text-gt-LINE_LIMIT-clause-lasts g c = c.fail.ensures.lasts
@@ -232,4 +232,4 @@ pub returns-in-Err-Io-clause-budget : goal.returns-in-Err-Io-clause-budget
 returns-in-Err-Io-clause-budget g c = c.break_off.ensures.budget ∙ c.in-Err-Io.ensures.continues.budget ∙ c.take_line.ensures.budget
 
 pub returns-then-text-gt-LINE_LIMIT-clause-spends : goal.returns-then-text-gt-LINE_LIMIT-clause-spends
-returns-then-text-gt-LINE_LIMIT-clause-spends g c = omega (arith, c.fail.ensures.steps, c.fail.ensures.budget)
+returns-then-text-gt-LINE_LIMIT-clause-spends g c = omega (arith, c.fail.ensures.steps, ap (λ b. b.steps) c.fail.ensures.budget)

@@ -28,6 +28,7 @@ returns-clause-opens g c = λ m gives.
     record {
       represents = record {
         budget = refl;
+        undoes = refl;
         same_core = record { stack = sym c.new.ensures; space = ap (λ l. with_cell l 16 10) (sym c.requires.blank.zeros) ∙ sym wrote };
         rests = record {
           meant = c.requires.blank.words;

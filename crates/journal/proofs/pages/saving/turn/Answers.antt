@@ -3,10 +3,11 @@ use Rattle.std.specs.Prelude.{not}
 use Rattle.std.proofs.lemmas.Result.{on_ok_weaker}
 use Rattle.sector_disk.specs.Disk.{Disk, written, settled}
 use Rattle.sector_disk.proofs.Moments.{leaves_then}
-use Rattle.journal.proofs.PageCalls.{keeps_on, passes_then}
+use Rattle.journal.proofs.Calls.{keeps_on, passes_then}
 use Rattle.journal.specs.PageLayout.{gate_at, gate_bytes, record_at}
 use Rattle.sector_disk.specs.Pages.{InPage}
 use Rattle.journal.specs.Steps.{IsAsSynced}
+use Rattle.journal.specs.declared.sizes.Layout.TheVariants.{Pages}
 use Rattle.journal.proofs.pages.saving.turn.Goals as goal
 
 pub returns-clause-ok : goal.returns-clause-ok
@@ -24,7 +25,7 @@ returns-clause-ok g c = λ keeps.
 pub returns-in_err-write_through-clause-stops : goal.returns-in_err-write_through-clause-stops
 returns-in_err-write_through-clause-stops g c = λ keeps x since.
     let D = g.D.SectorDevice in
-    inl (subst (λ k. IsAsSynced (InPage k) (D.disk c.args.device.now) x) c.record_sector.ensures (c.write_through.ensures.stops keeps x since))
+    inl (subst (λ k. IsAsSynced (InPage k) (D.disk c.args.device.now) x) c.record_sector.ensures (c.write_through.ensures.stops Pages keeps x since))
 
 pub returns-clause-stops : goal.returns-clause-stops
 returns-clause-stops g c = λ keeps.
@@ -36,7 +37,7 @@ returns-clause-stops g c = λ keeps.
     let honest = keeps_on D old mid keeps c.write_through.ensures.passes in
     leaves_then D.time D.left_since old mid c.write_through-2.new.device
     (IsAsSynced (InPage c.record_sector.result) (D.disk old)) (IsAsSynced (InPage gate_at) (D.disk mid)) _
-    c.write_through.ensures.passes.time c.write_through-2.ensures.passes.time (c.write_through.ensures.stops keeps) (c.write_through-2.ensures.stops honest)
+    c.write_through.ensures.passes.time c.write_through-2.ensures.passes.time (c.write_through.ensures.stops Pages keeps) (c.write_through-2.ensures.stops Pages honest)
     (λ x is. inl (subst (λ k. IsAsSynced (InPage k) (D.disk old) x) c.record_sector.ensures is))
     (λ x is. inr (subst (λ (e : Disk). IsAsSynced (InPage gate_at) e x) is_mid is))
 

@@ -1,11 +1,13 @@
-use Rattle.std.proofs.Common.{◌≡◌, ◌∙◌, ◌+◌, ◌++◌, ℕ, List, take, drop, refl, ap, arith, take-append-drop}
+use Rattle.std.proofs.Common.{◌≡◌, ◌∙◌, inl, inr, ◌+◌, ◌++◌, ℕ, List, take, drop, refl, ap, arith, take-append-drop}
 use Rattle.std.proofs.lemmas.Result.{on_ok_weaker}
 use Rattle.sector_disk.specs.Disk.{Disk, written, with_sector}
 use Rattle.sector_disk.specs.Pages.{InPage}
 use Rattle.sector_disk.proofs.Moments.{leaves_then, sector_same, sector_other}
 use Rattle.journal.specs.Images.{pair_at}
-use Rattle.journal.specs.Steps.{IsAsSynced}
-use Rattle.journal.proofs.PageCalls.{keeps_on, passes_then}
+use Rattle.journal.specs.Layouts.{SpoilsPair}
+use Rattle.journal.specs.Steps.{IsAsSynced, WritesOnly}
+use Rattle.journal.specs.declared.sizes.Layout.TheVariants.{Pages}
+use Rattle.journal.proofs.Calls.{keeps_on, passes_then}
 use Rattle.journal.proofs.Paging.{only_then, left_then, wider, wider_left}
 use Rattle.journal.proofs.pages.spilling.write_place.Goals as goal
 
@@ -28,6 +30,24 @@ placed_pair k bytes tag d e f is then = (λ t. first t ++ second t) ∙ take-app
 -- the page of the tag's sector
 same_page : (k : ℕ) → InPage k (k + 2) → (j : ℕ) → InPage (k + 2) j → InPage k j
 same_page k page j is = is ∙ page
+
+-- and that of both halves
+pair_page : (k : ℕ) → InPage k (k + 1) → (j : ℕ) → SpoilsPair Pages k j → InPage k j
+pair_page k page j (inl at) = at
+pair_page k page j (inr at) = at ∙ page
+
+pair_only : (k : ℕ) → InPage k (k + 1) → (d e : Disk) → WritesOnly (SpoilsPair Pages k) d e → WritesOnly (InPage k) d e
+pair_only k page d e = wider (SpoilsPair Pages k) (InPage k) (pair_page k page) d e
+
+pub returns-in_err-write_pair-clause-only : goal.returns-in_err-write_pair-clause-only
+returns-in_err-write_pair-clause-only g c = λ keeps.
+    let D = g.D.SectorDevice in
+    pair_only c.args.k c.requires.pair (D.disk c.args.device.now) (D.disk c.write_pair.new.device) (c.write_pair.ensures.only Pages keeps)
+
+pub returns-in_err-write_pair-clause-stops : goal.returns-in_err-write_pair-clause-stops
+returns-in_err-write_pair-clause-stops g c = λ keeps x since.
+    wider_left (SpoilsPair Pages c.args.k) (InPage c.args.k) (pair_page c.args.k c.requires.pair) (g.D.SectorDevice.disk c.args.device.now) x
+    (c.write_pair.ensures.stops Pages keeps x since)
 
 pub returns-clause-bytes : goal.returns-clause-bytes
 returns-clause-bytes g c = λ keeps.
@@ -59,8 +79,8 @@ returns-clause-only g c = λ keeps.
     let new = c.write_sector.new.device in
     let k = c.args.k in
     let honest = keeps_on D old mid keeps c.write_pair.ensures.passes in
-    only_then (InPage k) (D.disk old) (D.disk mid) (D.disk new) (c.write_pair.ensures.only keeps)
-    (wider (InPage (k + 2)) (InPage k) (same_page k c.requires.page) (D.disk mid) (D.disk new) (c.write_sector.ensures.only honest))
+    only_then (InPage k) (D.disk old) (D.disk mid) (D.disk new) (pair_only k c.requires.pair (D.disk old) (D.disk mid) (c.write_pair.ensures.only Pages keeps))
+    (wider (InPage (k + 2)) (InPage k) (same_page k c.requires.page) (D.disk mid) (D.disk new) (c.write_sector.ensures.only Pages honest))
 
 pub returns-clause-stops : goal.returns-clause-stops
 returns-clause-stops g c = λ keeps.
@@ -69,12 +89,12 @@ returns-clause-stops g c = λ keeps.
     let mid = c.write_pair.new.device in
     let new = c.write_sector.new.device in
     let k = c.args.k in
-    let only = c.write_pair.ensures.only keeps in
+    let only = pair_only k c.requires.pair (D.disk old) (D.disk mid) (c.write_pair.ensures.only Pages keeps) in
     let honest = keeps_on D old mid keeps c.write_pair.ensures.passes in
     leaves_then D.time D.left_since old mid new
-    (IsAsSynced (InPage k) (D.disk old)) (IsAsSynced (InPage (k + 2)) (D.disk mid)) (IsAsSynced (InPage k) (D.disk old))
-    c.write_pair.ensures.passes.time c.write_sector.ensures.passes.time (c.write_pair.ensures.stops keeps) (c.write_sector.ensures.stops honest)
-    (λ x is. is)
+    (IsAsSynced (SpoilsPair Pages k) (D.disk old)) (IsAsSynced (InPage (k + 2)) (D.disk mid)) (IsAsSynced (InPage k) (D.disk old))
+    c.write_pair.ensures.passes.time c.write_sector.ensures.passes.time (c.write_pair.ensures.stops Pages keeps) (c.write_sector.ensures.stops Pages honest)
+    (λ x is. wider_left (SpoilsPair Pages k) (InPage k) (pair_page k c.requires.pair) (D.disk old) x is)
     (λ x is. left_then (InPage k) (D.disk old) (D.disk mid) x only (wider_left (InPage (k + 2)) (InPage k) (same_page k c.requires.page) (D.disk mid) x is))
 
 pub returns-clause-passes : goal.returns-clause-passes

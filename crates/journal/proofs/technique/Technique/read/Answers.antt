@@ -14,12 +14,12 @@ returns-clause-bytes g c = λ keeps.
     (c.read_pair.ensures.bytes (suits_keeps D g.met.D.SectorDevice.keeps_both c.args.device.now keeps))
 
 pub returns-clause-disk : goal.returns-clause-disk
-returns-clause-disk g c = λ keeps. c.read_pair.ensures.disk (suits_keeps g.D.SectorDevice g.met.D.SectorDevice.keeps_both c.args.device.now keeps)
+returns-clause-disk g c = λ keeps. c.read_pair.ensures.reads.disk (suits_keeps g.D.SectorDevice g.met.D.SectorDevice.keeps_both c.args.device.now keeps)
 
 pub returns-clause-stops : goal.returns-clause-stops
-returns-clause-stops g c = λ keeps. c.read_pair.ensures.stops (suits_keeps g.D.SectorDevice g.met.D.SectorDevice.keeps_both c.args.device.now keeps)
+returns-clause-stops g c = λ keeps. c.read_pair.ensures.reads.stops (suits_keeps g.D.SectorDevice g.met.D.SectorDevice.keeps_both c.args.device.now keeps)
 
 pub returns-clause-suits : goal.returns-clause-suits
 returns-clause-suits g c =
-    let passes = c.read_pair.ensures.passes in
+    let passes = c.read_pair.ensures.reads.passes in
     stays g.D.SectorDevice c.args.device.now c.read_pair.new.device passes.sectors passes.model passes.units

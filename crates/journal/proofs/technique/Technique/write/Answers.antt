@@ -3,6 +3,7 @@ use Rattle.std.specs.Prelude.{OnOk}
 use Rattle.journal.specs.Images.{pair_at}
 use Rattle.journal.specs.Layout.{InPair}
 use Rattle.journal.specs.Steps.{WritesOnly, IsAsSynced}
+use Rattle.journal.specs.declared.sizes.Layout.TheVariants as layouts
 use Rattle.journal.specs.Technique.{spilled_at, spilled_of, InSpill}
 use Rattle.journal.proofs.Spilled.{spilled_more}
 use Rattle.journal.proofs.Suited.{stays}
@@ -19,7 +20,7 @@ returns-in-Journal-clause-ok g c = λ keeps.
     let at = c.slot_sector.ensures ∙ sym (ap (λ t. spilled_at t c.args.b) c.in-Journal.is) in
     on_ok c.write_pair.result
     (λ wrote. subst (λ k. pair_at e.content k ≡ bytes) at (pair_written c.slot_sector.result bytes d e wrote))
-    (c.write_pair.ensures.ok (suits_journal D c.args.self.now blocks.number c.args.device.now blocks.many blocks.few c.requires.size c.in-Journal.is keeps))
+    (c.write_pair.ensures.ok (g.met.D.SectorDevice.keeps_both c.args.device.now (suits_journal D c.args.self.now blocks.number c.args.device.now blocks.many blocks.few c.requires.size c.in-Journal.is keeps)))
 
 pub returns-in-Journal-clause-tagged : goal.returns-in-Journal-clause-tagged
 returns-in-Journal-clause-tagged g c = λ keeps before.
@@ -27,7 +28,7 @@ returns-in-Journal-clause-tagged g c = λ keeps before.
     let blocks = c.args.blocks in
     on_ok c.write_pair.result
     (λ wrote next more. journal_tagged c.args.self.now c.in-Journal.is blocks.number next c.args.sum.now (D.disk c.write_pair.new.device).content)
-    (c.write_pair.ensures.ok (suits_journal D c.args.self.now blocks.number c.args.device.now blocks.many blocks.few c.requires.size c.in-Journal.is keeps))
+    (c.write_pair.ensures.ok (g.met.D.SectorDevice.keeps_both c.args.device.now (suits_journal D c.args.self.now blocks.number c.args.device.now blocks.many blocks.few c.requires.size c.in-Journal.is keeps)))
 
 pub returns-in-Journal-clause-only : goal.returns-in-Journal-clause-only
 returns-in-Journal-clause-only g c = λ keeps.
@@ -36,7 +37,7 @@ returns-in-Journal-clause-only g c = λ keeps.
     let d = D.disk c.args.device.now in
     let e = D.disk c.write_pair.new.device in
     subst (λ t. WritesOnly (InSpill t c.args.b) d e) (sym c.in-Journal.is) (subst (λ k. WritesOnly (InPair k) d e) c.slot_sector.ensures
-    (c.write_pair.ensures.only (suits_journal D c.args.self.now blocks.number c.args.device.now blocks.many blocks.few c.requires.size c.in-Journal.is keeps)))
+    (c.write_pair.ensures.only layouts.Journal (suits_journal D c.args.self.now blocks.number c.args.device.now blocks.many blocks.few c.requires.size c.in-Journal.is keeps)))
 
 pub returns-in-Journal-clause-stops : goal.returns-in-Journal-clause-stops
 returns-in-Journal-clause-stops g c = λ keeps x since.
@@ -44,7 +45,7 @@ returns-in-Journal-clause-stops g c = λ keeps x since.
     let blocks = c.args.blocks in
     let d = D.disk c.args.device.now in
     subst (λ t. IsAsSynced (InSpill t c.args.b) d x) (sym c.in-Journal.is) (subst (λ k. IsAsSynced (InPair k) d x) c.slot_sector.ensures
-    (c.write_pair.ensures.stops (suits_journal D c.args.self.now blocks.number c.args.device.now blocks.many blocks.few c.requires.size c.in-Journal.is keeps) x since))
+    (c.write_pair.ensures.stops layouts.Journal (suits_journal D c.args.self.now blocks.number c.args.device.now blocks.many blocks.few c.requires.size c.in-Journal.is keeps) x since))
 
 pub returns-in-Journal-clause-suits : goal.returns-in-Journal-clause-suits
 returns-in-Journal-clause-suits g c =

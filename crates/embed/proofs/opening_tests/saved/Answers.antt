@@ -1,5 +1,0 @@
-use Rattle.embed.proofs.Staying.{may_stay}
-use Rattle.embed.proofs.opening_tests.saved.Goals as goal
-
-pub save_open_over-requires : goal.save_open_over-requires
-save_open_over-requires g c = record { stays = λ keeps. may_stay g.D.SectorDevice c.args.device c.args.store.now c.requires }

@@ -1,0 +1,11 @@
+pub mod Counts
+pub mod Devices
+pub mod Hosts
+pub mod Numbers
+pub mod Outcomes
+pub mod Rooms
+pub mod Runs
+pub mod Sizes
+pub mod Spills
+pub mod Stores
+pub mod Staying
