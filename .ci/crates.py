@@ -1,4 +1,4 @@
-"""The crates that crates.txt names, and works that are done side by side: what .ci/prove and .ci/tests share."""
+"""The crates that crates.txt names, and works that are done side by side: what the tools share."""
 import contextlib
 import glob
 import os
@@ -11,8 +11,8 @@ import threading
 from concurrent.futures import FIRST_COMPLETED, ThreadPoolExecutor, wait
 
 ROOT = os.path.dirname(os.path.dirname(os.path.abspath(__file__)))
-# a module of a library that its tests alone have
-OWN_TESTS = re.compile(r"^#\[cfg\(test\)\]\nmod (\w+);\n", re.M)
+# where copies are made: out of the sight of `rt ci`, and mostly on the disk of the repository
+ROOMS = f"{ROOT}/.git/rooms" if os.path.isdir(f"{ROOT}/.git") else f"{ROOT}/out/rooms"
 
 
 class Crate:
@@ -23,46 +23,22 @@ class Crate:
         self.name, self.line, self.names = head.split()[0], line, uses.split()
         self.home, self.uses, self.of_kit = f"{ROOT}/crates/{self.name}", [], []
 
-    def find(self, known):
-        """Tells which of the libraries are crates of the repository, and which the toolchain's."""
-        self.uses = [known[it] for it in self.names if it in known]
-        self.of_kit = [it for it in self.names if it not in known]
-
     def below(self):
         """The crates that it stands on, lowest first."""
-        found = {}
-        for it in self.uses:
-            found.update(dict.fromkeys([*it.below(), it]))
-        return list(found)
-
-    def is_static(self):
-        """Whether it is built for programs of other languages."""
-        return "staticlib" in self.line.partition(":")[0]
+        return list(dict.fromkeys(low for it in self.uses for low in [*it.below(), it]))
 
     def is_program(self):
         return os.path.isfile(f"{self.home}/src/main.rt")
 
-    def files(self, *kinds):
-        return [file for it in kinds for file in glob.glob(f"{self.home}/{it}", recursive=True)]
-
     def holds_tests(self):
-        return any("#[test]" in text_of(it) for it in self.files("src/**/*.rt"))
+        return any("#[test]" in text_of(it) for it in self.code())
 
-    def has_own_tests(self):
-        """Whether it is a library that has tests beside what it is for."""
-        return os.path.isfile(f"{self.home}/src/lib.rt") and bool(OWN_TESTS.search(text_of(f"{self.home}/src/lib.rt")))
+    def code(self):
+        return sorted(glob.glob(f"{self.home}/src/**/*.rt", recursive=True))
 
-    def leave_own_tests_out(self, home):
-        """Takes these out of a copy of it, with what is proved of them."""
-        text = text_of(f"{home}/src/lib.rt")
-        for it in OWN_TESTS.findall(text):
-            os.remove(f"{home}/src/{it}.rt")
-            shutil.rmtree(f"{home}/proofs/{it}", ignore_errors=True)
-        with open(f"{home}/src/lib.rt", "w", encoding="utf-8") as file:
-            file.write(OWN_TESTS.sub("", text))
-
-    def size(self, *kinds):
-        return sum(map(os.path.getsize, self.files(*kinds)))
+    def size(self):
+        """The bytes of its code."""
+        return sum(map(os.path.getsize, self.code()))
 
     def pages(self):
         """The files and folders of the repository that its program reads too, as if they lay in its data/: its file pages/data names them. What it is given
@@ -91,12 +67,29 @@ def all_crates():
     lines = [it for it in text_of(f"{ROOT}/crates.txt").splitlines(True) if it.strip() and not it.startswith("#")]
     known = {it.name: it for it in map(Crate, lines)}
     for it in known.values():
-        it.find(known)
+        it.uses, it.of_kit = [known[name] for name in it.names if name in known], [name for name in it.names if name not in known]
     return {low.name: low for it in known.values() for low in [*it.below(), it]}
+
+
+def kit():
+    """The folder of the toolchain."""
+    return os.path.dirname(subprocess.run(["rt", "doc"], stdin=subprocess.DEVNULL, stdout=subprocess.PIPE, text=True, check=True).stdout.strip())
+
+
+def linked(source, to):
+    """Makes a tree of links to the files of another, or a copy where files can't be linked."""
+    subprocess.run(["sh", "-c", 'cp -al "$0" "$1" 2> /dev/null || { rm -rf "$1"; cp -a "$0" "$1"; }', source, to], check=True)
 
 
 def processors():
     return len(os.sched_getaffinity(0))
+
+
+def jobs_of(words):
+    """How many works go side by side, by `--jobs N` or as there are processors, and the other words of a call."""
+    if words[:1] == ["--jobs"] and words[1:2] and words[1].isdigit():
+        return max(1, int(words[1])), words[2:]
+    return processors(), words
 
 
 def free_memory():
@@ -110,12 +103,14 @@ def free_memory():
 
 # ---- commands that end when this program ends
 
-STARTED, LOCK = set(), threading.Lock()
+STARTED, LOCK, ENDED = set(), threading.Lock(), threading.Event()
 
 
 def ran(words, **how):
     """Runs a command, with nothing to read unless `how` says what, and answers its status, as the shell tells it, and its seconds of processor."""
     with LOCK:
+        if ENDED.is_set():
+            raise InterruptedError("this program ends")
         part = subprocess.Popen(words, **{"stdin": subprocess.DEVNULL, **how})
         STARTED.add(part.pid)
     _, status, used = os.wait4(part.pid, 0)
@@ -131,7 +126,16 @@ def end_by_signals():
         signal.signal(it, lambda number, _: sys.exit(128 + number))
 
 
-def side_by_side(works, after, may_begin, do, told):
+def end_started():
+    """Ends what runs, and has nothing begin any more."""
+    ENDED.set()
+    with LOCK:
+        for it in STARTED:
+            with contextlib.suppress(ProcessLookupError):
+                (os.killpg if os.getpgid(it) == it else os.kill)(it, signal.SIGTERM)
+
+
+def side_by_side(works, may_begin, do, told, after=lambda _: ()):
     """Does works in their order, each once those that it comes `after` went well, and as soon as `may_begin(work, running)` or nothing runs. What `do(work)`
     answers is `told(work, answer)`, which says whether that is well. It answers the works that were not begun, since they come after one that failed."""
     left, running, well = list(works), {}, set()
@@ -149,9 +153,6 @@ def side_by_side(works, after, may_begin, do, told):
                 if told(it, future.result()):
                     well.add(it)
     finally:
-        with LOCK:
-            for it in STARTED:
-                with contextlib.suppress(ProcessLookupError):
-                    (os.killpg if os.getpgid(it) == it else os.kill)(it, signal.SIGTERM)
+        end_started()
         pool.shutdown()
     return left
