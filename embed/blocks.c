@@ -24,18 +24,18 @@ static jmp_buf cut;
 static void power_fails(void) { longjmp(cut, 1); }
 
 static uint8_t save(int number) {
-    uint8_t bytes[2 * BLOCK_BYTES];
+    uint8_t bytes[2 * SILGWYRAD_BLOCK];
     memset(bytes, number, sizeof bytes);
     return silgwyrad_save(DEVICE, disk.sectors, two_blocks, 2, bytes, sizeof bytes);
 }
 
 /* The number that all bytes of both blocks hold. */
 static int held(void) {
-    uint8_t bytes[2][BLOCK_BYTES];
+    uint8_t bytes[2][SILGWYRAD_BLOCK];
     for (int i = 0; i < 2; i++)
-        if (silgwyrad_read(DEVICE, disk.sectors, two_blocks[i], bytes[i], BLOCK_BYTES)) return REFUSED;
-    if (memcmp(bytes[0], bytes[1], BLOCK_BYTES)) return MIXED;
-    for (int i = 1; i < BLOCK_BYTES; i++)
+        if (silgwyrad_read(DEVICE, disk.sectors, two_blocks[i], bytes[i], SILGWYRAD_BLOCK)) return REFUSED;
+    if (memcmp(bytes[0], bytes[1], SILGWYRAD_BLOCK)) return MIXED;
+    for (int i = 1; i < SILGWYRAD_BLOCK; i++)
         if (bytes[0][i] != bytes[0][0]) return MIXED;
     return bytes[0][0];
 }
@@ -128,18 +128,18 @@ static long failures_told(const struct disk *start) {
 
 /* Arguments that are refused leave the device alone, and what was to be filled as it was. */
 static int are_refused(const struct disk *start) {
-    uint8_t bytes[BLOCK_BYTES + 1];
+    uint8_t bytes[SILGWYRAD_BLOCK + 1];
     const uint16_t past_the_end = BLOCKS;
     memset(bytes, 5, sizeof bytes);
     disk = *start;
-    return silgwyrad_read(DEVICE, disk.sectors, BLOCKS, bytes, BLOCK_BYTES) == SILGWYRAD_NO_BLOCK
-        && silgwyrad_read(DEVICE, disk.sectors, 1, bytes, BLOCK_BYTES + 1) == SILGWYRAD_BAD_LENGTH
-        && silgwyrad_read(DEVICE, disk.sectors - 2, 1, bytes, BLOCK_BYTES) == SILGWYRAD_BAD_SIZE
-        && silgwyrad_save(DEVICE, disk.sectors, &past_the_end, 1, bytes, BLOCK_BYTES) == SILGWYRAD_NO_BLOCK
-        && silgwyrad_save(DEVICE, disk.sectors, two_blocks, 2, bytes, BLOCK_BYTES) == SILGWYRAD_BAD_LENGTH
+    return silgwyrad_read(DEVICE, disk.sectors, BLOCKS, bytes, SILGWYRAD_BLOCK) == SILGWYRAD_NO_BLOCK
+        && silgwyrad_read(DEVICE, disk.sectors, 1, bytes, SILGWYRAD_BLOCK + 1) == SILGWYRAD_BAD_LENGTH
+        && silgwyrad_read(DEVICE, disk.sectors - 2, 1, bytes, SILGWYRAD_BLOCK) == SILGWYRAD_BAD_SIZE
+        && silgwyrad_save(DEVICE, disk.sectors, &past_the_end, 1, bytes, SILGWYRAD_BLOCK) == SILGWYRAD_NO_BLOCK
+        && silgwyrad_save(DEVICE, disk.sectors, two_blocks, 2, bytes, SILGWYRAD_BLOCK) == SILGWYRAD_BAD_LENGTH
         && silgwyrad_recover(DEVICE, disk.sectors + 1) == SILGWYRAD_BAD_SIZE
         && silgwyrad_format(DEVICE, disk.sectors, BLOCKS - 1) == SILGWYRAD_BAD_SIZE
-        && disk.calls == 0 && bytes[0] == 5 && bytes[BLOCK_BYTES] == 5;
+        && disk.calls == 0 && bytes[0] == 5 && bytes[SILGWYRAD_BLOCK] == 5;
 }
 
 /* What one stop leaves, with all that wasn't synced torn. */

@@ -15,17 +15,17 @@ static int begin(struct disk *disk) {
     return call == disk->fail_at;
 }
 
-static int read_sector(void *context, uint32_t sector, uint8_t out[SECTOR_BYTES]) {
+static int read_sector(void *context, uint32_t sector, uint8_t out[SILGWYRAD_SECTOR]) {
     struct disk *disk = context;
     if (begin(disk) || sector >= disk->sectors) return 1;
-    memcpy(out, disk->now[sector], SECTOR_BYTES);
+    memcpy(out, disk->now[sector], SILGWYRAD_SECTOR);
     return 0;
 }
 
-static int write_sector(void *context, uint32_t sector, const uint8_t bytes[SECTOR_BYTES]) {
+static int write_sector(void *context, uint32_t sector, const uint8_t bytes[SILGWYRAD_SECTOR]) {
     struct disk *disk = context;
     if (begin(disk) || sector >= disk->sectors) return 1;
-    memcpy(disk->now[sector], bytes, SECTOR_BYTES);
+    memcpy(disk->now[sector], bytes, SILGWYRAD_SECTOR);
     memset(disk->unsynced + sector / disk->in_unit * disk->in_unit, 1, disk->in_unit);
     return 0;
 }
@@ -48,7 +48,7 @@ struct silgwyrad_device device_of(struct disk *disk) {
 
 int begins_paged(struct disk *disk, const char *file) {
     FILE *image = fopen(file, "rb");
-    size_t had = image ? fread(disk->now, SECTOR_BYTES, PAGED_SECTORS, image) : 0;
+    size_t had = image ? fread(disk->now, SILGWYRAD_SECTOR, PAGED_SECTORS, image) : 0;
     if (image) fclose(image);
     disk->sectors = PAGED_SECTORS;
     disk->in_unit = IN_PAGE;
@@ -66,12 +66,12 @@ long outcomes(const struct disk *disk) {
     return all;
 }
 
-static void tear(uint8_t bytes[SECTOR_BYTES], uint32_t k) {
-    for (uint32_t i = 0; i < SECTOR_BYTES; i++) bytes[i] = (uint8_t)(i * 37 + k + 11);
+static void tear(uint8_t bytes[SILGWYRAD_SECTOR], uint32_t k) {
+    for (uint32_t i = 0; i < SILGWYRAD_SECTOR; i++) bytes[i] = (uint8_t)(i * 37 + k + 11);
 }
 
 static void meet(struct disk *disk, uint32_t k, enum fate fate) {
-    if (fate == LOST) memcpy(disk->now[k], disk->synced[k], SECTOR_BYTES);
+    if (fate == LOST) memcpy(disk->now[k], disk->synced[k], SILGWYRAD_SECTOR);
     if (fate == TORN) tear(disk->now[k], k);
 }
 

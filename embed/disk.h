@@ -8,18 +8,17 @@
 
 #include "silgwyrad.h"
 
-enum { BLOCKS = 32, SECTORS = 3 + 4 * BLOCKS, PAGED_SECTORS = 32 + 16 * BLOCKS, IN_PAGE = 8 };
-enum { SECTOR_BYTES = 512, BLOCK_BYTES = 1024, NEVER = -1 };
+enum { BLOCKS = 32, SECTORS = SILGWYRAD_SECTORS(BLOCKS, 2), PAGED_SECTORS = SILGWYRAD_SECTORS(BLOCKS, 3), IN_PAGE = 8, NEVER = -1 };
 
 struct disk {
-    uint32_t sectors, in_unit;                   /* SECTORS of a unit each, or PAGED_SECTORS in units of IN_PAGE */
-    uint8_t now[PAGED_SECTORS][SECTOR_BYTES];    /* what a read gives */
-    uint8_t synced[PAGED_SECTORS][SECTOR_BYTES]; /* what was there at the last sync */
-    uint8_t unsynced[PAGED_SECTORS];             /* by units, all sectors of a unit alike */
-    int sync_lies;                               /* a sync settles nothing and says that it was done: a trial has to notice */
-    long calls;                                  /* that were begun */
-    long stop_at;                                /* the call before which the power fails, or NEVER */
-    long fail_at;                                /* the call that fails and does nothing, or NEVER */
+    uint32_t sectors, in_unit;                       /* SECTORS of a unit each, or PAGED_SECTORS in units of IN_PAGE */
+    uint8_t now[PAGED_SECTORS][SILGWYRAD_SECTOR];    /* what a read gives */
+    uint8_t synced[PAGED_SECTORS][SILGWYRAD_SECTOR]; /* what was there at the last sync */
+    uint8_t unsynced[PAGED_SECTORS];                 /* by units, all sectors of a unit alike */
+    int sync_lies;                                   /* a sync settles nothing and says that it was done: a trial has to notice */
+    long calls;                                      /* that were begun */
+    long stop_at;                                    /* the call before which the power fails, or NEVER */
+    long fail_at;                                    /* the call that fails and does nothing, or NEVER */
 };
 
 /* The callbacks of the disk; `stop` is called where the power fails, and doesn't return. */

@@ -12,8 +12,8 @@
 
 #include "silgwyrad.h"
 
-enum { DEVICE = 1, BLOCKS = 32, BLOCK_BYTES = 1024, SECTOR_BYTES = 512, UNIT_BYTES = 4096, IN_UNIT = UNIT_BYTES / SECTOR_BYTES };
-enum { OLDER_SECTORS = 3 + 4 * BLOCKS, NEWER_SECTORS = 32 + 16 * BLOCKS, UNITS = NEWER_SECTORS / IN_UNIT, NEVER = -1 };
+enum { DEVICE = 1, BLOCKS = 32, UNIT_BYTES = 4096, IN_UNIT = UNIT_BYTES / SILGWYRAD_SECTOR };
+enum { OLDER_SECTORS = SILGWYRAD_SECTORS(BLOCKS, 2), NEWER_SECTORS = SILGWYRAD_SECTORS(BLOCKS, 3), UNITS = NEWER_SECTORS / IN_UNIT, NEVER = -1 };
 
 /* What the flash holds, and the moment at which the power fails. */
 static struct flash {
@@ -41,17 +41,17 @@ static void program(uint32_t unit, const uint8_t bytes[UNIT_BYTES]) {
     }
 }
 
-static int read_sector(void *context, uint32_t sector, uint8_t out[SECTOR_BYTES]) {
+static int read_sector(void *context, uint32_t sector, uint8_t out[SILGWYRAD_SECTOR]) {
     (void)context;
-    memcpy(out, flash.units[sector / IN_UNIT] + sector % IN_UNIT * SECTOR_BYTES, SECTOR_BYTES);
+    memcpy(out, flash.units[sector / IN_UNIT] + sector % IN_UNIT * SILGWYRAD_SECTOR, SILGWYRAD_SECTOR);
     return 0;
 }
 
-static int write_sector(void *context, uint32_t sector, const uint8_t bytes[SECTOR_BYTES]) {
+static int write_sector(void *context, uint32_t sector, const uint8_t bytes[SILGWYRAD_SECTOR]) {
     uint8_t unit[UNIT_BYTES];
     (void)context;
     memcpy(unit, flash.units[sector / IN_UNIT], UNIT_BYTES);
-    memcpy(unit + sector % IN_UNIT * SECTOR_BYTES, bytes, SECTOR_BYTES);
+    memcpy(unit + sector % IN_UNIT * SILGWYRAD_SECTOR, bytes, SILGWYRAD_SECTOR);
     erase(sector / IN_UNIT);
     program(sector / IN_UNIT, unit);
     return 0;
@@ -68,26 +68,26 @@ enum { OLD = 'O', NEW = 'N' };
 static const uint16_t both[2] = {2, 3};
 
 static uint8_t save(int byte) {
-    uint8_t bytes[2 * BLOCK_BYTES];
+    uint8_t bytes[2 * SILGWYRAD_BLOCK];
     memset(bytes, byte, sizeof bytes);
     return silgwyrad_save(DEVICE, sectors, both, 2, bytes, sizeof bytes);
 }
 
 /* Each block holds a byte of its own, by its number. */
 static uint8_t save_all(void) {
-    static uint8_t bytes[BLOCKS][BLOCK_BYTES];
+    static uint8_t bytes[BLOCKS][SILGWYRAD_BLOCK];
     uint16_t blocks[BLOCKS];
     for (uint16_t b = 0; b < BLOCKS; b++) {
         blocks[b] = b;
-        memset(bytes[b], b, BLOCK_BYTES);
+        memset(bytes[b], b, SILGWYRAD_BLOCK);
     }
     return silgwyrad_save(DEVICE, sectors, blocks, BLOCKS, bytes[0], sizeof bytes);
 }
 
 static int holds(uint16_t block, int byte) {
-    uint8_t bytes[BLOCK_BYTES], wanted[BLOCK_BYTES];
-    memset(wanted, byte, BLOCK_BYTES);
-    return !silgwyrad_read(DEVICE, sectors, block, bytes, BLOCK_BYTES) && !memcmp(bytes, wanted, BLOCK_BYTES);
+    uint8_t bytes[SILGWYRAD_BLOCK], wanted[SILGWYRAD_BLOCK];
+    memset(wanted, byte, SILGWYRAD_BLOCK);
+    return !silgwyrad_read(DEVICE, sectors, block, bytes, SILGWYRAD_BLOCK) && !memcmp(bytes, wanted, SILGWYRAD_BLOCK);
 }
 
 struct tally {
@@ -138,7 +138,7 @@ static int take_image(const char *name) {
     FILE *file = name ? fopen(name, "rb") : NULL;
     size_t n = file ? fread(flash.units, 1, sizeof flash.units, file) : 0;
     if (file) fclose(file);
-    sectors = name ? (uint32_t)(n / SECTOR_BYTES) : OLDER_SECTORS;
+    sectors = name ? (uint32_t)(n / SILGWYRAD_SECTOR) : OLDER_SECTORS;
     if ((!name && silgwyrad_format(DEVICE, sectors, BLOCKS)) || save_all() || save(OLD)) return -1;
     return sectors == NEWER_SECTORS;
 }

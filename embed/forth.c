@@ -15,7 +15,7 @@
 
 #include "silgwyrad.h"
 
-enum { DEVICE = 1, CONSOLE = 2, SECTOR_BYTES = 512, BLOCKS = 32, SECTORS = 3 + 4 * BLOCKS, STEPS = 1000000 };
+enum { DEVICE = 1, CONSOLE = 2, BLOCKS = 32, SECTORS = SILGWYRAD_SECTORS(BLOCKS, 2), STEPS = 1000000 };
 
 /* A file of sectors, of as many as its image has by either layout. After a sync that failed the system may have given up bytes and would answer the next one with success: so
  * each later one fails too. */
@@ -27,8 +27,8 @@ struct file {
 /* Moves a sector's bytes by pread or pwrite, again where a call moved a part. */
 static int move(int number, ssize_t (*call)(int, uint8_t *, size_t, off_t), uint32_t sector, uint8_t *bytes) {
     size_t done = 0;
-    while (done < SECTOR_BYTES) {
-        ssize_t n = call(number, bytes + done, SECTOR_BYTES - done, (off_t)sector * SECTOR_BYTES + (off_t)done);
+    while (done < SILGWYRAD_SECTOR) {
+        ssize_t n = call(number, bytes + done, SILGWYRAD_SECTOR - done, (off_t)sector * SILGWYRAD_SECTOR + (off_t)done);
         if (n < 0 && errno == EINTR) continue;
         if (n <= 0) return 1;
         done += (size_t)n;
@@ -39,14 +39,14 @@ static int move(int number, ssize_t (*call)(int, uint8_t *, size_t, off_t), uint
 static ssize_t call_pread(int number, uint8_t *bytes, size_t n, off_t at) { return pread(number, bytes, n, at); }
 static ssize_t call_pwrite(int number, uint8_t *bytes, size_t n, off_t at) { return pwrite(number, bytes, n, at); }
 
-static int read_file(void *context, uint32_t sector, uint8_t out[SECTOR_BYTES]) {
+static int read_file(void *context, uint32_t sector, uint8_t out[SILGWYRAD_SECTOR]) {
     const struct file *file = context;
     return move(file->number, call_pread, sector, out);
 }
 
-static int write_file(void *context, uint32_t sector, const uint8_t bytes[SECTOR_BYTES]) {
+static int write_file(void *context, uint32_t sector, const uint8_t bytes[SILGWYRAD_SECTOR]) {
     const struct file *file = context;
-    uint8_t copy[SECTOR_BYTES];
+    uint8_t copy[SILGWYRAD_SECTOR];
     memcpy(copy, bytes, sizeof copy);
     return move(file->number, call_pwrite, sector, copy);
 }
@@ -58,17 +58,17 @@ static int sync_file(void *context) {
 }
 
 /* In memory no write spoils another sector, so the image there has layout 2. */
-static uint8_t memory[SECTORS][SECTOR_BYTES];
+static uint8_t memory[SECTORS][SILGWYRAD_SECTOR];
 
-static int read_memory(void *context, uint32_t sector, uint8_t out[SECTOR_BYTES]) {
+static int read_memory(void *context, uint32_t sector, uint8_t out[SILGWYRAD_SECTOR]) {
     (void)context;
-    memcpy(out, memory[sector], SECTOR_BYTES);
+    memcpy(out, memory[sector], SILGWYRAD_SECTOR);
     return 0;
 }
 
-static int write_memory(void *context, uint32_t sector, const uint8_t bytes[SECTOR_BYTES]) {
+static int write_memory(void *context, uint32_t sector, const uint8_t bytes[SILGWYRAD_SECTOR]) {
     (void)context;
-    memcpy(memory[sector], bytes, SECTOR_BYTES);
+    memcpy(memory[sector], bytes, SILGWYRAD_SECTOR);
     return 0;
 }
 
@@ -94,12 +94,12 @@ static uint32_t open_image(const char *name, struct file *file) {
     struct stat about;
     file->number = open(name, O_RDWR | O_CLOEXEC);
     if (file->number < 0 || flock(file->number, LOCK_EX | LOCK_NB) || fstat(file->number, &about)) return 0;
-    if (about.st_size % SECTOR_BYTES || about.st_size / SECTOR_BYTES > UINT32_MAX) return 0;
-    return (uint32_t)(about.st_size / SECTOR_BYTES);
+    if (about.st_size % SILGWYRAD_SECTOR || about.st_size / SILGWYRAD_SECTOR > UINT32_MAX) return 0;
+    return (uint32_t)(about.st_size / SILGWYRAD_SECTOR);
 }
 
 static int ended(uint8_t answer) {
-    if (answer) fprintf(stderr, "forth: answer %d\n", answer);
+    if (answer) fprintf(stderr, "forth: %s\n", silgwyrad_text(answer));
     return answer;
 }
 

@@ -16,9 +16,9 @@
 #include "silgwyrad.h"
 
 /* The image lies in a file, so it has layout 3: a file system writes pages of eight sectors, and a loss of power may spoil a whole one. */
-enum { DEVICE = 1, BLOCKS = 32, SECTORS = 32 + 16 * BLOCKS, SECTOR_BYTES = 512, BLOCK_BYTES = 1024, IN_BLOCK = 256 };
+enum { DEVICE = 1, BLOCKS = 32, SECTORS = SILGWYRAD_SECTORS(BLOCKS, 3), IN_BLOCK = 256 };
 
-static const off_t IMAGE_BYTES = (off_t)SECTORS * SECTOR_BYTES;
+static const off_t IMAGE_BYTES = (off_t)SECTORS * SILGWYRAD_SECTOR;
 static const uint32_t BLANKS = 0x20202020;
 
 static int file;
@@ -26,14 +26,14 @@ static int file;
 /* An opening looks at all blocks, so there is one for all readings. */
 static struct silgwyrad_store store;
 
-static int read_sector(void *context, uint32_t k, uint8_t out[SECTOR_BYTES]) {
+static int read_sector(void *context, uint32_t k, uint8_t out[SILGWYRAD_SECTOR]) {
     (void)context;
-    return pread(file, out, SECTOR_BYTES, (off_t)k * SECTOR_BYTES) != SECTOR_BYTES;
+    return pread(file, out, SILGWYRAD_SECTOR, (off_t)k * SILGWYRAD_SECTOR) != SILGWYRAD_SECTOR;
 }
 
-static int write_sector(void *context, uint32_t k, const uint8_t bytes[SECTOR_BYTES]) {
+static int write_sector(void *context, uint32_t k, const uint8_t bytes[SILGWYRAD_SECTOR]) {
     (void)context;
-    return pwrite(file, bytes, SECTOR_BYTES, (off_t)k * SECTOR_BYTES) != SECTOR_BYTES;
+    return pwrite(file, bytes, SILGWYRAD_SECTOR, (off_t)k * SILGWYRAD_SECTOR) != SILGWYRAD_SECTOR;
 }
 
 /* (After a sync that failed this program ends. One that went on would have to fail each later one too, as forth.c does. Before it is started again the system
@@ -44,7 +44,7 @@ static int sync_all(void *context) {
 }
 
 /* Both blocks of a save: the one with the number of readings, and the one that takes the next. */
-static uint8_t bytes[2][BLOCK_BYTES];
+static uint8_t bytes[2][SILGWYRAD_BLOCK];
 
 static uint32_t number_at(const uint8_t *at) { return at[0] | (uint32_t)at[1] << 8 | (uint32_t)at[2] << 16 | (uint32_t)at[3] << 24; }
 
@@ -54,7 +54,7 @@ static void put_number(uint8_t *at, uint32_t n) {
 
 /* Loads the block that holds a reading. */
 static uint8_t load(uint32_t reading) {
-    return silgwyrad_read_open(&store, (uint16_t)(1 + reading / IN_BLOCK), bytes[1], BLOCK_BYTES);
+    return silgwyrad_read_open(&store, (uint16_t)(1 + reading / IN_BLOCK), bytes[1], SILGWYRAD_BLOCK);
 }
 
 /* Adds a reading, in one save of two blocks. */
@@ -80,9 +80,9 @@ static uint8_t print_all(void) {
 
 /* Whether no label was ever written: the first sector is zeros. (A stop that tears the first label leaves one that is refused.) */
 static int is_new(void) {
-    uint8_t label[SECTOR_BYTES];
+    uint8_t label[SILGWYRAD_SECTOR];
     if (read_sector(NULL, 0, label)) return 0;
-    for (int i = 0; i < SECTOR_BYTES; i++)
+    for (int i = 0; i < SILGWYRAD_SECTOR; i++)
         if (label[i]) return 0;
     return 1;
 }
@@ -99,7 +99,7 @@ static uint8_t begin(void) {
         answer = silgwyrad_format(DEVICE, SECTORS, BLOCKS);
         if (!answer) answer = silgwyrad_open(DEVICE, SECTORS, &store);
     }
-    if (!answer) answer = silgwyrad_read_open(&store, 0, bytes[0], BLOCK_BYTES);
+    if (!answer) answer = silgwyrad_read_open(&store, 0, bytes[0], SILGWYRAD_BLOCK);
     if (number_at(bytes[0]) == BLANKS) put_number(bytes[0], 0);
     return answer;
 }
@@ -122,6 +122,6 @@ int main(int argc, char **argv) {
     for (int i = 2; i < argc && !answer; i++) answer = add((uint32_t)strtoul(argv[i], NULL, 10));
     if (!answer) answer = print_all();
     if (!answer && (fflush(stdout) || ferror(stdout))) answer = SILGWYRAD_OUTPUT;
-    if (answer) fprintf(stderr, "logger: answer %d\n", answer);
+    if (answer) fprintf(stderr, "logger: %s\n", silgwyrad_text(answer));
     return answer;
 }

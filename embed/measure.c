@@ -1,6 +1,6 @@
 #include "measure.h"
 
-enum { DEVICE = 1, CONSOLE = 2, BLOCKS = 32, OLDER_SECTORS = 3 + 4 * BLOCKS, NEWER_SECTORS = 32 + 16 * BLOCKS, BLOCK_BYTES = 1024, STEPS = 1000000 };
+enum { DEVICE = 1, CONSOLE = 2, BLOCKS = 32, OLDER_SECTORS = SILGWYRAD_SECTORS(BLOCKS, 2), NEWER_SECTORS = SILGWYRAD_SECTORS(BLOCKS, 3), STEPS = 1000000 };
 
 size_t silgwyrad_heap_most(void);
 
@@ -34,17 +34,17 @@ static int emit(void *context, const uint8_t *text, size_t n) {
 static uint32_t sectors;
 
 static uint8_t answer;
-static uint8_t bytes[4 * BLOCK_BYTES];
+static uint8_t bytes[4 * SILGWYRAD_BLOCK];
 static const uint16_t four[4] = {1, 2, 3, 4};
 static struct silgwyrad_store store;
 
 static void nothing(void) {}
 static void format(void) { answer = silgwyrad_format(DEVICE, sectors, BLOCKS); }
 static void recover(void) { answer = silgwyrad_recover(DEVICE, sectors); }
-static void read_one(void) { answer = silgwyrad_read(DEVICE, sectors, 1, bytes, BLOCK_BYTES); }
+static void read_one(void) { answer = silgwyrad_read(DEVICE, sectors, 1, bytes, SILGWYRAD_BLOCK); }
 static void save_four(void) { answer = silgwyrad_save(DEVICE, sectors, four, 4, bytes, sizeof bytes); }
 static void open_store(void) { answer = silgwyrad_open(DEVICE, sectors, &store); }
-static void read_open(void) { answer = silgwyrad_read_open(&store, 1, bytes, BLOCK_BYTES); }
+static void read_open(void) { answer = silgwyrad_read_open(&store, 1, bytes, SILGWYRAD_BLOCK); }
 static void save_open(void) { answer = silgwyrad_save_open(&store, four, 4, bytes, sizeof bytes); }
 static void session(void) { answer = silgwyrad_run(DEVICE, sectors, CONSOLE, CONSOLE, STEPS); }
 

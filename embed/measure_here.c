@@ -37,7 +37,7 @@ void tell_memory(const char *name, size_t touched, size_t heap) { printf("%s: st
 
 void tell_time(uint32_t steps, uint32_t of_milliseconds) { printf("steps: %u in %u ms\n", steps, of_milliseconds); }
 
-void tell_refusal(const char *name, uint8_t answer) { printf("%s: answer %d\n", name, answer); }
+void tell_refusal(const char *name, uint8_t answer) { printf("%s: %s\n", name, silgwyrad_text(answer)); }
 
 int main(void) {
     static struct disk disk;

@@ -22,21 +22,21 @@ static void power_fails(void) { longjmp(cut, 1); }
 static uint8_t open_store(void) { return silgwyrad_open(DEVICE, disk.sectors, &store); }
 
 static uint8_t save(int number) {
-    uint8_t bytes[2 * BLOCK_BYTES];
+    uint8_t bytes[2 * SILGWYRAD_BLOCK];
     memset(bytes, number, sizeof bytes);
     return silgwyrad_save_open(&store, two_blocks, 2, bytes, sizeof bytes);
 }
 
 /* The number that all bytes of both blocks hold, by reads of the open store, or by calls that open the image anew. */
 static int held(int by_store) {
-    uint8_t bytes[2][BLOCK_BYTES];
+    uint8_t bytes[2][SILGWYRAD_BLOCK];
     for (int i = 0; i < 2; i++) {
         const uint16_t block = two_blocks[i];
-        if (by_store ? silgwyrad_read_open(&store, block, bytes[i], BLOCK_BYTES) : silgwyrad_read(DEVICE, disk.sectors, block, bytes[i], BLOCK_BYTES))
+        if (by_store ? silgwyrad_read_open(&store, block, bytes[i], SILGWYRAD_BLOCK) : silgwyrad_read(DEVICE, disk.sectors, block, bytes[i], SILGWYRAD_BLOCK))
             return REFUSED;
     }
-    if (memcmp(bytes[0], bytes[1], BLOCK_BYTES)) return MIXED;
-    for (int i = 1; i < BLOCK_BYTES; i++)
+    if (memcmp(bytes[0], bytes[1], SILGWYRAD_BLOCK)) return MIXED;
+    for (int i = 1; i < SILGWYRAD_BLOCK; i++)
         if (bytes[0][i] != bytes[0][0]) return MIXED;
     return bytes[0][0];
 }
@@ -48,7 +48,7 @@ static int told(int is_well, const char *what) {
 
 /* The store isn't open: neither a read nor a save calls the device, and what was to be filled is as it was. */
 static int is_not_open(void) {
-    uint8_t bytes[BLOCK_BYTES];
+    uint8_t bytes[SILGWYRAD_BLOCK];
     const long calls = disk.calls;
     memset(bytes, 5, sizeof bytes);
     return silgwyrad_read_open(&store, 1, bytes, sizeof bytes) == SILGWYRAD_NOT_OPEN && bytes[0] == 5 && save(NEW) == SILGWYRAD_NOT_OPEN
@@ -63,7 +63,7 @@ static int are_refused_unopened(void) {
 }
 
 static int read_makes_calls(void) {
-    uint8_t bytes[BLOCK_BYTES];
+    uint8_t bytes[SILGWYRAD_BLOCK];
     if (open_store()) return 0;
     const long calls = disk.calls;
     return !silgwyrad_read_open(&store, two_blocks[0], bytes, sizeof bytes) && bytes[0] == OLD && disk.calls == calls + CALLS_OF_A_READ;
@@ -71,16 +71,16 @@ static int read_makes_calls(void) {
 
 /* Arguments that are refused leave the device alone and the store open, but an opening that is refused opens none. */
 static int are_refused(void) {
-    uint8_t bytes[BLOCK_BYTES + 1];
+    uint8_t bytes[SILGWYRAD_BLOCK + 1];
     const uint16_t past_the_end = BLOCKS;
     memset(bytes, 5, sizeof bytes);
     if (open_store()) return 0;
     const long calls = disk.calls;
-    return silgwyrad_read_open(&store, BLOCKS, bytes, BLOCK_BYTES) == SILGWYRAD_NO_BLOCK
-        && silgwyrad_read_open(&store, 1, bytes, BLOCK_BYTES + 1) == SILGWYRAD_BAD_LENGTH
-        && silgwyrad_save_open(&store, &past_the_end, 1, bytes, BLOCK_BYTES) == SILGWYRAD_NO_BLOCK
-        && silgwyrad_save_open(&store, two_blocks, 2, bytes, BLOCK_BYTES) == SILGWYRAD_BAD_LENGTH
-        && disk.calls == calls && bytes[0] == 5 && bytes[BLOCK_BYTES] == 5 && held(1) == OLD
+    return silgwyrad_read_open(&store, BLOCKS, bytes, SILGWYRAD_BLOCK) == SILGWYRAD_NO_BLOCK
+        && silgwyrad_read_open(&store, 1, bytes, SILGWYRAD_BLOCK + 1) == SILGWYRAD_BAD_LENGTH
+        && silgwyrad_save_open(&store, &past_the_end, 1, bytes, SILGWYRAD_BLOCK) == SILGWYRAD_NO_BLOCK
+        && silgwyrad_save_open(&store, two_blocks, 2, bytes, SILGWYRAD_BLOCK) == SILGWYRAD_BAD_LENGTH
+        && disk.calls == calls && bytes[0] == 5 && bytes[SILGWYRAD_BLOCK] == 5 && held(1) == OLD
         && silgwyrad_open(DEVICE, disk.sectors + 1, &store) == SILGWYRAD_BAD_SIZE && is_not_open();
 }
 

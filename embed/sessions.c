@@ -49,11 +49,11 @@ static int run(int number) {
 
 /* The number that all bytes of both blocks hold. */
 static int held(void) {
-    uint8_t bytes[2][BLOCK_BYTES];
+    uint8_t bytes[2][SILGWYRAD_BLOCK];
     for (uint16_t i = 0; i < 2; i++)
-        if (silgwyrad_read(DEVICE, disk->sectors, (uint16_t)(i + 2), bytes[i], BLOCK_BYTES)) return REFUSED;
-    if (memcmp(bytes[0], bytes[1], BLOCK_BYTES)) return MIXED;
-    for (int i = 1; i < BLOCK_BYTES; i++)
+        if (silgwyrad_read(DEVICE, disk->sectors, (uint16_t)(i + 2), bytes[i], SILGWYRAD_BLOCK)) return REFUSED;
+    if (memcmp(bytes[0], bytes[1], SILGWYRAD_BLOCK)) return MIXED;
+    for (int i = 1; i < SILGWYRAD_BLOCK; i++)
         if (bytes[0][i] != bytes[0][0]) return MIXED;
     return bytes[0][0];
 }

@@ -15,11 +15,11 @@ static struct {
     const char *line;
     const uint8_t *bytes;
     size_t of_line, of_bytes;
-} typed = {.line = "", .of_line = 1, .of_bytes = BLOCK_BYTES};
+} typed = {.line = "", .of_line = 1, .of_bytes = SILGWYRAD_BLOCK};
 
 /* What the session replied to it, or the bytes of a block where one is read. */
 static struct {
-    uint8_t bytes[BLOCK_BYTES + 64];
+    uint8_t bytes[SILGWYRAD_BLOCK + 64];
     size_t count;
 } reply;
 
@@ -27,7 +27,7 @@ static void type(const char *line, const uint8_t *bytes) {
     typed.line = line;
     typed.bytes = bytes;
     typed.of_line = 0;
-    typed.of_bytes = bytes ? 0 : BLOCK_BYTES;
+    typed.of_bytes = bytes ? 0 : SILGWYRAD_BLOCK;
     reply.count = 0;
 }
 
@@ -39,7 +39,7 @@ static const char *const words[] = {
 };
 enum { WORDS = sizeof words / sizeof words[0] };
 
-static uint8_t moisture[BLOCK_BYTES] = {50, 45, 40, 35, 30, 25, 60, 33};
+static uint8_t moisture[SILGWYRAD_BLOCK] = {50, 45, 40, 35, 30, 25, 60, 33};
 static uint8_t valves[SQUARES];
 static unsigned rounds;
 
@@ -88,7 +88,7 @@ static int key(void *context) {
     (void)context;
     if (typed.of_line < strlen(typed.line)) return (uint8_t)typed.line[typed.of_line++];
     if (typed.of_line == strlen(typed.line)) return typed.of_line++, '\n';
-    if (typed.of_bytes < BLOCK_BYTES) return typed.bytes[typed.of_bytes++];
+    if (typed.of_bytes < SILGWYRAD_BLOCK) return typed.bytes[typed.of_bytes++];
     return go_on() ? key(context) : -1;
 }
 
@@ -100,7 +100,7 @@ static int emit(void *context, const uint8_t *bytes, size_t n) {
 
 /* What the session saved is there once it has ended. */
 static int is_saved(void) {
-    uint8_t saved[BLOCK_BYTES];
+    uint8_t saved[SILGWYRAD_BLOCK];
     return !silgwyrad_read(DEVICE, SECTORS, VALVES, saved, sizeof saved) && !memcmp(saved, valves, SQUARES);
 }
 

@@ -44,6 +44,18 @@
 #include <stddef.h>
 #include <stdint.h>
 
+/* The version of header and library, as text and as a number: 10000 times the first part, 100 times the second, and the third. */
+#define SILGWYRAD_VERSION "0.1.0"
+#define SILGWYRAD_VERSION_NUMBER 100
+
+/* The bytes of a block, and those of a sector. */
+#define SILGWYRAD_BLOCK 1024
+#define SILGWYRAD_SECTOR 512
+
+/* The sectors of an image of so many blocks, 32 to 3840, by layout 3 or 2; 0, which each call refuses, by another one. In a file, and on a flash that is
+ * erased by units of 4096 bytes, take layout 3 (docs/IMAGE.md, Which layout). */
+#define SILGWYRAD_SECTORS(blocks, layout) ((layout) == 3 ? 32u + 16u * (blocks) : (layout) == 2 ? 3u + 4u * (blocks) : 0u)
+
 #ifdef __cplusplus
 extern "C" {
 #endif
@@ -51,8 +63,7 @@ extern "C" {
 /* What a call answers. */
 enum silgwyrad_answer {
     SILGWYRAD_DONE = 0,
-    SILGWYRAD_BAD_SIZE = 1,      /* no image has so many sectors (3 + 4 * blocks, or by layout 3 32 + 16 * blocks, of 32 to 3840), or, of
-                                    silgwyrad_format, none of so many blocks; no device call */
+    SILGWYRAD_BAD_SIZE = 1,      /* no image has so many sectors (see SILGWYRAD_SECTORS), or, of silgwyrad_format, none of so many blocks; no device call */
     SILGWYRAD_NO_LABEL = 2,      /* the image has no label: it was never formatted, or a format was stopped */
     SILGWYRAD_OTHER_VERSION = 3, /* the label has another version than that of images of this size */
     SILGWYRAD_WRONG_COUNT = 4,   /* the label counts other blocks than the sectors do */
@@ -61,7 +72,7 @@ enum silgwyrad_answer {
                                     sync). Of silgwyrad_run a call of the opening failed: one in the session is told in a reply */
     SILGWYRAD_DAMAGED = 6,       /* the bytes of a save that is under way, or by layout 3 of a block or of the record, aren't those that were saved */
     SILGWYRAD_NO_BLOCK = 7,      /* the image has no such block; the device wasn't called */
-    SILGWYRAD_BAD_LENGTH = 8,    /* not 1024 bytes for each block; the device wasn't called */
+    SILGWYRAD_BAD_LENGTH = 8,    /* not SILGWYRAD_BLOCK bytes for each block; the device wasn't called */
     SILGWYRAD_NO_STEPS = 9,      /* a line may take no step; nothing was called */
     SILGWYRAD_INPUT = 10,        /* the input failed, or has given 2^64 - 1 bytes */
     SILGWYRAD_OUTPUT = 11,       /* the output failed */
@@ -69,20 +80,41 @@ enum silgwyrad_answer {
     SILGWYRAD_NOT_OPEN = 13      /* no store is open there; no device was called */
 };
 
+/* An answer as text, as forth83 tells it. It stands here, so a program that doesn't call it has none of it. */
+static inline const char *silgwyrad_text(int answer) {
+    switch (answer) {
+    case SILGWYRAD_DONE: return "done";
+    case SILGWYRAD_BAD_SIZE: return "bad size";
+    case SILGWYRAD_NO_LABEL: return "no label";
+    case SILGWYRAD_OTHER_VERSION: return "other version";
+    case SILGWYRAD_WRONG_COUNT: return "wrong count";
+    case SILGWYRAD_DEVICE: return "device fault";
+    case SILGWYRAD_DAMAGED: return "damaged";
+    case SILGWYRAD_NO_BLOCK: return "no block";
+    case SILGWYRAD_BAD_LENGTH: return "bad length";
+    case SILGWYRAD_NO_STEPS: return "no steps";
+    case SILGWYRAD_INPUT: return "cannot read the input";
+    case SILGWYRAD_OUTPUT: return "cannot write the output";
+    case SILGWYRAD_NO_MEMORY: return "no memory";
+    case SILGWYRAD_NOT_OPEN: return "not open";
+    default: return "no answer of this library";
+    }
+}
+
 /* The numbers of a call have the same bits on each target: a length has 64 also where a pointer has 32. */
 
-/* Makes an image of so many blank blocks: of layout 2 on a device of 3 + 4 * blocks sectors, of layout 3 on one of 32 + 16 * blocks. One in a file should
- * have layout 3 (docs/IMAGE.md, Which layout). A stop leaves the blank image, the old one, or none: then no label, or one of another version or count over
+/* Makes an image of so many blank blocks, of the layout whose sectors these are: SILGWYRAD_SECTORS(blocks, 3), as one in a file should have, or
+ * SILGWYRAD_SECTORS(blocks, 2). A stop leaves the blank image, the old one, or none: then no label, or one of another version or count over
  * blocks that are lost. The calls below take images of either layout. */
 uint8_t silgwyrad_format(int32_t device, uint32_t sectors, uint16_t blocks);
 
 /* Finishes a save that a stop left half done. silgwyrad_read, silgwyrad_save, silgwyrad_open and silgwyrad_run do so first. */
 uint8_t silgwyrad_recover(int32_t device, uint32_t sectors);
 
-/* Reads the 1024 bytes of a block, as it was saved last. At any other answer than 0, out is as it was. n is 1024. */
+/* Reads the bytes of a block, as it was saved last. At any other answer than 0, out is as it was. n is SILGWYRAD_BLOCK. */
 uint8_t silgwyrad_read(int32_t device, uint32_t sectors, uint16_t block, uint8_t *out, uint64_t n);
 
-/* Saves `count` blocks, all or none, whenever it is stopped. n is 1024 for each. Of a block that stands twice the last bytes count. */
+/* Saves `count` blocks, all or none, whenever it is stopped. n is SILGWYRAD_BLOCK for each. Of a block that stands twice the last bytes count. */
 uint8_t silgwyrad_save(int32_t device, uint32_t sectors, const uint16_t *blocks, uint64_t count, const uint8_t *bytes,
                        uint64_t n);
 
@@ -91,7 +123,7 @@ struct silgwyrad_store {
     int32_t device;
     uint32_t sectors;
     uint32_t state;
-    uint8_t listing[512];
+    uint8_t listing[SILGWYRAD_SECTOR];
 };
 
 /* Opens an image as silgwyrad_recover does, for the three calls below, which don't open it again. As long as it is open, nothing else writes to the
@@ -115,8 +147,8 @@ uint8_t silgwyrad_run(int32_t device, uint32_t sectors, int32_t input, int32_t o
 /* With host.c: the callbacks of a device or a console. Each answers 0 where it was done. */
 struct silgwyrad_device {
     void *context;
-    int (*read)(void *context, uint32_t sector, uint8_t out[512]);
-    int (*write)(void *context, uint32_t sector, const uint8_t bytes[512]);
+    int (*read)(void *context, uint32_t sector, uint8_t out[SILGWYRAD_SECTOR]);
+    int (*write)(void *context, uint32_t sector, const uint8_t bytes[SILGWYRAD_SECTOR]);
     int (*sync)(void *context);
 };
 

@@ -44,11 +44,38 @@ static int read_sector(void *context, uint32_t k, uint8_t out[512]) { return !co
 static int write_sector(void *context, uint32_t k, const uint8_t bytes[512]) { return !context && !k && !bytes; }
 static int sync_all(void *context) { return !context; }
 static const struct silgwyrad_device device = {NULL, read_sector, write_sector, sync_all};
-static void fill(uint8_t bytes[2][1024]) { bytes[0][0] = 1; }
+static void fill(uint8_t bytes[2][SILGWYRAD_BLOCK]) { bytes[0][0] = 1; }
 int main(void) {
 END
     sed -n '/^```c$/,/^```$/p' ../README.md | sed '1d;$d'
     echo 'return answer; }'
+}
+
+# The header, host.c and heap.c in each language for which a compiler is installed, all warnings being errors: of clang each that it has, but for padding, and
+# what says no more than that a line is C99's, or C's and not C++'s.
+try_languages() {
+    library=$1 in=$2
+    every='-Weverything -Wno-padded -Wno-declaration-after-statement -Wno-unsafe-buffer-usage -Wno-unknown-warning-option'
+    for language in 'gcc c99' 'gcc c11' 'g++ c++11' 'g++ c++17' 'clang c99' 'clang c11' 'clang++ c++11' 'clang++ c++17'; do
+        compiler=${language% *} standard=${language#* }
+        command -v "$compiler" > /dev/null || { echo "$compiler is not installed here: nothing is read as its $standard"; continue; }
+        case $compiler in
+            clang) flags=$every ;;
+            clang++) flags="$every -Wno-old-style-cast -Wno-zero-as-null-pointer-constant -Wno-c++98-compat-pedantic" ;;
+            *) flags='-Wall -Wextra -Wpedantic -Wshadow -Wconversion -Wcast-qual -Wundef' ;;
+        esac
+        case $standard in c++*) flags="$flags -x c++" ;; esac
+        # shellcheck disable=SC2086
+        $compiler -std=$standard $flags -Werror names.c host.c heap.c -x none "$library" -Wl,--gc-sections -o "$in/names" && "$in/names" > "$in/names.out"
+        told $? "names, host and heap by $compiler as $standard"
+        diff "$in/names.out" expected/names
+        told $? "names by $compiler as $standard tells the answers"
+    done
+    for what in '-std=c11' '-x c++ -std=c++11'; do
+        # shellcheck disable=SC2086
+        gcc $what -Wall -Wextra -Wpedantic -Werror -DARENA=500000 -c heap.c -o "$in/arena.o"
+        told $? "heap with an arena, by gcc $what"
+    done
 }
 
 build() {
@@ -107,6 +134,41 @@ run_paged() {
     told $? "$what: blocks on a flash, by layout 2, which loses some"
 }
 
+# The records of examples/records: those in C, a program over them as its page shows it, and those in Forth.
+try_records() {
+    what=$1 flags=$2 library=$3 in=$4
+    records=../examples/records
+    sed_page='/^```text$/,/^```$/{/^```/d;p}'
+    for it in trial twin stock; do
+        case $it in
+            trial) parts="$records/trial.c disk.c" ;;
+            twin) parts="$records/twin.c disk.c heap.c" ;;
+            stock) parts=$records/stock.c ;;
+        esac
+        # shellcheck disable=SC2086
+        gcc ${warnings/c11/c99} $flags -I. -I$records $parts $records/records.c host.c "$library" -Wl,--gc-sections -o "$in/$it"
+        told $? "$what: records, $it is built"
+    done
+    "$in/trial" > "$in/trial.out" && diff "$in/trial.out" expected/records
+    told $? "$what: records stopped before each call are all or none"
+    screens=''
+    for it in basic double changing; do screens="$screens ../library/$it.scr"; done
+    for it in records seeking changes stock; do screens="$screens $records/$it.scr"; done
+    # shellcheck disable=SC2086
+    "$in/twin" $screens > "$in/twin.out" && diff "$in/twin.out" expected/twin
+    told $? "$what: records in Forth stopped before each call are all or none"
+    rm -f "$in/shop.img"
+    (cd "$in" && bash -s) < <(sed -n "$sed_page" $records/README.md | sed -n 's/^\$ //p') | diff - <(sed -n "$sed_page" $records/README.md | grep -v '^\$ ')
+    told $? "$what: records, the page's lines"
+    sed -n '/^```c$/,/^```$/{/^```/d;p}' $records/README.md > "$in/page.c"
+    {
+        printf '%s\n' '#include "records.h"' 'enum { DEVICE = 1 }; int answer; uint8_t record[20]; void of_page(void);' 'void of_page(void) {'
+        cat "$in/page.c"
+        echo '}'
+    } | gcc -std=c99 -Wall -Wextra -Werror -I. -I$records -fsyntax-only -x c -
+    told $? "$what: records, the page's example is read as C"
+}
+
 # A logger that is killed while it adds readings: those that are there are the first ones, each whole.
 kill_logger() {
     what=$1 in=$2
@@ -157,6 +219,7 @@ nm --undefined-only "$folder/libsilgwyrad.a" 2> /dev/null | awk '$1 == "U" { pri
 told $? 'the library asks for the functions of host.c and heap.c, and those of memory'
 gcc $warnings -fsyntax-only -x c silgwyrad.h
 told $? 'the header is read as C'
+try_languages "$folder/libsilgwyrad.a" "$folder"
 readme_in_c | gcc $warnings -I. -fsyntax-only -x c -
 told $? "README's example is read as C"
 if command -v g++ > /dev/null; then
@@ -167,6 +230,7 @@ else
 fi
 try_all plain gcc -O2 "$folder/libsilgwyrad.a" "$folder/plain"
 kill_logger plain "$folder/plain"
+try_records plain -O2 "$folder/libsilgwyrad.a" "$folder/plain"
 if [ -x ../crates/forth83/out/forth83 ]; then
     ask_host ../crates/forth83/out/forth83 run "$folder/plain/host.img"
     told $? 'words of the program ask the host'
@@ -174,6 +238,7 @@ else
     echo 'crates/forth83/out/forth83 is not built: its words do not ask the host'
 fi
 try_all sanitized gcc "$sanitizers" "$folder/libsilgwyrad.a" "$folder/sanitized"
+try_records sanitized "$sanitizers" "$folder/libsilgwyrad.a" "$folder/sanitized"
 mkdir -p "$folder/arm"
 # (a compiler without the C library of its processor is installed too)
 if command -v qemu-aarch64 > /dev/null && aarch64-linux-gnu-gcc -static -x c - -o "$folder/arm/main" <<< 'int main(void) { return 0; }' 2> /dev/null; then

@@ -19,7 +19,7 @@ static int sync_all(void *context) {
 
 const struct silgwyrad_device board_disk = {NULL, read_sector, write_sector, sync_all};
 
-uint32_t sectors_for(uint16_t blocks) { return 3 + 4 * (uint32_t)blocks; }
+uint32_t sectors_for(uint16_t blocks) { return SILGWYRAD_SECTORS(blocks, 2); }
 
 enum { OF_NO_IMAGE = 1 };
 
@@ -30,5 +30,5 @@ uint32_t image_sectors(void) {
     for (unsigned i = 0; i < sizeof name; i++)
         if (label[i] != name[i]) return 0;
     const uint16_t blocks = (uint16_t)(label[10] | label[11] << 8);
-    return label[8] == 3 ? 32 + 16 * (uint32_t)blocks : sectors_for(blocks);
+    return label[8] == 3 ? SILGWYRAD_SECTORS(blocks, 3) : sectors_for(blocks);
 }

@@ -4,9 +4,9 @@
 #include "console.h"
 #include "image.h"
 
-enum { DEVICE = 1, BLOCKS = 32, BLOCK_BYTES = 1024 };
+enum { DEVICE = 1, BLOCKS = 32 };
 
-static uint8_t bytes[2][BLOCK_BYTES];
+static uint8_t bytes[2][SILGWYRAD_BLOCK];
 static const uint16_t both[2] = {0, 1};
 
 int main(void) {
@@ -14,7 +14,7 @@ int main(void) {
     uint8_t answer = SILGWYRAD_DONE;
     silgwyrad_use_device(DEVICE, &board_disk);
     if (!sectors) answer = silgwyrad_format(DEVICE, sectors = sectors_for(BLOCKS), BLOCKS);
-    for (unsigned i = 0; i < 2 && !answer; i++) answer = silgwyrad_read(DEVICE, sectors, both[i], bytes[i], BLOCK_BYTES);
+    for (unsigned i = 0; i < 2 && !answer; i++) answer = silgwyrad_read(DEVICE, sectors, both[i], bytes[i], SILGWYRAD_BLOCK);
     /* Blocks that were never saved are blanks. */
     if (bytes[0][1] == ' ') bytes[0][0] = bytes[0][1] = bytes[1][0] = 0;
     bytes[0][0]++;

@@ -8,7 +8,7 @@
 #include "console.h"
 #include "image.h"
 
-enum { DEVICE = 1, BLOCKS = 32, BLOCK_BYTES = 1024, MARK = 0x7147A15E, KEPT_BYTE = 'K' };
+enum { DEVICE = 1, BLOCKS = 32, MARK = 0x7147A15E, KEPT_BYTE = 'K' };
 
 static const uint16_t both[2] = {2, 3}, third = 4;
 
@@ -27,7 +27,7 @@ static struct {
 } kept __attribute__((section(".kept")));
 
 static uint32_t calls, reset_at;
-static uint8_t bytes[2][BLOCK_BYTES];
+static uint8_t bytes[2][SILGWYRAD_BLOCK];
 
 static void begin_call(uint32_t is_write) {
     if (calls++ == reset_at) board_reset();
@@ -77,7 +77,7 @@ static void reset_before(uint32_t call) {
 }
 
 static void fill(uint8_t number) {
-    for (int i = 0; i < BLOCK_BYTES; i++) bytes[0][i] = bytes[1][i] = number;
+    for (int i = 0; i < SILGWYRAD_BLOCK; i++) bytes[0][i] = bytes[1][i] = number;
 }
 
 static uint8_t save(uint8_t number) {
@@ -87,8 +87,8 @@ static uint8_t save(uint8_t number) {
 
 /* Whether each byte of a block is this one. */
 static int holds(uint16_t block, uint8_t byte) {
-    if (silgwyrad_read(DEVICE, kept.sectors, block, bytes[0], BLOCK_BYTES)) return 0;
-    for (int i = 0; i < BLOCK_BYTES; i++)
+    if (silgwyrad_read(DEVICE, kept.sectors, block, bytes[0], SILGWYRAD_BLOCK)) return 0;
+    for (int i = 0; i < SILGWYRAD_BLOCK; i++)
         if (bytes[0][i] != byte) return 0;
     return 1;
 }
@@ -113,7 +113,7 @@ static void begin_trial(void) {
     never_reset();
     if (!found) expect(!silgwyrad_format(DEVICE, kept.sectors, BLOCKS), "no format");
     fill(KEPT_BYTE);
-    expect(!silgwyrad_save(DEVICE, kept.sectors, &third, 1, bytes[0], BLOCK_BYTES), "no save");
+    expect(!silgwyrad_save(DEVICE, kept.sectors, &third, 1, bytes[0], SILGWYRAD_BLOCK), "no save");
     kept.mark = MARK;
 }
 
