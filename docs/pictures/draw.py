@@ -85,7 +85,7 @@ def crates():
             depth[name] = 1 + max((depth_of(it) for it in direct[name]), default=-1)
         return depth[name]
 
-    storage, program = below["stores"] | {"stores", "image_care", "block_words", "block_buffers"}, {"sessions", "command_line", "terminal", "embed", "forth83"}
+    storage, program = below["stores"] | {"stores", "image_care", "block_words", "block_buffers"}, {"sessions", "command_line", "terminal", "hosted", "embed", "forth83"}
     # (what stands on nothing stands right below the lowest that uses it)
     for name in [it for it in product if depth_of(it) == 0]:
         depth[name] = min((depth_of(it) for it in product if name in direct[it]), default=1) - 1
