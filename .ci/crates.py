@@ -30,8 +30,9 @@ class Crate:
     def is_program(self):
         return os.path.isfile(f"{self.home}/src/main.rt")
 
-    def holds_tests(self):
-        return any("#[test]" in text_of(it) for it in self.code())
+    def tests(self):
+        """How many tests it holds."""
+        return sum(len(re.findall(r"^ *#\[test\]", text_of(it), re.M)) for it in self.code())
 
     def code(self):
         return sorted(glob.glob(f"{self.home}/src/**/*.rt", recursive=True))
@@ -106,18 +107,28 @@ def free_memory():
 STARTED, LOCK, ENDED = set(), threading.Lock(), threading.Event()
 
 
-def ran(words, **how):
-    """Runs a command, with nothing to read unless `how` says what, and answers its status, as the shell tells it, and its seconds of processor."""
+def begun(words, **how):
+    """Begins a command, with nothing to read unless `how` says what."""
     with LOCK:
         if ENDED.is_set():
             raise InterruptedError("this program ends")
         part = subprocess.Popen(words, **{"stdin": subprocess.DEVNULL, **how})
         STARTED.add(part.pid)
+        return part
+
+
+def ended(part):
+    """Waits for a command that was begun, and answers its status, as the shell tells it, and its seconds of processor."""
     _, status, used = os.wait4(part.pid, 0)
     with LOCK:
         STARTED.remove(part.pid)
     part.returncode = 128 + os.WTERMSIG(status) if os.WIFSIGNALED(status) else os.WEXITSTATUS(status)
     return part.returncode, used.ru_utime + used.ru_stime
+
+
+def ran(words, **how):
+    """Runs a command, and answers the same."""
+    return ended(begun(words, **how))
 
 
 def end_by_signals():
