@@ -99,6 +99,10 @@ class Source:
             raise Unreadable(f"{len(found)} functions of {file} are named {name}")
         return found[0]
 
+    def moved(self, function, text):
+        """The function, as it stands in a changed text of its file."""
+        return next(it for it in functions(function.file, text, self.types) if it.path == function.path)
+
 
 # ---- wrong bodies
 
@@ -125,11 +129,8 @@ class Body:
         """The texts of a crate, as they are once it is applied to them."""
         then = {**(texts or source.texts)}
         for file, old, new in self.control if is_control else self.pairs:
-            within = None
-            if self.of and file == self.file:
-                # (an earlier change may have moved it)
-                path = source.function(file, self.of).path
-                within = next((it.first, it.last + 1) for it in functions(file, then[file], source.types) if it.path == path)
+            # (an earlier change may have moved it)
+            within = source.moved(source.function(file, self.of), then[file]) if self.of and file == self.file else None
             then[file] = replaced(then.get(file, ""), old, new, within)
         return then
 
@@ -137,7 +138,7 @@ class Body:
 def replaced(text, old, new, within):
     """A text with the new lines in the place of the old ones, or a part of one line in the place of another."""
     lines, bare = text.split("\n"), [it.strip() for it in old]
-    first, last = within or (0, len(lines))
+    first, last = (within.first, within.last + 1) if within else (0, len(lines))
     places = [at for at in range(first, last - len(old) + 1) if [it.strip() for it in lines[at : at + len(old)]] == bare]
     if len(places) == 1:
         at, = places
