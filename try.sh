@@ -9,7 +9,7 @@ image=$root/out/try/demo.img
 say() { echo "try.sh: $1" >&2; }
 
 command -v rt > /dev/null || { say 'the toolchain (rt) is not in the path: see docs/PROGRAM.md, "From a clone"'; exit 1; }
-program=$("$root/.ci/tests" --program)
+program=$("$root/trials/tests" --program)
 say 'this build is not proved; ./build.sh proves it'
 [ $# = 0 ] || exec "$program" "$@"
 if [ ! -f "$image" ]; then

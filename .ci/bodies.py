@@ -23,13 +23,15 @@ class Unreadable(Exception):
 
 
 class Function:
-    """A function of a source file: its lines from `first` to `last`; that on which its body begins, or `None` for a signature of a trait; the names of its
-    clauses, `None` for one without a name; and its path, as a check names it."""
+    """A function of a source file: its lines from `first`, or with its attributes from `top`, to `last`; that on which its body begins, or `None` for a signature
+    of a trait; the names of its clauses, `None` for one without a name; and its path, as a check names it."""
 
     def __init__(self, file, lines, at, block, types):
         head = HEAD.match(lines[at])
         self.file, self.indent, self.is_public, self.name = file, head[1], head[2] == "pub ", head[3]
-        self.first, self.block = at, block if head[1] else ""
+        self.first, self.top, self.block = at, at, block if head[1] else ""
+        while lines[self.top - 1].startswith(f"{self.indent}#["):
+            self.top -= 1
         self.body, self.last = self.extent(lines)
         self.is_law = self.body is not None and lines[self.body].endswith("{}")
         self.in_trait = self.block.startswith("trait") or " for " in self.block
@@ -157,10 +159,11 @@ def bodies_of(crate):
     found = []
     for folder in (f"{ROOT}/crates/{crate}/{it}" for it in FOLDERS):
         for at, _, files in sorted(os.walk(folder)):
-            for it in sorted(it for it in files if it.endswith((".edits", ".edits.md"))):
-                inside = os.path.relpath(f"{at}/{it}", folder).removesuffix(".md").removesuffix(".edits")
-                file = f"{inside}.antt" if inside.startswith("specs/") else f"src/{inside}.rt"
-                found += read(crate, file, text_of(f"{at}/{it}"))
+            for it in sorted(files):
+                inside, is_read, rest = os.path.relpath(f"{at}/{it}", folder).removesuffix(".md").rpartition(".edits")
+                if not is_read or rest:
+                    raise Unreadable(f"{at}/{it} is no file of wrong bodies")
+                found += read(crate, f"{inside}.antt" if inside.startswith("specs/") else f"src/{inside}.rt", text_of(f"{at}/{it}"))
     return found
 
 

@@ -11,6 +11,8 @@ import threading
 from concurrent.futures import FIRST_COMPLETED, ThreadPoolExecutor, wait
 
 ROOT = os.path.dirname(os.path.dirname(os.path.abspath(__file__)))
+# where limits are told of the group that this runs in
+GROUP = "/sys/fs/cgroup"
 # where copies are made: out of the sight of `rt ci`, and mostly on the disk of the repository
 ROOMS = f"{ROOT}/.git/rooms" if os.path.isdir(f"{ROOT}/.git") else f"{ROOT}/out/rooms"
 
@@ -82,8 +84,16 @@ def linked(source, to):
     subprocess.run(["sh", "-c", 'cp -al "$0" "$1" 2> /dev/null || { rm -rf "$1"; cp -a "$0" "$1"; }', source, to], check=True)
 
 
+def limit(name):
+    """The numbers of a limit of the group, as a container is one; none where it has none."""
+    found = text_of(f"{GROUP}/{name}").split() if os.path.isfile(f"{GROUP}/{name}") else []
+    return list(map(int, found)) if found and found[0].isdigit() else []
+
+
 def processors():
-    return len(os.sched_getaffinity(0))
+    """How many processors there are to use."""
+    found, quota = len(os.sched_getaffinity(0)), limit("cpu.max")
+    return max(1, min(found, quota[0] // quota[1])) if quota else found
 
 
 def jobs_of(words):
@@ -96,10 +106,15 @@ def jobs_of(words):
 def free_memory():
     """Bytes that what is begun now can have: those of the machine, or of the group that this runs in where that has a limit."""
     free = 1024 * int(re.search(r"MemAvailable: +(\d+)", text_of("/proc/meminfo"))[1])
-    group = "/sys/fs/cgroup/memory"
-    if os.path.isfile(f"{group}.max") and text_of(f"{group}.max").strip().isdigit():
-        free = min(free, int(text_of(f"{group}.max")) - int(re.search(r"^anon (\d+)", text_of(f"{group}.stat"), re.M)[1]))
+    if most := limit("memory.max"):
+        free = min(free, most[0] - int(re.search(r"^anon (\d+)", text_of(f"{GROUP}/memory.stat"), re.M)[1]))
     return free
+
+
+def room_for(hands, memory):
+    """Whether a work may begin beside those that run, by how many go side by side, and by what each takes of memory at most, in bytes."""
+    free = free_memory()
+    return lambda _, running: len(running) < hands and min(free_memory(), free - memory * len(running)) > memory
 
 
 # ---- commands that end when this program ends
