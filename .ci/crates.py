@@ -10,6 +10,8 @@ import sys
 import threading
 from concurrent.futures import FIRST_COMPLETED, ThreadPoolExecutor, wait
 
+# (what is printed may have more letters than a machine is set up for)
+sys.stdout.reconfigure(errors="replace")
 ROOT = os.path.dirname(os.path.dirname(os.path.abspath(__file__)))
 # where limits are told of the group that this runs in
 GROUP = "/sys/fs/cgroup"
