@@ -3,24 +3,29 @@
 #
 # The toolchain proves nothing for that target. What it hands to its own compiler, for the processor that it proves for, is caught here, and given the
 # other target's name and layout of data.
-# usage: build.sh
+# usage: build.sh [FOLDER]          where embed/module.sh has built the library; it is built where it isn't there
 set -euo pipefail
-cd "$(dirname "$0")"
+cd "$(dirname "$0")/.."
+if [ $# -gt 0 ]; then
+    folder=$(mkdir -p "$1" && cd "$1" && pwd)
+else
+    folder=$(mktemp -d)
+    trap 'rm -rf "$folder"' EXIT
+fi
 kit=$(rt doc)
 kit=${kit%/*}
-folder=$(mktemp -d)
-trap 'rm -rf "$folder"' EXIT
-
-mkdir -p out
-../embed/module.sh "$folder"
-../embed/retarget.py wasm64 < "$folder/module.ll" > "$folder/wasm.ll"
+[ -f "$folder/module.ll" ] || embed/module.sh "$folder"
+made=$folder/wasm64
+mkdir -p "$made" playground/out/examples
+embed/retarget.py wasm64 < "$folder/module.ll" > "$made/module.ll"
 # shellcheck disable=SC2046
-"$kit/toolchain/bin/clang" $(../embed/retarget.py --flags wasm64) --no-default-config -Wno-override-module -ffunction-sections -fdata-sections -O3 \
-    -c -x ir "$folder/wasm.ll" -o "$folder/wasm.o"
-ln -s "$kit/toolchain/bin/clang" "$folder/wasm-ld"
+"$kit/toolchain/bin/clang" $(embed/retarget.py --flags wasm64) --no-default-config -Wno-override-module -ffunction-sections -fdata-sections -O3 \
+    -c -x ir "$made/module.ll" -o "$made/library.o"
+ln -sf "$kit/toolchain/bin/clang" "$made/wasm-ld"
 exports=()
-while read -r it; do exports+=("--export=$it"); done < ../embed/expected/exports
-"$folder/wasm-ld" -mwasm64 --no-entry --allow-undefined --gc-sections --strip-all --export=__heap_base -z stack-size=131072 --stack-first \
-    "${exports[@]}" "$folder/wasm.o" -o out/silgwyrad.wasm
-cp index.html system.js out/
-ls -l out/silgwyrad.wasm
+while read -r it; do exports+=("--export=$it"); done < embed/expected/exports
+"$made/wasm-ld" -mwasm64 --no-entry --allow-undefined --gc-sections --strip-all --export=__heap_base -z stack-size=131072 --stack-first \
+    "${exports[@]}" "$made/library.o" -o playground/out/silgwyrad.wasm
+cp playground/index.html playground/system.js playground/out/
+cp examples/logger.scr examples/units.scr examples/editor.scr playground/out/examples/
+ls -l playground/out/silgwyrad.wasm

@@ -1,9 +1,9 @@
 // The library for C as a module of WebAssembly, over a device that can lose its power. It is compiled for another target than the toolchain
 // proves for. embed/silgwyrad.h says what is written to the two numbers and read from them.
-export const BLOCKS = 64, SECTORS = 3 + 4 * BLOCKS, SECTOR = 512;
-const DEVICE = 1, CONSOLE = 2, SYNC = "s".charCodeAt(0), PAGE = 65536;
+export const BLOCKS = 64, SECTORS = 32 + 16 * BLOCKS, SECTOR = 512, BLOCK = 1024, IN_PAGE = 8;
+const DEVICE = 1, CONSOLE = 2, SYNC = "s".charCodeAt(0), MEMORY_PAGE = 65536;
 
-// A device of sectors. A write changes `now`; `synced` is what the last sync settled. At the call with the number
+// A device of sectors, in pages of eight as a file's. A write changes `now`; `synced` is what the last sync settled. At the call with the number
 // `plug` the power fails: that call never returns.
 export class Device {
     constructor(bytes) {
@@ -15,7 +15,6 @@ export class Device {
         this.off = false;
         this.kept = async () => {}; // keeps these sectors for good
         this.stopped = () => {};
-        this.seen = () => {};
     }
     fails(name, k) {
         if (this.off) return true;
@@ -25,7 +24,6 @@ export class Device {
             return true;
         }
         this.counts[name]++;
-        this.seen(name, k);
         return false;
     }
     read(k) { return this.now.subarray(k * SECTOR, (k + 1) * SECTOR); }
@@ -36,13 +34,15 @@ export class Device {
         for (const k of sectors) this.synced.set(this.read(k), k * SECTOR);
         this.unsynced.clear();
     }
-    // What a stop left, where each unsynced sector is lost, kept or torn.
+    // The pages in which a sector was written and not synced.
+    get pages() { return [...new Set([...this.unsynced].map(k => Math.floor(k / IN_PAGE)))].sort((a, b) => a - b); }
+    // What a stop left, where each such page is lost, kept or torn: all of its eight sectors may be spoiled.
     static after(device, fates) {
-        const image = device.now.slice();
-        for (const k of device.unsynced) {
-            const fate = fates.get(k) ?? "lost";
-            if (fate === "lost") image.set(device.synced.subarray(k * SECTOR, (k + 1) * SECTOR), k * SECTOR);
-            if (fate === "torn") for (let i = 0; i < SECTOR; i++) if (i % 7 < 4 || i > 200) image[k * SECTOR + i] = (i * 37 + k) & 255;
+        const image = device.now.slice(), page = IN_PAGE * SECTOR;
+        for (const p of device.pages) {
+            const fate = fates.get(p) ?? "lost", at = p * page;
+            if (fate === "lost") image.set(device.synced.subarray(at, at + page), at);
+            if (fate === "torn") for (let i = 0; i < page; i++) if (i % 7 < 4 || i > 200) image[at + i] = (i * 37 + p) & 255;
         }
         return new Device(image);
     }
@@ -66,7 +66,7 @@ export class System {
                 at = this.top;
                 this.top += n;
                 const lack = this.top - this.memory.buffer.byteLength;
-                if (lack > 0) this.memory.grow(BigInt(Math.ceil(lack / PAGE)));
+                if (lack > 0) this.memory.grow(BigInt(Math.ceil(lack / MEMORY_PAGE)));
             }
             sizes.set(at, n);
             return at;
@@ -129,32 +129,48 @@ export class System {
         this.memory = x.memory;
         this.top = (number(x.__heap_base.value) + 15) & ~15;
         this.call = name => WebAssembly.promising(x[name]);
+        this.place = words => {
+            const at = alloc(words.byteLength);
+            bytes(at, words.byteLength).set(new Uint8Array(words.buffer, words.byteOffset, words.byteLength));
+            return BigInt(at);
+        };
     }
     format() { return this.call("silgwyrad_format")(DEVICE, SECTORS, BLOCKS); }
-    recover() { return this.call("silgwyrad_recover")(DEVICE, SECTORS); }
+    save(block, text) {
+        return this.call("silgwyrad_save")(DEVICE, SECTORS, this.place(Uint16Array.of(block)), 1n, this.place(text), BigInt(text.length));
+    }
     run(steps = 50_000_000) { return this.call("silgwyrad_run")(DEVICE, SECTORS, CONSOLE, CONSOLE, steps); }
 }
 
-// ---- the layout of an image
+// ---- the layout of an image: docs/IMAGE.md, Layout 3
 
-export const slot = b => 3 + 2 * b, home = b => 3 + 2 * BLOCKS + 2 * b;
+const GATE = 8, OPEN_RECORD = 16, OTHER_RECORD = 24, PLACES = 32, IN_BLOCK = 16;
 
-export function part(k) {
-    if (k === 0) return "label";
-    if (k === 1) return "gate";
-    if (k === 2) return "record";
-    const at = k - 3, homes = at >= 2 * BLOCKS, i = homes ? at - 2 * BLOCKS : at;
-    return `block ${i >> 1} ${homes ? "home" : "slot"}, ${i % 2 ? "second" : "first"} half`;
+// What a page of eight sectors is for.
+export function part(page) {
+    const k = page * IN_PAGE;
+    if (k < PLACES) return { 0: "label", [GATE]: "gate", [OPEN_RECORD]: "record of an open gate", [OTHER_RECORD]: "record of a closed gate" }[k];
+    return `block ${Math.floor((k - PLACES) / IN_BLOCK)}, ${(k - PLACES) % IN_BLOCK ? "second" : "first"} place`;
 }
 
-export const gateOpen = image => String.fromCharCode(...image.subarray(SECTOR, SECTOR + 8)) === "COMMIT83";
+const differing = (bytes, text) => [...text].reduce((n, c, i) => {
+    for (let x = bytes[i] ^ c.charCodeAt(0); x; x &= x - 1) n++;
+    return n;
+}, 0);
 
-// The bytes that a block means in an image: where the gate is open, the blocks that the record lists are their slots.
-export function meaning(image, b) {
-    const listed = gateOpen(image) && (image[2 * SECTOR + (b >> 3)] >> (b & 7)) & 1;
-    const at = (listed ? slot(b) : home(b)) * SECTOR;
-    return image.subarray(at, at + 1024);
-}
+export const gateOpen = image => {
+    const bytes = image.subarray(GATE * SECTOR, GATE * SECTOR + 8);
+    return differing(bytes, "COMMIT83") < differing(bytes, "\0".repeat(8));
+};
+
+// Whether the second place of a block counts, by the record that the gate names.
+export const isSecond = (image, b) => ((image[(gateOpen(image) ? OPEN_RECORD : OTHER_RECORD) * SECTOR + (b >> 3)] >> (b & 7)) & 1) === 1;
+
+export const pageOf = (b, second) => (PLACES + IN_BLOCK * b) / IN_PAGE + (second ? 1 : 0);
+
+// The bytes of a page's block, and those that a block means in an image.
+export const textIn = (image, page) => image.subarray(page * IN_PAGE * SECTOR, page * IN_PAGE * SECTOR + BLOCK);
+export const meaning = (image, b) => textIn(image, pageOf(b, isSecond(image, b)));
 
 // ---- the image in the browser's own store: a sync has ended when its transaction is on the disk
 
