@@ -4,8 +4,9 @@
 # header, examples and silgwyrad.pc. It prints the SHA-256 of each. The same files give the same bytes at each making: names are sorted, and their time is that
 # of the commit, or SOURCE_DATE_EPOCH, or where there is no commit the version's day. The version is what the program tells; the manual page, the changelog and
 # the header have to say the same. A page with a link to what isn't there is refused.
-# The library for C is in the archive, and its package is made, where `./build.sh embed` has built it; with it are host.c and heap.c, compiled by cc. The page
-# of playground/ is in the archive where playground/build.sh has made it.
+# The library for C is in the archive, and its package is made, where `./build.sh embed` has built it; with it are host.c and heap.c, compiled by cc. With it is
+# the library for each board of embed/boards, where `embed/module.sh crates/embed/out` has kept its module and the board's compiler is installed. The page of
+# playground/ is in the archive where playground/build.sh has made it.
 # usage: ./dist.sh [--deb] [FOLDER]          FOLDER is the current one where none is given
 set -eu
 kind=archive
@@ -22,7 +23,8 @@ esac
 folder=$(cd "$folder" && pwd)
 cd "$(dirname "$0")"
 program=crates/forth83/out/forth83
-library=crates/embed/out/libembed.a
+built=crates/embed/out
+library=$built/libembed.a
 [ -x "$program" ] || { echo "dist.sh: $program is not built: see README.md, \"Get it\"" >&2; exit 1; }
 version=$("$program" --version)
 version=${version#forth83 }
@@ -67,6 +69,22 @@ put_library() {
     ar rD "$1/libsilgwyrad.a" "$tree/host.o" "$tree/heap.o"
 }
 
+# The library for each board, where firmware looks for it. Boards of one processor have one.
+put_boards() {
+    [ -f "$library" ] || return 0
+    if [ ! -f "$built/module.ll" ] || [ "$library" -nt "$built/module.ll" ]; then
+        echo "dist.sh: $built/module.ll is not there, as by embed/module.sh $built: no board has its library" >&2
+        return 0
+    fi
+    for board in virt mps2 lm3s; do
+        lacks=$(embed/boards/board.sh lacks $board | tr '\n' ' ')
+        [ -z "$lacks" ] || { echo "dist.sh: $board has no library, since this is not installed here: $lacks" >&2; continue; }
+        mkdir -p "$1/$board"
+        cp "$(embed/boards/board.sh library $board "$built")" "$1/$board/library.o"
+    done
+    [ ! -d "$1/mps2" ] || { rm -r "$1/lm3s" && ln -s mps2 "$1/lm3s"; }
+}
+
 # Fails where a page in a folder has a link to what isn't there.
 look_at_links() {
     dead=$(grep -roE '\]\([^)#:]+[)#]' --include='*.md' "$1" | while IFS=: read -r page link; do
@@ -86,6 +104,7 @@ make_archive() {
     cp bench/*.md "$top/bench/"
     look_at_links "$top"
     put_library "$top/lib"
+    put_boards "$top/lib/silgwyrad"
     if [ -f playground/out/silgwyrad.wasm ]; then
         mkdir "$top/playground"
         cp playground/out/index.html playground/out/system.js playground/out/silgwyrad.wasm "$top/playground/"
@@ -163,6 +182,7 @@ make_library_deb() {
     mkdir -p "$dev/include" "$dev/$place/pkgconfig" "$doc/examples/records"
     cp embed/silgwyrad.h "$dev/include/"
     put_library "$dev/$place"
+    put_boards "$dev/lib/silgwyrad"
     cat > "$dev/$place/pkgconfig/silgwyrad.pc" <<END
 prefix=/usr
 libdir=\${prefix}/$place
@@ -184,7 +204,8 @@ Description: blocks for C that a loss of power can't tear, static library
  changes all that it is given, or none. The calls on blocks take no heap and
  ask for no operating system. A Forth-83 system over the same blocks is in it.
  .
- The pages on it, and firmware for boards, are in the package forth83."
+ It is there for three boards too, with Cortex-M3 and RISC-V. The pages on it,
+ and firmware for these boards, are in the package forth83."
 }
 
 make_package() {

@@ -1,6 +1,6 @@
 #!/bin/bash
 # Prints how much code and data the library has, in all and for blocks alone, how much of the stack and of the heap each call takes, and what a step of
-# a session costs: on this machine, and on the boards whose compilers and emulators are installed. It ends with status 1 where a call takes more than
+# a session costs: on this machine, and on the boards whose compilers and emulators are installed; and what a first firmware takes of a board. It ends with status 1 where a call takes more than
 # the pages say that it does.
 # usage: measure.sh [FOLDER]          where module.sh has built the library; it is built where it isn't there
 set -euo pipefail
@@ -60,16 +60,21 @@ echo "x86-64, blocks alone: $(kept "$folder/blocks.map")"
 echo "x86-64, blocks and session: $(kept "$folder/forth.map")"
 "$folder/measure" | shown x86-64 || failed=1
 
-for board in virt mps2; do
+for board in virt mps2 lm3s; do
     lacks=$(boards/board.sh lacks $board | tr '\n' ' ')
     if [ -n "$lacks" ]; then
         echo "$board isn't measured: not installed here is $lacks"
         continue
     fi
-    for sources in trial.c forth.c 'measure_board.c ../measure.c'; do
+    programs=(starts.c)
+    # (there is no room for a session)
+    [ $board = lm3s ] || programs+=(trial.c forth.c 'measure_board.c ../measure.c')
+    for sources in "${programs[@]}"; do
         # shellcheck disable=SC2086
         (cd boards && ./board.sh build $board "$folder" $sources)
     done
+    echo "$board, first firmware: $(boards/board.sh sizes $board "$folder/$board/starts.elf")"
+    [ $board != lm3s ] || continue
     echo "$board, blocks alone: $(kept "$folder/$board/trial.map")"
     echo "$board, blocks and session: $(kept "$folder/$board/forth.map")"
     truncate -s 1048576 "$folder/$board/disk.img"

@@ -1,7 +1,8 @@
 #!/bin/bash
 # Builds the hosts in C over the library, with gcc's warnings and sanitizers, and runs them: on this machine, and on 64-bit ARM where a
 # compiler and an emulator for it are installed. It looks at what the calls take of stack and memory (measure.sh). It says what isn't
-# installed. Firmware on boards is tried by boards/try.sh. Its last line is `N passed, N failed`.
+# installed. Firmware on boards is tried by boards/try.sh. The page of playground/ is tried in Chromium, where that and node are installed. Its last line is
+# `N passed, N failed`.
 # usage: try.sh [FOLDER]          what is built goes to FOLDER, else to a folder that is removed again
 set -uo pipefail
 cd "$(dirname "$0")" || exit 1
@@ -51,30 +52,11 @@ END
     echo 'return answer; }'
 }
 
-# The header, host.c and heap.c in each language for which a compiler is installed, all warnings being errors: of clang each that it has, but for padding, and
-# what says no more than that a line is C99's, or C's and not C++'s.
-try_languages() {
-    library=$1 in=$2
-    every='-Weverything -Wno-padded -Wno-declaration-after-statement -Wno-unsafe-buffer-usage -Wno-unknown-warning-option'
-    for language in 'gcc c99' 'gcc c11' 'g++ c++11' 'g++ c++17' 'clang c99' 'clang c11' 'clang++ c++11' 'clang++ c++17'; do
-        compiler=${language% *} standard=${language#* }
-        command -v "$compiler" > /dev/null || { echo "$compiler is not installed here: nothing is read as its $standard"; continue; }
-        case $compiler in
-            clang) flags=$every ;;
-            clang++) flags="$every -Wno-old-style-cast -Wno-zero-as-null-pointer-constant -Wno-c++98-compat-pedantic" ;;
-            *) flags='-Wall -Wextra -Wpedantic -Wshadow -Wconversion -Wcast-qual -Wundef' ;;
-        esac
-        case $standard in c++*) flags="$flags -x c++" ;; esac
-        # shellcheck disable=SC2086
-        $compiler -std=$standard $flags -Werror names.c host.c heap.c -x none "$library" -Wl,--gc-sections -o "$in/names" && "$in/names" > "$in/names.out"
-        told $? "names, host and heap by $compiler as $standard"
-        diff "$in/names.out" expected/names
-        told $? "names by $compiler as $standard tells the answers"
-    done
-    for what in '-std=c11' '-x c++ -std=c++11'; do
-        # shellcheck disable=SC2086
-        gcc $what -Wall -Wextra -Wpedantic -Werror -DARENA=500000 -c heap.c -o "$in/arena.o"
-        told $? "heap with an arena, by gcc $what"
+# What another script tells of each of its trials.
+take_up() {
+    while read -r line; do
+        echo "$line"
+        case $line in *': well') passed=$((passed + 1)) ;; *': FAILED') failed=$((failed + 1)) ;; esac
     done
 }
 
@@ -219,7 +201,7 @@ nm --undefined-only "$folder/libsilgwyrad.a" 2> /dev/null | awk '$1 == "U" { pri
 told $? 'the library asks for the functions of host.c and heap.c, and those of memory'
 gcc $warnings -fsyntax-only -x c silgwyrad.h
 told $? 'the header is read as C'
-try_languages "$folder/libsilgwyrad.a" "$folder"
+take_up < <(./languages.sh . -I. "$folder/libsilgwyrad.a" 2>&1)
 readme_in_c | gcc $warnings -I. -fsyntax-only -x c -
 told $? "README's example is read as C"
 if command -v g++ > /dev/null; then
@@ -252,6 +234,15 @@ if command -v qemu-aarch64 > /dev/null && aarch64-linux-gnu-gcc -static -x c - -
 else
     echo 'aarch64-linux-gnu-gcc, its C library and qemu-aarch64 are not all installed here: 64-bit ARM is not tried'
 fi
-./measure.sh "$folder"
+./measure.sh "$folder" > "$folder/measured"
 told $? 'what the calls take is within the limits'
+cat "$folder/measured"
+take_up < <(./sizes.py < "$folder/measured" 2>&1)
+if command -v node > /dev/null; then
+    ../playground/build.sh "$folder"
+    told $? 'the page is built'
+    take_up < <(../playground/try.mjs 2>&1)
+else
+    echo 'node is not installed here: the page is not tried'
+fi
 finish

@@ -1,15 +1,18 @@
 #!/bin/bash
 # Firmware in C over the library: builds it for a board, and boots it in an emulator. The boards are virt (RISC-V 64), mps2 (Cortex-M3) and
 # lm3s (Cortex-M3 with 64 KB of RAM, for blocks alone).
+# Where a package or an archive has the library for the board, that is taken, and no toolchain is asked for; a clone makes its own.
 # usage: board.sh lacks BOARD                     prints what isn't installed here of what the board wants
-#        board.sh library BOARD FOLDER            compiles the library for the board's processor, in the folder where module.sh has built it; it is
-#                                                 built where it isn't there
+#        board.sh library BOARD FOLDER            prints the file that has the library for the board; a clone compiles it, in the folder where
+#                                                 module.sh has built the library; it is built where it isn't there
 #        board.sh build BOARD FOLDER SOURCE.c ..  so, and makes FOLDER/BOARD/SOURCE.elf, named by the first source
+#        board.sh sizes BOARD FIRMWARE.elf        prints the bytes that it takes of ROM, and of RAM beside the stack
 #        board.sh boot BOARD FIRMWARE.elf FOLDER  with the console on standard input and output; the disk is disk.img in the folder. More words
 #                                                 go to the emulator
 #        board.sh run BOARD FOLDER SOURCE.c ..    builds it and boots it, with a disk of zeros of 1 MB where FOLDER/BOARD has none yet
 set -euo pipefail
-here=$(cd "$(dirname "$0")" && pwd)
+shopt -s inherit_errexit
+here=$(cd "$(dirname "$0")" && pwd -P)
 usage() {
     sed -n 's/^# usage: //p; s/^#        //p' "$0" >&2
     exit 2
@@ -34,13 +37,26 @@ warnings='-std=c11 -Wall -Wextra -Wpedantic -Wshadow -Wconversion -Wstrict-proto
 compiled="-Os -g -ffreestanding -fno-tree-loop-distribute-patterns -ffunction-sections -fdata-sections -DARENA=500000"
 linked='-nostdlib -Wl,--gc-sections -Wl,--no-warn-rwx-segments -Wl,-z,noexecstack'
 
+# The library for the board as the package libsilgwyrad-dev has it, or an archive.
+packed_library() {
+    for it in "$here/../../../../lib/silgwyrad" "$here/../../lib/silgwyrad"; do
+        [ -f "$it/$board/library.o" ] || continue
+        realpath "$it/$board/library.o"
+        return
+    done
+    echo "board.sh: no library for $board is here: the package libsilgwyrad-dev has it" >&2
+    return 1
+}
+
 # The library's module as an object of the board's processor, with the names that host.c has for the host's two functions.
 make_library() {
     local folder=$1 kit
+    command -v rt > /dev/null || { echo 'board.sh: the toolchain (rt) is not in the path: see docs/PROGRAM.md, "From a clone"' >&2; return 1; }
     kit=$(rt doc)
     kit=${kit%/*}
     [ -f "$folder/module.ll" ] || "$here/../module.sh" "$folder" >&2
     mkdir -p "$folder/$processor"
+    echo "$folder/$processor/library.o"
     [ "$folder/$processor/library.o" -ot "$folder/module.ll" ] || return 0
     "$here/../retarget.py" $processor < "$folder/module.ll" > "$folder/$processor/module.ll"
     # shellcheck disable=SC2046
@@ -50,15 +66,20 @@ make_library() {
         "$folder/$processor/library.o"
 }
 
+# The file that has the library for the board.
+library() {
+    if [ -f "$here/../../crates.txt" ]; then make_library "$1"; else packed_library; fi
+}
+
 make_firmware() {
-    local folder=$1 name
+    local folder=$1 name object
     shift
     name=$(basename "$1" .c)
-    make_library "$folder"
+    object=$(library "$folder")
     mkdir -p "$folder/$board"
     # shellcheck disable=SC2086
     (cd "$here" && "$tools-gcc" $warnings $compiled $compiled_for $linked -T $board.ld -I .. -I . start.c memory.c $drivers console.c image.c ../host.c \
-        ../heap.c "$@" "$folder/$processor/library.o" -lgcc -Wl,-Map="$folder/$board/$name.map" -o "$folder/$board/$name.elf")
+        ../heap.c "$@" "$object" -lgcc -Wl,-Map="$folder/$board/$name.map" -o "$folder/$board/$name.elf")
 }
 
 boot() {
@@ -75,6 +96,15 @@ boot() {
     exec "$emulator" "${words[@]}" "$@"
 }
 
+# By the sections of sections.ld.
+sizes() {
+    "$tools-size" -A "$1" | awk '
+        $1 == ".text" || $1 == ".ARM.exidx" { rom += $2 }
+        $1 == ".data" { rom += $2; ram += $2 }
+        $1 == ".bss" || $1 == ".kept" { ram += $2 }
+        END { print "rom " rom + 0 " ram " ram + 0 }'
+}
+
 # What isn't installed here of what the board wants.
 lacks() {
     for it in "$tools-gcc" "$tools-objcopy" "$emulator"; do command -v "$it" > /dev/null || echo "$it"; done
@@ -86,7 +116,7 @@ case $act in
         ;;
     library)
         [ $# = 3 ] || usage
-        make_library "$3"
+        library "$(mkdir -p "$3" && cd "$3" && pwd)"
         ;;
     build)
         [ $# -ge 4 ] || usage
@@ -94,6 +124,10 @@ case $act in
         shift 3
         mapfile -t sources < <(realpath -- "$@")
         make_firmware "$folder" "${sources[@]}"
+        ;;
+    sizes)
+        [ $# = 3 ] || usage
+        sizes "$3"
         ;;
     run)
         [ $# -ge 4 ] || usage
