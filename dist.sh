@@ -183,6 +183,9 @@ make_library_deb() {
     cp embed/silgwyrad.h "$dev/include/"
     put_library "$dev/$place"
     put_boards "$dev/lib/silgwyrad"
+    # (the boards' processors are none of Debian's)
+    mkdir -p "$dev/share/lintian/overrides"
+    echo 'libsilgwyrad-dev: binary-from-other-architecture *usr/lib/silgwyrad/*' > "$dev/share/lintian/overrides/libsilgwyrad-dev"
     cat > "$dev/$place/pkgconfig/silgwyrad.pc" <<END
 prefix=/usr
 libdir=\${prefix}/$place
