@@ -4,13 +4,13 @@
 # the pages say that it does.
 # usage: measure.sh [FOLDER]          where module.sh has built the library; it is built where it isn't there
 set -euo pipefail
-cd "$(dirname "$0")"
 if [ $# -gt 0 ]; then
     folder=$(mkdir -p "$1" && cd "$1" && pwd)
 else
     folder=$(mktemp -d)
     trap 'rm -rf "$folder"' EXIT
 fi
+cd "$(dirname "$0")"
 if [ ! -f "$folder/module.ll" ]; then
     ./module.sh "$folder" > "$folder/library.log" 2>&1 || { tail -n 20 "$folder/library.log"; exit 1; }
 fi

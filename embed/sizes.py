@@ -58,7 +58,7 @@ def numbers(cell):
 def page():
     """The cells of the page's table of sizes, by row and target."""
     with open(PAGE, encoding="utf-8") as file:
-        lines = [[cell.strip() for cell in line.strip().strip("|").split(" | ")] for line in file if line.startswith("|")]
+        lines = [[cell.strip() for cell in line.strip()[1:-1].split("|")] for line in file if line.startswith("|")]
     head = next((it for it in lines if it[-3:] == list(COLUMNS)), None)
     if not head:
         sys.exit("sizes.py: docs/EMBEDDING.md has no table of sizes: FAILED")

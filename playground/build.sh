@@ -5,13 +5,13 @@
 # other target's name and layout of data.
 # usage: build.sh [FOLDER]          where embed/module.sh has built the library; it is built where it isn't there
 set -euo pipefail
-cd "$(dirname "$0")/.."
 if [ $# -gt 0 ]; then
     folder=$(mkdir -p "$1" && cd "$1" && pwd)
 else
     folder=$(mktemp -d)
     trap 'rm -rf "$folder"' EXIT
 fi
+cd "$(dirname "$0")/.."
 kit=$(rt doc)
 kit=${kit%/*}
 [ -f "$folder/module.ll" ] || embed/module.sh "$folder"
