@@ -5,6 +5,7 @@
 # `N passed, N failed`.
 # usage: try.sh [FOLDER]          what is built goes to FOLDER, else to a folder that is removed again
 set -uo pipefail
+given=${1:+$(mkdir -p "$1" && cd "$1" && pwd)}
 cd "$(dirname "$0")" || exit 1
 warnings='-std=c11 -Wall -Wextra -Wpedantic -Wshadow -Wconversion -Wstrict-prototypes -Wmissing-prototypes -Wcast-qual -Wundef -Werror'
 sanitizers='-g -fsanitize=address,undefined -fno-sanitize-recover=all'
@@ -181,13 +182,8 @@ if ! command -v gcc > /dev/null || ! command -v objcopy > /dev/null; then
     echo 'gcc and objcopy are not installed here: the hosts in C are not tried'
     finish
 fi
-if [ $# -gt 0 ]; then
-    mkdir -p "$1"
-    folder=$(cd "$1" && pwd)
-else
-    folder=$(mktemp -d)
-    trap 'rm -rf "$folder"' EXIT
-fi
+folder=${given:-$(mktemp -d)}
+[ -n "$given" ] || trap 'rm -rf "$folder"' EXIT
 if ! ./module.sh "$folder" > "$folder/library.log" 2>&1; then
     tail -n 20 "$folder/library.log"
     told 1 'the library is built'

@@ -4,7 +4,6 @@
 # board whose compiler or emulator isn't installed is skipped, and that is said. The last line is `N passed, N failed`.
 # usage: try.sh [FOLDER]          where module.sh has built the library; it is built where it isn't there
 set -u
-cd "$(dirname "$0")" || exit 1
 if [ $# -gt 0 ]; then
     mkdir -p "$1"
     folder=$(cd "$1" && pwd)
@@ -12,6 +11,7 @@ else
     folder=$(mktemp -d)
     trap 'rm -rf "$folder"' EXIT
 fi
+cd "$(dirname "$0")" || exit 1
 
 # (a card's size is a power of two)
 disk_bytes=1048576
