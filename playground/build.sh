@@ -21,11 +21,11 @@ embed/retarget.py wasm64 < "$folder/module.ll" > "$made/module.ll"
 # shellcheck disable=SC2046
 "$kit/toolchain/bin/clang" $(embed/retarget.py --flags wasm64) --no-default-config -Wno-override-module -ffunction-sections -fdata-sections -O3 \
     -c -x ir "$made/module.ll" -o "$made/library.o"
-ln -sf "$kit/toolchain/bin/clang" "$made/wasm-ld"
 exports=()
 while read -r it; do exports+=("--export=$it"); done < embed/expected/exports
-"$made/wasm-ld" -mwasm64 --no-entry --allow-undefined --gc-sections --strip-all --export=__heap_base -z stack-size=131072 --stack-first \
-    "${exports[@]}" "$made/library.o" -o playground/out/silgwyrad.wasm
+# (the toolchain's programs are one, which goes by the name that it is called by)
+(exec -a wasm-ld "$kit/toolchain/bin/clang" -mwasm64 --no-entry --allow-undefined --gc-sections --strip-all --export=__heap_base -z stack-size=131072 \
+    --stack-first "${exports[@]}" "$made/library.o" -o playground/out/silgwyrad.wasm)
 cp playground/index.html playground/system.js playground/out/
 cp examples/logger.scr examples/units.scr examples/editor.scr playground/out/examples/
 ls -l playground/out/silgwyrad.wasm
