@@ -15,11 +15,11 @@ literals_and_texts : Replies (codes ": T [ 2 3 + ] LITERAL ; T ." ⇒ codes "5  
 unfolding digits_of divided
 literals_and_texts = refl
 
-tokens : Replies (codes "' DUP ." ⇒ codes "36  ok" ∷ codes "32 WORD DUP FIND . ." ⇒ codes "-1 36  ok" ∷ codes ": A ; ' A ." ⇒ codes "133  ok" ∷ codes "' ; ." ⇒ codes "107  ok" ∷ codes "' ; EXECUTE" ⇒ codes " ? TOKEN" ∷ [])
+tokens : Replies (codes "' DUP ." ⇒ codes "36  ok" ∷ codes "32 WORD DUP FIND . ." ⇒ codes "-1 36  ok" ∷ codes ": A ; : B ; ' B ' A - ." ⇒ codes "1  ok" ∷ codes "' ; ." ⇒ codes "107  ok" ∷ codes "' ; EXECUTE" ⇒ codes " ? TOKEN" ∷ [])
 unfolding digits_of divided
 tokens = refl
 
-no_token : Replies (codes "0 EXECUTE" ⇒ codes " ? TOKEN" ∷ codes "133 EXECUTE" ⇒ codes " ? TOKEN" ∷ codes "38 EXECUTE" ⇒ codes " ? TOKEN" ∷ codes "111 EXECUTE" ⇒ codes " ? TOKEN" ∷ codes "'" ⇒ codes " ? NAME" ∷ codes "' NOPE" ⇒ codes " ? UNDEFINED" ∷ [])
+no_token : Replies (codes "0 EXECUTE" ⇒ codes " ? TOKEN" ∷ codes ": A ; ' A FORGET A EXECUTE" ⇒ codes " ? TOKEN" ∷ codes "38 EXECUTE" ⇒ codes " ? TOKEN" ∷ codes "111 EXECUTE" ⇒ codes " ? TOKEN" ∷ codes "'" ⇒ codes " ? NAME" ∷ codes "' NOPE" ⇒ codes " ? UNDEFINED" ∷ [])
 no_token = refl
 
 found_or_not : Replies (codes "32 WORD NOPE FIND . HERE = ." ⇒ codes "0 -1  ok" ∷ codes "32 WORD IF FIND . ." ⇒ codes "1 117  ok" ∷ codes "65535 FIND" ⇒ (codes " ok") ∷ codes "5 65535 C! 65535 FIND" ⇒ codes " ? ADDRESS" ∷ [])

@@ -41,10 +41,10 @@ module _ (code : List ℕ) (lo hi : ℕ) (most : hi ≤ 12) where
         ),
       )
 
--- whose body a cell belongs to; 139 is the word whose parts the others run
+-- whose body a cell belongs to; 1007 is the word whose parts the others run
 abbrev owner_at : ℕ → ℕ
 owner_at y =
-    if nat_lt y 3 then 133 else (if nat_lt y 5 then 139 else (if nat_lt y 8 then 136 else (if nat_lt y 10 then 137 else 139)))
+    if nat_lt y 3 then 1001 else (if nat_lt y 5 then 1007 else (if nat_lt y 8 then 1004 else (if nat_lt y 10 then 1005 else 1007)))
 
 -- what the table answers, by which token it is
 abbrev answer : (a b c d e f : Bool) → Called
@@ -58,38 +58,38 @@ answer a b c d e f =
 -- what it means
 abbrev meaning : (a b c d e f : Bool) → Meaning
 meaning a b c d e f =
-    if a then RunsBody (calling (134 ∷ 135 ∷ []) ∷ []) else
+    if a then RunsBody (calling (1002 ∷ 1003 ∷ []) ∷ []) else
     (if b then GivesCell 7 else
-    (if c then RunsPart 139 1280 (calling (13 ∷ []) ∷ []) else
-    (if d then RunsBody (calling (140 ∷ 133 ∷ []) ∷ []) else
-    (if e then RunsBody (calling (137 ∷ []) ∷ []) else
-    (if f then RunsPart 139 1280 (calling (138 ∷ []) ∷ []) else Outside)))))
+    (if c then RunsPart 1007 1280 (calling (13 ∷ []) ∷ []) else
+    (if d then RunsBody (calling (1008 ∷ 1001 ∷ []) ∷ []) else
+    (if e then RunsBody (calling (1005 ∷ []) ∷ []) else
+    (if f then RunsPart 1007 1280 (calling (1006 ∷ []) ∷ []) else Outside)))))
 
 abbrev answered : ℕ → Called
-answered w = answer (w == 133) (w == 134) (w == 135) (w == 136) (w == 137) (w == 138)
+answered w = answer (w == 1001) (w == 1002) (w == 1003) (w == 1004) (w == 1005) (w == 1006)
 
 abbrev meaning_of : ℕ → Meaning
-meaning_of w = meaning (w == 133) (w == 134) (w == 135) (w == 136) (w == 137) (w == 138)
+meaning_of w = meaning (w == 1001) (w == 1002) (w == 1003) (w == 1004) (w == 1005) (w == 1006)
 
 -- the cells of the five bodies
 pub record Laid (code : List ℕ) : Type 0 where
-  pub inner : LiesAt code 0 (134 ∷ 135 ∷ [])
+  pub inner : LiesAt code 0 (1002 ∷ 1003 ∷ [])
   pub part : LiesAt code 3 (13 ∷ [])
-  pub outer : LiesAt code 5 (140 ∷ 133 ∷ [])
-  pub itself : LiesAt code 8 (137 ∷ [])
-  pub own_part : LiesAt code 10 (138 ∷ [])
+  pub outer : LiesAt code 5 (1008 ∷ 1001 ∷ [])
+  pub itself : LiesAt code 8 (1005 ∷ [])
+  pub own_part : LiesAt code 10 (1006 ∷ [])
 
 user : (w : ℕ) → 111 < w → w ≤ 4096 → IsCalled w
 user w a b =
     record { above = omega (arith, a); most = b; no_exit = λ e. omega (arith, a, e); no_compile = λ e. omega (arith, a, e) }
 
-pub laid : (code : List ℕ) → slice_index code 0 ≡ 134 → slice_index code 1 ≡ 135 → slice_index code 2 ≡ 4108 → slice_index code 3 ≡ 13 → slice_index code 4 ≡ 4108 → slice_index code 5 ≡ 140 → slice_index code 6 ≡ 133 → slice_index code 7 ≡ 4108 → slice_index code 8 ≡ 137 → slice_index code 9 ≡ 4108 → slice_index code 10 ≡ 138 → slice_index code 11 ≡ 4108 → Laid code
+pub laid : (code : List ℕ) → slice_index code 0 ≡ 1002 → slice_index code 1 ≡ 1003 → slice_index code 2 ≡ 4108 → slice_index code 3 ≡ 13 → slice_index code 4 ≡ 4108 → slice_index code 5 ≡ 1008 → slice_index code 6 ≡ 1001 → slice_index code 7 ≡ 4108 → slice_index code 8 ≡ 1005 → slice_index code 9 ≡ 4108 → slice_index code 10 ≡ 1006 → slice_index code 11 ≡ 4108 → Laid code
 laid code a b c d e f g h i j k l = record {
-  inner = (user 134 (omega arith) (omega arith), (a, (user 135 (omega arith) (omega arith), (b, c))));
+  inner = (user 1002 (omega arith) (omega arith), (a, (user 1003 (omega arith) (omega arith), (b, c))));
   part = (record { above = omega arith; most = omega arith; no_exit = omega arith; no_compile = omega arith }, (d, e));
-  outer = (user 140 (omega arith) (omega arith), (f, (user 133 (omega arith) (omega arith), (g, h))));
-  itself = (user 137 (omega arith) (omega arith), (i, j));
-  own_part = (user 138 (omega arith) (omega arith), (k, l));
+  outer = (user 1008 (omega arith) (omega arith), (f, (user 1001 (omega arith) (omega arith), (g, h))));
+  itself = (user 1005 (omega arith) (omega arith), (i, j));
+  own_part = (user 1006 (omega arith) (omega arith), (k, l));
 }
 
 module _ (code : List ℕ) (l : Laid code) where
@@ -97,36 +97,36 @@ module _ (code : List ℕ) (l : Laid code) where
   body owner lo hi ws most at fits own =
       (lo, hi, (record { owned = own; within = omega (arith, most) }, means code lo hi most ws lo at (omega arith) fits))
 
-  inner : BodyAt code owner_at 133 0 (calling (134 ∷ 135 ∷ []) ∷ [])
-  inner = body 133 0 3 (134 ∷ 135 ∷ []) (omega arith) l.inner (omega arith) (λ y a b. grind (arith, nat_tests, a, b))
+  inner : BodyAt code owner_at 1001 0 (calling (1002 ∷ 1003 ∷ []) ∷ [])
+  inner = body 1001 0 3 (1002 ∷ 1003 ∷ []) (omega arith) l.inner (omega arith) (λ y a b. grind (arith, nat_tests, a, b))
 
-  part : BodyAt code owner_at 139 3 (calling (13 ∷ []) ∷ [])
-  part = body 139 3 5 (13 ∷ []) (omega arith) l.part (omega arith) (λ y a b. grind (arith, nat_tests, a, b))
+  part : BodyAt code owner_at 1007 3 (calling (13 ∷ []) ∷ [])
+  part = body 1007 3 5 (13 ∷ []) (omega arith) l.part (omega arith) (λ y a b. grind (arith, nat_tests, a, b))
 
-  outer : BodyAt code owner_at 136 5 (calling (140 ∷ 133 ∷ []) ∷ [])
-  outer = body 136 5 8 (140 ∷ 133 ∷ []) (omega arith) l.outer (omega arith) (λ y a b. grind (arith, nat_tests, a, b))
+  outer : BodyAt code owner_at 1004 5 (calling (1008 ∷ 1001 ∷ []) ∷ [])
+  outer = body 1004 5 8 (1008 ∷ 1001 ∷ []) (omega arith) l.outer (omega arith) (λ y a b. grind (arith, nat_tests, a, b))
 
-  itself : BodyAt code owner_at 137 8 (calling (137 ∷ []) ∷ [])
-  itself = body 137 8 10 (137 ∷ []) (omega arith) l.itself (omega arith) (λ y a b. grind (arith, nat_tests, a, b))
+  itself : BodyAt code owner_at 1005 8 (calling (1005 ∷ []) ∷ [])
+  itself = body 1005 8 10 (1005 ∷ []) (omega arith) l.itself (omega arith) (λ y a b. grind (arith, nat_tests, a, b))
 
-  own_part : BodyAt code owner_at 139 10 (calling (138 ∷ []) ∷ [])
-  own_part = body 139 10 12 (138 ∷ []) (omega arith) l.own_part (omega arith) (λ y a b. grind (arith, nat_tests, a, b))
+  own_part : BodyAt code owner_at 1007 10 (calling (1006 ∷ []) ∷ [])
+  own_part = body 1007 10 12 (1006 ∷ []) (omega arith) l.own_part (omega arith) (λ y a b. grind (arith, nat_tests, a, b))
 
-  stands : (w : ℕ) (a b c d e f : Bool) → (a ≡ true → w ≡ 133) → (d ≡ true → w ≡ 136) → (e ≡ true → w ≡ 137) → StandsFor code owner_at (answer a b c d e f) w (meaning a b c d e f)
+  stands : (w : ℕ) (a b c d e f : Bool) → (a ≡ true → w ≡ 1001) → (d ≡ true → w ≡ 1004) → (e ≡ true → w ≡ 1005) → StandsFor code owner_at (answer a b c d e f) w (meaning a b c d e f)
   stands w true b c d e f h i j =
-      subst (λ o. BodyAt code owner_at o 0 (calling (134 ∷ 135 ∷ []) ∷ [])) (sym (h refl)) inner
+      subst (λ o. BodyAt code owner_at o 0 (calling (1002 ∷ 1003 ∷ []) ∷ [])) (sym (h refl)) inner
   stands w false true c d e f h i j = refl
   stands w false false true d e f h i j = (refl, part)
   stands w false false false true e f h i j =
-      subst (λ o. BodyAt code owner_at o 5 (calling (140 ∷ 133 ∷ []) ∷ [])) (sym (i refl)) outer
+      subst (λ o. BodyAt code owner_at o 5 (calling (1008 ∷ 1001 ∷ []) ∷ [])) (sym (i refl)) outer
   stands w false false false false true f h i j =
-      subst (λ o. BodyAt code owner_at o 8 (calling (137 ∷ []) ∷ [])) (sym (j refl)) itself
+      subst (λ o. BodyAt code owner_at o 8 (calling (1005 ∷ []) ∷ [])) (sym (j refl)) itself
   stands w false false false false false true h i j = (refl, own_part)
   stands w false false false false false false h i j = tt
 
   all_stand : (w : ℕ) → StandsFor code owner_at (answered w) w (meaning_of w)
   all_stand w =
-      stands w (w == 133) (w == 134) (w == 135) (w == 136) (w == 137) (w == 138) (λ t. grind (arith, nat_tests, t)) (λ t. grind (arith, nat_tests, t)) (λ t. grind (arith, nat_tests, t))
+      stands w (w == 1001) (w == 1002) (w == 1003) (w == 1004) (w == 1005) (w == 1006) (λ t. grind (arith, nat_tests, t)) (λ t. grind (arith, nat_tests, t)) (λ t. grind (arith, nat_tests, t))
 
   pub ready : (word : ℕ) (pending pending' : Option ℕ) (p p' : ℕ) (es es' : List Entry) (st st' : List ℕ) → pending ≡ None → es ≡ [] → Entered code (work.Primitive word) pending p es st pending' p' es' st' → IsReadyToCall code answered pending' p' es'
   ready word pending pending' p p' es es' st st' n e h =

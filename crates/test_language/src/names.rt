@@ -5,6 +5,7 @@ use dictionary::{Dictionary, DictionaryFault, FORTH, Kind, Token, is_compile_onl
 use std::alloc::Global;
 use std::process::Abort;
 use std::test::Fail;
+use system_words::COUNT;
 
 /// Calls over a dictionary.
 #[derive(Drop)]
@@ -77,8 +78,9 @@ impl Names {
         }
     }
 
+    /// Adds words of this name until there are so many words.
     fn fill(&mut self, name: &[u8], count: u16) -> bool {
-        for _ in 0..count {
+        for _ in self.dictionary.len()..usize::from(count) {
             if self.dictionary.add(name, Kind::Colon(0), 1280).is_err() {
                 return false;
             }
@@ -186,7 +188,7 @@ fn follow_new(rt: &impl Abort, alloc: Global, text: &str) -> Result<(), Fail> {
 #[test]
 fn the_system_words_are_primitives_of_forth(rt: HostRuntime) -> Result<(), Fail> {
     let dictionary = Dictionary::new(rt.alloc())?;
-    for token in 1..=132u16 {
+    for token in 1..=COUNT {
         assert!(rt; is_primitive(&dictionary, token), "{token}");
     }
     Ok(())
@@ -206,11 +208,11 @@ fn is_primitive(dictionary: &Dictionary, token: Token) -> bool {
 
 #[test]
 fn no_other_system_word_is_there(rt: HostRuntime) -> Result<(), Fail> {
-    let text = "len | 132
+    let text = "len | #0
 entry 0 | false
 compile_only 0 | false
-entry 133 | false
-compile_only 133 | false
+entry #1 | false
+compile_only #1 | false
 entry 4096 | false
 compile_only 4096 | false
 entry 65535 | false
@@ -221,26 +223,26 @@ compile_only 65535 | false";
 // A new definition hides an older one, and a forgotten one brings it back.
 #[test]
 fn the_last_word_of_a_name_is_found(rt: HostRuntime) -> Result<(), Fail> {
-    let text = "define 1280 [A] | 133
-define 1280 [B] | 134
-define 1300 [A] | 135
-define 1310 [AA] | 136
-define 1320 [AB] | 137
-find [A] | 135
-find [B] | 134
-find [AA] | 136
-find [AB] | 137
+    let text = "define 1280 [A] | #1
+define 1280 [B] | #2
+define 1300 [A] | #3
+define 1310 [AA] | #4
+define 1320 [AB] | #5
+find [A] | #3
+find [B] | #2
+find [AA] | #4
+find [AB] | #5
 find [AC] | none
 find [a] | none
 find [dup] | none
 find [] | none
 find [DUP] | 36
 forget [A] | 1300
-find [A] | 133
+find [A] | #1
 find [AB] | none
 forget [A] | 1280
 find [B] | none
-len | 132";
+len | #0";
     follow_new(&rt, rt.alloc(), text)
 }
 
@@ -248,28 +250,28 @@ len | 132";
 // 2 3 1 2, and after a second FORGET A there is none in FORTH.
 #[test]
 fn forget_gives_each_vocabulary_its_last_word_back(rt: HostRuntime) -> Result<(), Fail> {
-    let text = "vocabulary [V] | 133
-define 1280 [A] | 134
-search 133
+    let text = "vocabulary [V] | #1
+define 1280 [A] | #2
+search #1
 define_there
-define 1280 [A] | 135
+define 1280 [A] | #3
 search 91
 define_there
-define 1280 [A] | 136
-search 133
-find [A] | 135
+define 1280 [A] | #4
+search #1
+find [A] | #3
 search 91
-find [A] | 136
+find [A] | #4
 forget [A] | 1280
-find [A] | 134
-search 133
-find [A] | 135
+find [A] | #2
+search #1
+find [A] | #3
 forget [A] | 1280
-len | 133
+len | #1
 find [A] | none
-define 1280 [A] | 134
-find [A] | 134
-find_in 133 [A] | none";
+define 1280 [A] | #2
+find [A] | #2
+find_in #1 [A] | none";
     follow_new(&rt, rt.alloc(), text)
 }
 
@@ -277,23 +279,23 @@ find_in 133 [A] | none";
 // FORTH is in its place.
 #[test]
 fn a_vocabulary_hides_its_words(rt: HostRuntime) -> Result<(), Fail> {
-    let text = "vocabulary [V] | 133
-search 133
+    let text = "vocabulary [V] | #1
+search #1
 define_there
-searched | 133
-defined_in | 133
-define 1290 [X] | 134
+searched | #1
+defined_in | #1
+define 1290 [X] | #2
 forget [X] | 1290
-define 1290 [X] | 134
+define 1290 [X] | #2
 search 91
 define_there
 find_in 91 [X] | none
-find_in 133 [X] | 134
-find_in 134 [X] | none
+find_in #1 [X] | #2
+find_in #2 [X] | none
 find_in 65535 [X] | none
 find [X] | none
-search 133
-find [X] | 134
+search #1
+find [X] | #2
 find [DUP] | 36
 forget [V] | 1280
 searched | 91";
@@ -308,17 +310,17 @@ forget [FORTH] | protected
 forget []] | protected
 immediate | protected
 does 7 | not created
-define 1280 [A] | 133
-vocabulary [V] | 134
-define 1280 [B] | 135
-search 134
+define 1280 [A] | #1
+vocabulary [V] | #2
+define 1280 [B] | #3
+search #2
 define_there
-forget_from 133 | protected
-forget_from 134 | protected
-len | 135
-forget_from 135 | 1280
-searched | 134
-defined_in | 134";
+forget_from #1 | protected
+forget_from #2 | protected
+len | #3
+forget_from #3 | 1280
+searched | #2
+defined_in | #2";
     follow_new(&rt, rt.alloc(), text)
 }
 
@@ -339,12 +341,12 @@ fn the_most_recent_word_is_changed(rt: HostRuntime) -> Result<(), Fail> {
     Ok(())
 }
 
-// 3,964 words of the longest name can be added, and no more.
+// Words of the longest name can be added until there are 4,096, and no more.
 #[test]
 fn a_full_dictionary_refuses(rt: HostRuntime) -> Result<(), Fail> {
     let text = "constant_long 32 | name length
 constant_long 0 | name length
-fill 31 3964
+fill 31 4096
 len | 4096
 check [A] | full
 add [A] | full

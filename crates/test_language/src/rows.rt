@@ -1,7 +1,8 @@
 //! Tests as texts: a call and what it answers a line, as `digit 1234 10 | 123`. A text that is given or answered stands in brackets, as in
-//! `text 41 [) 1] | 1 []`.
+//! `text 41 [) 1] | 1 []`. `#1` is the token of the first word that is made, `#2` of the second, and `#0` of the last system word.
 
 use std::process::Abort;
+use system_words::COUNT;
 
 /// Does the calls of rows, over what it has made of those before.
 pub(crate) trait Caller {
@@ -76,7 +77,7 @@ impl<'a> Row<'a> {
         match number {
             Some(number) => {
                 let (first, _) = self.answer.split_once(" ").unwrap_or((self.answer, ""));
-                first.parse().ok() == Some(number)
+                parsed(first) == Some(number)
             }
             None => self.answer == "none",
         }
@@ -91,8 +92,16 @@ impl<'a> Row<'a> {
 /// The first, second or third number of a text, or 0 where it isn't there.
 pub(crate) fn number_in(text: &str, place: usize) -> u32 {
     match text.split(" ").nth(place) {
-        Some(word) => word.parse().unwrap_or(0),
+        Some(word) => parsed(word).unwrap_or(0),
         None => 0,
+    }
+}
+
+/// A number as a row writes it, or None where it is none.
+fn parsed(word: &str) -> Option<u32> {
+    match word.strip_prefix("#") {
+        Some(made) => made.parse::<u32>().ok()?.checked_add(u32::from(COUNT)),
+        None => word.parse().ok(),
     }
 }
 

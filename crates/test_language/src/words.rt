@@ -1,7 +1,7 @@
 //! Tests of what no contract says: that memory which is there is found; and each call once, with what is then run.
 //!
-//! The system words' tokens: 2 is `*`, 5 `+`, 23 `@`, 36 `DUP`, 38 `EXIT`, 90 `FORGET`, 111 `COMPILE` and 113 `CREATE`. The first word
-//! that is made is 133.
+//! The system words' tokens: 2 is `*`, 5 `+`, 23 `@`, 36 `DUP`, 38 `EXIT`, 90 `FORGET`, 111 `COMPILE` and 113 `CREATE`. `#1` is
+//! the first word that is made.
 
 use calls::follow_new;
 use std::test::Fail;
@@ -11,7 +11,7 @@ mod desk;
 
 #[test]
 fn the_system_words_are_there(rt: HostRuntime) -> Result<(), Fail> {
-    let text = "len | 132
+    let text = "len | #0
 find [DUP] | 36
 find [dup] | none
 find_in_current [!] | 1
@@ -32,19 +32,19 @@ compile 2
 find [SQUARE] | none
 finish
 begin [AREA]
-compile 133
+compile #1
 literal 3
 compile 2
 structure IF
 literal 7
 structure THEN
 finish
-find [AREA] | 134
+find [AREA] | #2
 push 5
-does 134
+does #2
 pop | 7
 push 5
-does 133
+does #1
 pop | 25";
     follow_new(&rt, rt.alloc(), text)
 }
@@ -54,7 +54,7 @@ fn refusals_come_in_their_order(rt: HostRuntime) -> Result<(), Fail> {
     let text = "finish | NoDefinition
 literal 1 | NoDefinition
 immediate | Protected
-forget 132 | Protected
+forget #0 | Protected
 create [] | Name
 begin [X]
 create [] | DefinitionOpen
@@ -66,7 +66,7 @@ compile 38 | Unbalanced
 finish | Unbalanced
 abandon
 is_open | false
-len | 132";
+len | #0";
     follow_new(&rt, rt.alloc(), text)
 }
 
@@ -77,28 +77,28 @@ create [AT]
 constant 10 [TEN]
 immediate
 vocabulary [INNER]
-data_address 133 | 1300
-is_immediate 134 | true
-is_vocabulary 135 | true
-does 133
+data_address #1 | 1300
+is_immediate #2 | true
+is_vocabulary #3 | true
+does #1
 pop | 1300
-does 134
+does #2
 pop | 10
-asks 135 | Word 135";
+asks #3 | Word #3";
     follow_new(&rt, rt.alloc(), text)
 }
 
 #[test]
 fn vocabularies_hide_and_show(rt: HostRuntime) -> Result<(), Fail> {
     let text = "vocabulary [INNER]
-first 133
+first #1
 definitions
 constant 1 [DUP]
-find [DUP] | 134
+find [DUP] | #2
 forth
 find [DUP] | 36
-find_in_current [DUP] | 134
-forget 133 | Protected";
+find_in_current [DUP] | #2
+forget #1 | Protected";
     follow_new(&rt, rt.alloc(), text)
 }
 
@@ -107,7 +107,7 @@ fn texts_come_back(rt: HostRuntime) -> Result<(), Fail> {
     let text = "begin [HI]
 text [hello]
 finish
-print 133 | 5 [hello]
+print #1 | 5 [hello]
 ends";
     follow_new(&rt, rt.alloc(), text)
 }
@@ -121,15 +121,15 @@ structure DOES>
 compile 23
 compile 5
 finish
-asks 133 | Word 113
+asks #1 | Word 113
 create [NOTHING]
 give
-data_address 134 | 1280
+data_address #2 | 1280
 push 8
-does 134
+does #2
 pop | 8
-forget 133
-len | 132";
+forget #1
+len | #0";
     follow_new(&rt, rt.alloc(), text)
 }
 
@@ -142,13 +142,13 @@ compile 36
 literal 1
 finish
 begin [USER]
-asks 133 | Compile 36
+asks #1 | Compile 36
 compile 36
 ends
 pop | 1
 finish
 push 4
-does 134
+does #2
 pop | 4
 pop | 4";
     follow_new(&rt, rt.alloc(), text)
@@ -165,20 +165,20 @@ compile 90
 literal 6
 finish
 begin [TWICE]
-compile 134
+compile #2
 finish
 set_here 1500
 constant 1 [NEW]
-asks 135 | Word 90
-forget 133 | Protected
-forget 134 | Protected
-forget 135 | Protected
-forget 136
+asks #3 | Word 90
+forget #1 | Protected
+forget #2 | Protected
+forget #3 | Protected
+forget #4
 here | 1500
 ends
 pop | 6
-forget 134
+forget #2
 here | 1400
-len | 133";
+len | #1";
     follow_new(&rt, rt.alloc(), text)
 }

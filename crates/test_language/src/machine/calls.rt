@@ -19,38 +19,38 @@ const STACK_FULL: Event = Event::Fault(MachineFault::StackFull);
 
 const RETURN_STACK: Event = Event::Fault(MachineFault::ReturnStack);
 
-/// What the words 133 to 138 are.
+/// What the words 1001 to 1006 are.
 struct Table;
 
 impl Calls for Table {
     ghost calls = { λ table token.
-        if token == 133 then GivenCalled.Body 0 else
-        if token == 134 then GivenCalled.Cell 7 else
-        if token == 135 then GivenCalled.Part 3 1280 else
-        if token == 136 then GivenCalled.Body 5 else
-        if token == 137 then GivenCalled.Body 8 else
-        if token == 138 then GivenCalled.Part 10 1280 else GivenCalled.Outside };
+        if token == 1001 then GivenCalled.Body 0 else
+        if token == 1002 then GivenCalled.Cell 7 else
+        if token == 1003 then GivenCalled.Part 3 1280 else
+        if token == 1004 then GivenCalled.Body 5 else
+        if token == 1005 then GivenCalled.Body 8 else
+        if token == 1006 then GivenCalled.Part 10 1280 else GivenCalled.Outside };
 
     fn called(&self, token: u16) -> Called {
-        if token == 133 {
+        if token == 1001 {
             return Called::Body(0);
         }
-        if token == 134 {
+        if token == 1002 {
             return Called::Cell(7);
         }
-        if token == 135 {
+        if token == 1003 {
             return Called::Part {
                 place: 3,
                 data_address: 1280,
             };
         }
-        if token == 136 {
+        if token == 1004 {
             return Called::Body(5);
         }
-        if token == 137 {
+        if token == 1005 {
             return Called::Body(8);
         }
-        if token == 138 {
+        if token == 1006 {
             return Called::Part {
                 place: 10,
                 data_address: 1280,
@@ -64,33 +64,33 @@ impl Calls for Table {
     }
 }
 
-/// The bodies of the words: 133 calls the constant 134 and the part of 135, which adds 1; 136 calls a word that isn't
-/// known, and 133; 137 and 138 call themselves.
+/// The bodies of the words: 1001 calls the constant 1002 and the part of 1003, which adds 1; 1004 calls a word that isn't
+/// known, and 1001; 1005 and 1006 call themselves.
 fn lay(code: &mut Code)
-    ensures constant { slice_index code.new 0 ≡ 134 }
-    ensures part { slice_index code.new 1 ≡ 135 }
+    ensures constant { slice_index code.new 0 ≡ 1002 }
+    ensures part { slice_index code.new 1 ≡ 1003 }
     ensures end { slice_index code.new 2 ≡ 4108 }
     ensures one_more { slice_index code.new 3 ≡ 13 }
     ensures part_end { slice_index code.new 4 ≡ 4108 }
-    ensures outside { slice_index code.new 5 ≡ 140 }
-    ensures body { slice_index code.new 6 ≡ 133 }
+    ensures outside { slice_index code.new 5 ≡ 1008 }
+    ensures body { slice_index code.new 6 ≡ 1001 }
     ensures outer_end { slice_index code.new 7 ≡ 4108 }
-    ensures itself { slice_index code.new 8 ≡ 137 }
+    ensures itself { slice_index code.new 8 ≡ 1005 }
     ensures itself_end { slice_index code.new 9 ≡ 4108 }
-    ensures own_part { slice_index code.new 10 ≡ 138 }
+    ensures own_part { slice_index code.new 10 ≡ 1006 }
     ensures own_part_end { slice_index code.new 11 ≡ 4108 }
 {
-    code.set(0, 134);
-    code.set(1, 135);
+    code.set(0, 1002);
+    code.set(1, 1003);
     code.set(2, 4108);
     code.set(3, 13);
     code.set(4, 4108);
-    code.set(5, 140);
-    code.set(6, 133);
+    code.set(5, 1008);
+    code.set(6, 1001);
     code.set(7, 4108);
-    code.set(8, 137);
+    code.set(8, 1005);
     code.set(9, 4108);
-    code.set(10, 138);
+    code.set(10, 1006);
     code.set(11, 4108);
 }
 
@@ -102,17 +102,17 @@ fn run(
     space: &mut DataSpace,
     budget: &mut u32,
 ) -> (Event, Event)
-    requires constant { slice_index code.now 0 ≡ 134 }
-    requires part { slice_index code.now 1 ≡ 135 }
+    requires constant { slice_index code.now 0 ≡ 1002 }
+    requires part { slice_index code.now 1 ≡ 1003 }
     requires end { slice_index code.now 2 ≡ 4108 }
     requires one_more { slice_index code.now 3 ≡ 13 }
     requires part_end { slice_index code.now 4 ≡ 4108 }
-    requires outside { slice_index code.now 5 ≡ 140 }
-    requires body { slice_index code.now 6 ≡ 133 }
+    requires outside { slice_index code.now 5 ≡ 1008 }
+    requires body { slice_index code.now 6 ≡ 1001 }
     requires outer_end { slice_index code.now 7 ≡ 4108 }
-    requires itself { slice_index code.now 8 ≡ 137 }
+    requires itself { slice_index code.now 8 ≡ 1005 }
     requires itself_end { slice_index code.now 9 ≡ 4108 }
-    requires own_part { slice_index code.now 10 ≡ 138 }
+    requires own_part { slice_index code.now 10 ≡ 1006 }
     requires own_part_end { slice_index code.now 11 ≡ 4108 }
 {
     let mut machine = Machine::new();
@@ -155,22 +155,22 @@ fn event_on(alloc: Global, word: u16, depth: usize, steps: u32) -> Result<Event,
 // words, the cells on the stack, the steps that are left, and how they end
 const ENDS: [(u16, usize, u32, Event); 13] = [
     // a call costs one step, the end of a body none
-    (133, 0, 3, STEPS),
+    (1001, 0, 3, STEPS),
     // a word that calls itself takes the 256 units with as many calls, and a step comes before a unit
-    (137, 0, 257, RETURN_STACK),
-    (137, 0, 256, STEPS),
+    (1005, 0, 257, RETURN_STACK),
+    (1005, 0, 256, STEPS),
     // a part that calls itself takes a cell with each unit: a step comes before a unit, and a unit before a cell
-    (138, 0, 257, RETURN_STACK),
-    (138, 0, 256, STEPS),
-    (138, 1, 256, STACK_FULL),
-    (138, 1, 255, STEPS),
+    (1006, 0, 257, RETURN_STACK),
+    (1006, 0, 256, STEPS),
+    (1006, 1, 256, STACK_FULL),
+    (1006, 1, 255, STEPS),
     // a constant wants a cell
-    (134, 255, 1, Event::Done),
-    (134, 256, 1, STACK_FULL),
-    (134, 256, 0, STEPS),
-    (133, 256, 2, STACK_FULL),
-    (133, 256, 1, STEPS),
-    (133, 254, 4, Event::Done),
+    (1002, 255, 1, Event::Done),
+    (1002, 256, 1, STACK_FULL),
+    (1002, 256, 0, STEPS),
+    (1001, 256, 2, STACK_FULL),
+    (1001, 256, 1, STEPS),
+    (1001, 254, 4, Event::Done),
 ];
 
 /// Compares how a word ended, where so many steps were left.
@@ -225,9 +225,9 @@ fn leaves(alloc: Global, word: u16, steps: u32, first: Event, cells: &str) -> Re
 // words with their steps, how they end at first, and what they leave; a part finds its data address, and a word that isn't
 // known is left to the caller, and what is left of the body is done after it
 const LEAVES: [(u16, u32, Event, &str); 3] = [
-    (133, 4, Event::Done, "1281 7"),
-    (135, 2, Event::Done, "1281"),
-    (136, 6, Event::Service(Op::Word(140)), "1281 7"),
+    (1001, 4, Event::Done, "1281 7"),
+    (1003, 2, Event::Done, "1281"),
+    (1004, 6, Event::Service(Op::Word(1008)), "1281 7"),
 ];
 
 #[test]

@@ -8,6 +8,7 @@ use stacks::{DataStack, ReturnStack};
 use std::alloc::Global;
 use std::process::Abort;
 use std::test::Fail;
+use system_words::COUNT;
 
 const STEPS: Event = Event::Fault(MachineFault::Steps);
 
@@ -103,7 +104,7 @@ const SERVICES: [(u16, u16); 15] = [
     (112, 122),
     (124, 128),
     (130, 131),
-    (133, 134),
+    (COUNT + 1, COUNT + 2),
     (4095, 4095),
     (4096, 4096),
 ];
