@@ -1,6 +1,6 @@
 -- The limits of dictionary, code and structures, from systems that are almost full.
-use Rattle.std.specs.Prelude.{ℕ, zero, suc, false, List, [], ◌∷◌, ◌++◌, codes, replicate, refl}
-use Rattle.dictionary.specs.Words.{Colon, forth_token}
+use Rattle.std.specs.Prelude.{ℕ, ◌-◌, zero, suc, false, List, [], ◌∷◌, ◌++◌, codes, replicate, refl}
+use Rattle.dictionary.specs.Words.{Colon, forth_token, system_count}
 use Rattle.dictionary.specs.System.{first_words}
 use Rattle.cell_machine.specs.Tree.{End}
 use Rattle.interpreter.specs.State.{Forth, ForthWord}
@@ -13,8 +13,8 @@ colon_word cells = record { name = codes "A"; vocabulary = forth_token; immediat
 abbrev pub with_words : List ForthWord → Forth
 with_words words = let s = over (image []) in record s { world = record s.world { words = first_words ++ words } }
 
--- 3,963 words beside the system's leave room for one
-one_word_left : Plays (with_words (replicate 3963 (colon_word 1))) [] (codes ": B ;" ⇒ codes " ok" ∷ codes ": B ;" ⇒ codes " ? DICTIONARY FULL" ∷ codes "CREATE C" ⇒ codes " ? DICTIONARY FULL" ∷ [])
+-- one word less than there may be leaves room for one
+one_word_left : Plays (with_words (replicate (4095 - system_count) (colon_word 1))) [] (codes ": B ;" ⇒ codes " ok" ∷ codes ": B ;" ⇒ codes " ? DICTIONARY FULL" ∷ codes "CREATE C" ⇒ codes " ? DICTIONARY FULL" ∷ [])
 one_word_left = refl
 
 -- 16,383 literals and an end take all code cells but one
