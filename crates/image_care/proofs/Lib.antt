@@ -5,6 +5,7 @@ pub mod Examinations
 pub mod Findings
 pub mod Looks
 pub mod Makings
+pub mod Mendings
 pub mod Retries
 pub mod Salvages
 pub mod Stills

@@ -3,6 +3,7 @@ pub mod During
 pub mod Examined
 pub mod Looked
 pub mod Made
+pub mod Mended
 pub mod Overtaken
 pub mod Salvaged
 pub mod Seen

@@ -1,18 +1,28 @@
 // Bytes in memory, as a device that is only read.
-ghost use Rattle.std.specs.Prelude.{◌≡◌, ◌<◌, ◌≤◌, ◌+◌, ℕ, IsTrue, length, slice_index};
+ghost use Rattle.std.specs.Prelude.{◌≡◌, ◌<◌, ◌≤◌, ◌+◌, ℕ, if◌then◌else◌, ◌==◌, IsTrue, length, slice_index};
 ghost use Rattle.sector_disk.specs.FileBytes.{Gives, disk_of_file, sector_of};
 ghost use Rattle.image_care.specs.Seen.{still};
-ghost use Rattle.image_care.specs.StillDisk.{ReadsWell};
+ghost use Rattle.image_care.specs.StillDisk.{ReadsWell, replaced, replaced_disk};
+ghost use Rattle.image_care.specs.Through.{image_of};
 
 use sector_disk::{Counts, DeviceFault, SectorDevice};
 
-/// Bytes in memory, as a device of sectors that nobody writes: past their end there are zeros. It keeps the disk model,
-/// by sectors. No read of it fails; each write and each sync does, and changes no byte.
+/// The 512 bytes that stand in the place of those of sector `at`.
+#[derive(Clone, Copy)]
+pub struct Replacement {
+    pub at: u32,
+    pub bytes: [u8; 512],
+}
+
+/// Bytes in memory, as a device of sectors that nobody writes: past their end there are zeros, and one sector may be
+/// replaced. It keeps the disk model, by sectors. No read of it fails; each write and each sync does, and changes no
+/// byte.
 /// Rule: IMAGE, A look while it runs; IMAGE, A sector that can't be read.
 #[derive(Drop)]
 pub struct StillDisk<'a> {
     bytes: &'a [u8],
     sectors: u32,
+    replacement: Option<Replacement>,
     counts: Counts,
 }
 
@@ -27,10 +37,50 @@ impl<'a> StillDisk<'a> {
         // Whatever is read of it, no read fails.
         ensures reads { ReadsWell ⟦<StillDisk<'a> as SectorDevice>⟧ result }
     {
+        StillDisk::with(bytes, sectors, None)
+    }
+
+    /// These bytes, as a device of this many sectors, with one of them replaced, if any is.
+    pub(crate) fn with(
+        bytes: &'a [u8],
+        sectors: u32,
+        replacement: Option<Replacement>,
+    ) -> StillDisk<'a>
+        ensures sectors { ⟦<StillDisk<'a> as SectorDevice>⟧.sector_count result ≡ sectors }
+        ensures disk { ⟦<StillDisk<'a> as SectorDevice>⟧.disk result ≡ replaced_disk replacement bytes.now }
+        ensures model { IsTrue (⟦<StillDisk<'a> as SectorDevice>⟧.keeps_model result) }
+        ensures units { IsTrue (⟦<StillDisk<'a> as SectorDevice>⟧.keeps_sectors result) }
+        ensures failures { ⟦<StillDisk<'a> as SectorDevice>⟧.failures result ≡ 0 }
+        ensures reads { ReadsWell ⟦<StillDisk<'a> as SectorDevice>⟧ result }
+    {
         StillDisk {
             bytes,
             sectors,
+            replacement,
             counts: Counts::default(),
+        }
+    }
+
+    // The bytes of sector `k`.
+    fn sector(&self, k: u32) -> [u8; 512]
+        ensures { result ≡ replaced self.now.replacement (image_of self.now.bytes.now) k }
+    {
+        match &self.replacement {
+            Some(one) => one.or_read(self.bytes, k),
+            None => sector_in(self.bytes, k),
+        }
+    }
+}
+
+impl Replacement {
+    // The bytes that stand for sector `k`, and else those that are there.
+    fn or_read(&self, bytes: &[u8], k: u32) -> [u8; 512]
+        ensures { result ≡ (if k == self.now.at then self.now.bytes else image_of bytes.now k) }
+    {
+        if k == self.at {
+            self.bytes
+        } else {
+            sector_in(bytes, k)
         }
     }
 }
@@ -38,10 +88,8 @@ impl<'a> StillDisk<'a> {
 impl SectorDevice for StillDisk<'_> {
     ghost use Rattle.std.specs.Prelude.{true, refl};
     ghost use Rattle.sector_disk.specs.Disk.{MayLeave};
-    ghost use Rattle.sector_disk.specs.FileBytes.{disk_of_file};
     ghost use Rattle.sector_disk.specs.Pages.{paged_by_sectors};
-    ghost use Rattle.image_care.specs.Seen.{still};
-    ghost use Rattle.image_care.specs.StillDisk.{refused};
+    ghost use Rattle.image_care.specs.StillDisk.{refused, replaced_disk};
 
     ghost sector_count = { λ d. d.sectors };
 
@@ -49,11 +97,11 @@ impl SectorDevice for StillDisk<'_> {
 
     ghost keeps_sectors = { λ d. true };
 
-    ghost disk = { λ d. disk_of_file (still d.bytes.now) };
+    ghost disk = { λ d. replaced_disk d.replacement d.bytes.now };
 
     ghost time = { λ d. 0 };
 
-    ghost left_since = { λ d t c. MayLeave (disk_of_file (still d.bytes.now)) c };
+    ghost left_since = { λ d t c. MayLeave (replaced_disk d.replacement d.bytes.now) c };
 
     ghost failures = { λ d. refused d.counts };
 
@@ -63,7 +111,7 @@ impl SectorDevice for StillDisk<'_> {
 
     ghost keeps_both = { λ d keeps. keeps };
 
-    ghost by_pages = { λ d keeps. paged_by_sectors (disk_of_file (still d.bytes.now)) (λ k. refl) };
+    ghost by_pages = { λ d keeps. paged_by_sectors (replaced_disk d.replacement d.bytes.now) (λ k. refl) };
 
     ghost by_sectors = { λ d k keeps. refl };
 
@@ -79,7 +127,7 @@ impl SectorDevice for StillDisk<'_> {
 
     fn read(&mut self, k: u32, out: &mut [u8; 512]) -> Result<(), DeviceFault> {
         self.counts.count_read();
-        *out = sector_in(self.bytes, k);
+        *out = self.sector(k);
         Ok(())
     }
 
@@ -95,7 +143,7 @@ impl SectorDevice for StillDisk<'_> {
 }
 
 // The bytes of sector `k`, with zeros past the end.
-fn sector_in(bytes: &[u8], k: u32) -> [u8; 512]
+pub(crate) fn sector_in(bytes: &[u8], k: u32) -> [u8; 512]
     ensures { result ≡ sector_of (λ p. slice_index bytes.now p) k }
 {
     let mut sector = [0; 512];

@@ -1,7 +1,9 @@
 -- Sectors that can't be read: what a check tells of them, and what a salvage does that passes them over.
-use Rattle.std.proofs.Common.{◌≡◌, ◌≢◌, ◌∙◌, ⊎_elim, ℕ, true, false, List, Option, Result, Ok, Err, ap, inl, inr, refl, subst, sym}
-use Rattle.std.specs.Prelude.{IfErr, IsErr, OnOk}
+use Rattle.std.proofs.Common.{◌≡◌, ◌≢◌, ◌∙◌, ⊎_elim, ℕ, Bool, true, false, List, Option, Result, Ok, Err, ap, inl, inr, refl, subst, sym}
+use Rattle.std.specs.Prelude.{not, IfErr, IsErr, OnOk}
+use Rattle.sector_disk.specs.Disk.{Image}
 use Rattle.sector_disk.specs.declared.device.SectorDevice.{Ghosts}
+use Rattle.image_care.specs.Mended.{IsMendedBySize}
 use Rattle.terminal.specs.Failed.{CheckFails, LookFails, MoreTold}
 use Rattle.terminal.specs.Failures.{is_device}
 use Rattle.terminal.specs.declared.failure.Failure.{Failure}
@@ -30,6 +32,10 @@ not_of_device failure isnt is = let both : true ≡ false = sym (ap is_device is
 
 -- ---- answers
 
+pub not_false : (b : Bool) → not b ≡ false → b ≡ true
+not_false true is = cc
+not_false false is = cc
+
 -- What never is Ok is as one likes where it is.
 pub never_ok : {T E : Type 0} (P : Type 0) (r : Result T E) → IsErr r → OnOk r P
 never_ok P (Ok t) is = cc
@@ -38,6 +44,11 @@ never_ok P (Err e) is = tt
 -- What is said of some things is said of their equals.
 pub said_of_two : {X Y : Type 0} (P : X → Y → Type 0) (x x' : X) (y y' : Y) → x ≡ x' → y ≡ y' → P x y → P x' y'
 said_of_two {X} {Y} P x x' y y' one two given = subst (λ (k : Y). P x' k) two (subst (λ (k : X). P k y) one given)
+
+-- What is said of what stands for an image is said of the best that stands for it.
+pub said_of_mended : (P : ℕ → Image → Type 0) (n n' : ℕ) (had seen : Image) → n ≡ n' → IsMendedBySize n' had seen → P n seen
+    → (best : Image) × IsMendedBySize n' had best × P n' best
+said_of_mended P n n' had seen same is given = (seen, is, subst (λ k. P k seen) same given)
 
 module _ {D : Type 0} (G : Ghosts D) where
   -- A look failed, and what is told more of it is told.

@@ -16,6 +16,7 @@ use Rattle.shadow.specs.Upgraded as newer_upgrade
 use Rattle.sector_disk.specs.Disk.{Image, MayLeave}
 use Rattle.stores.specs.Opened.{image_refusal}
 use Rattle.image_care.specs.Copied.{copied_blocks, copy_refusal}
+use Rattle.image_care.specs.Mended.{HasLostRecord, IsMendedBySize}
 use Rattle.image_care.specs.Made.{MakingLeaves, writes_to_make}
 use Rattle.image_care.specs.Salvaged.{salvage_refusal, salvaged_blocks}
 use Rattle.image_care.specs.Through.{ReadsThrough, image_of}
@@ -454,9 +455,13 @@ module _ {B : Type 0} (H : Ghosts B) where
     pub well : failure ≢ Device → H.failures after ≡ H.failures device
     pub told : (failure ≡ Device) ⊎ IsUntold failure ⊎ (Some failure ≡ option_map of_upgrade (salvage_refusal sectors (H.sector_count device)))
 
-  -- The same, or there was no memory for what is told, and nothing was made.
-  abbrev pub HadFails : (sectors : ℕ) (seen : Image) → Failure → (device after : B) → Type 0
-  HadFails sectors seen failure device after = ((failure ≡ NoMemory) × (after ≡ device)) ⊎ HadInPart sectors seen failure device after
+  -- The same of what was had, under the best record for it.
+  abbrev pub MendedInPart : (sectors : ℕ) (had : Image) → Failure → (device after : B) → Type 0
+  MendedInPart sectors had failure device after = (seen : Image) × IsMendedBySize sectors had seen × HadInPart sectors seen failure device after
+
+  -- Or there was no memory for what is told, and nothing was made.
+  abbrev pub HadFails : (sectors : ℕ) (had : Image) → Failure → (device after : B) → Type 0
+  HadFails sectors had failure device after = ((failure ≡ NoMemory) × (after ≡ device)) ⊎ MendedInPart sectors had failure device after
 
 module _ {A B : Type 0} (G : Ghosts A) (H : Ghosts B) where
   -- An image of these blocks was made in part: nothing of the old one was written or synced, and a stop at any moment leaves of the
@@ -488,8 +493,8 @@ module _ {A B : Type 0} (G : Ghosts A) (H : Ghosts B) where
   -- `salvage` of an image that was read through: from its device, or from what was had.
   abbrev pub ReadFails : (sectors : ℕ) (had unread : List ℕ) → Failure → (through source' : A) (device after : B) → Type 0
   ReadFails sectors had unread failure through source' device after =
-      ((unread ≡ []) × SalvageFails failure through source' device after)
-      ⊎ ((unread ≢ []) × (source' ≡ through) × HadFails H sectors (image_of had) failure device after)
+      ((unread ≡ []) × (¬ HasLostRecord sectors (image_of had)) × SalvageFails failure through source' device after)
+      ⊎ (((unread ≢ []) ⊎ HasLostRecord sectors (image_of had)) × (source' ≡ through) × HadFails H sectors (image_of had) failure device after)
 
   -- There was no memory for what is read, and the new device is as it was; or the image was read through, and then salvaged in part.
   abbrev pub SalvageThroughFails : Failure → (source source' : A) (device after : B) → Type 0

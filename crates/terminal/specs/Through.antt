@@ -9,6 +9,7 @@ use Rattle.journal.specs.Suits.{suits}
 use Rattle.recovery.specs.Label.{blocks_in, is_size}
 use Rattle.recovery.specs.Steps.{WentWell}
 use Rattle.image_care.specs.Made.{MakingLeaves, writes_to_make}
+use Rattle.image_care.specs.Mended.{HasLostRecord, IsMendedBySize}
 use Rattle.image_care.specs.Salvaged.{salvaged_blocks}
 use Rattle.image_care.specs.Standing.{standing_of}
 use Rattle.image_care.specs.Through.{ReadsThrough, image_of}
@@ -50,13 +51,19 @@ module _ {B : Type 0} (H : Ghosts B) where
     pub begins : BeginsAtMost H device after (writes_to_make (H.sector_count device)) 4
     pub looks : ReadsAtMost H device after 1
 
+  -- The same of what was had of an image, under the best record for it.
+  abbrev pub SalvagesMended : (sectors : ℕ) (had : Image) (more : List ℕ) (written written' : Option (List ℕ)) (device after : B) → Type 0
+  SalvagesMended sectors had more written written' device after =
+      (seen : Image) × IsMendedBySize sectors had seen × SalvagesHad sectors seen more written written' device after
+
 module _ {A B : Type 0} (G : Ghosts A) (H : Ghosts B) where
-  -- An image on so many sectors was read through, and salvaged: from its device, where each sector could be read; else from what was
-  -- had, where blanks stand for each that couldn't, and those are told.
+  -- An image on so many sectors was read through, and salvaged: from its device, where each sector could be read and no record is lost;
+  -- else from what was had, where blanks stand for each sector that couldn't be read, under the best record for that; and those sectors
+  -- are told.
   abbrev pub SalvagesRead : (sectors : ℕ) (had unread : List ℕ) (written written' : Option (List ℕ)) (through source' : A) (device after : B) → Type 0
   SalvagesRead sectors had unread written written' through source' device after =
-      ((unread ≡ []) × Salvages G H written written' through source' device after)
-      ⊎ ((unread ≢ []) × (source' ≡ through) × SalvagesHad H sectors (image_of had) (unread_told sectors unread) written written' device after)
+      ((unread ≡ []) × (¬ HasLostRecord sectors (image_of had)) × Salvages G H written written' through source' device after)
+      ⊎ (((unread ≢ []) ⊎ HasLostRecord sectors (image_of had)) × (source' ≡ through) × SalvagesMended H sectors (image_of had) (unread_told sectors unread) written written' device after)
 
   -- `salvage`: no call of the new device failed, and of the old one just the reads of the sectors that couldn't be read.
   pub record SalvagesThrough (written written' : Option (List ℕ)) (source source' : A) (device after : B) : Type 0 where

@@ -32,6 +32,7 @@ mod importing;
 mod input;
 pub mod laws;
 mod left;
+mod lost_saves;
 mod over_devices;
 mod program;
 mod salvaging;

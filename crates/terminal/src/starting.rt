@@ -6,6 +6,7 @@ use super::attending::{advise, greet};
 use super::failure::Failure;
 use super::hints::hint;
 use super::input::{Input, Led};
+use super::lost_saves::warn;
 use super::program::{command_over, told, traced_in_memory};
 use super::std_world::StdWorld;
 use super::streams::Streams;
@@ -74,6 +75,9 @@ fn call_program<
     let input = Led::new(rt.alloc(), ByteReader::new(input));
     let output = BufWriter::new(rt.alloc(), output)?;
     let words = words.as_slice();
+    if !are_errors_named(rt, words) {
+        warn(rt, words, errors);
+    }
     let is_typed = is_attended && is_terminal && greet(rt, words, errors);
     let messages = Messages {
         rt,

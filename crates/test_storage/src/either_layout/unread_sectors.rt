@@ -5,7 +5,7 @@ use crate::devices::scarred::{NONE, Scarred};
 use crate::either_layout::saves::made;
 use crate::layout_3::salvages::{SAVES, told};
 use crate::sectors::sector;
-use image_care::{StillDisk, Taken, examine, read_block, read_through, salvage};
+use image_care::{Taken, copy, examine, mend, read_block, read_through, salvage};
 use journal::Store;
 use recovery::OpenFault;
 use sector_disk::{MemoryDisk, SectorDevice, SectorFile};
@@ -36,18 +36,26 @@ fn salvaged(
     newer: bool,
     scars: [u32; 3],
 ) -> Result<(MemoryDisk, Taken, Vec<u32>), Fail> {
-    let disk = saved(alloc, newer)?;
+    salvaged_of(alloc, saved(alloc, newer)?, scars)
+}
+
+// The same of the image on a disk.
+fn salvaged_of(
+    alloc: Global,
+    disk: MemoryDisk,
+    scars: [u32; 3],
+) -> Result<(MemoryDisk, Taken, Vec<u32>), Fail> {
     let sectors = disk.sectors();
     let mut old = SectorFile::new(Scarred::new(disk, scars), sectors);
     let (bytes, unread) = read_through(alloc, &mut old)?;
-    let mut seen = StillDisk::new(&bytes, sectors);
+    let mut seen = mend(&bytes, sectors);
     let mut new = MemoryDisk::new(alloc, sectors)?;
     let taken = salvage(&mut seen, &mut new).map_err(|_| "not salvaged")?;
     Ok((new, taken, unread))
 }
 
-// By layout 3 a block is taken from its other place; a gate of blanks is closed, so the record of the save before names the places; and a record of blanks
-// names the second place of each block b of which b mod 8 is 5.
+// By layout 3 a block is taken from its other place. Without the record that the gate names the gate's sum tells the places; without the gate, of the two
+// records, that under which fewer blocks are blank; without both, the record that is left.
 #[test]
 fn what_can_be_read_is_salvaged(rt: HostRuntime) -> Result<(), Fail> {
     for (newer, scars, want) in [
@@ -66,14 +74,104 @@ fn what_can_be_read_is_salvaged(rt: HostRuntime) -> Result<(), Fail> {
         (true, [120, 121, 122], " 5B 31C"),
         (true, [114, 538, NONE], " 5A, other 5, other 31"),
         (true, [0, 24, NONE], " 5B 31C"),
-        (true, [8, NONE, NONE], " 5B"),
-        (true, [16, NONE, NONE], " 5A, other 13, other 21, other 29"),
+        (true, [8, NONE, NONE], " 5B 31C"),
+        (true, [16, NONE, NONE], " 5B 31C"),
+        (true, [16, 24, NONE], " 5B 31C"),
+        (true, [8, 16, NONE], " 5B"),
+        (true, [8, 24, NONE], " 5B 31C"),
+        // Without a place of block 5 no places have the sum, so the other record is taken, or a record of blanks, which names the second place of each block b
+        // of which b mod 8 is 5.
+        (true, [16, 112, NONE], " 5A, other 13, other 21, other 29"),
+        (true, [8, 16, 112], " 5A, other 5"),
     ] {
         let (mut new, taken, unread) = salvaged(rt.alloc(), newer, scars)?;
         let many = scars.iter().filter(|scar| **scar != NONE).count();
         let (told_of, _) = scars.split_at(many);
         assert!(rt; unread.as_slice() == told_of, "{newer}");
         assert_same!(rt; told(rt.alloc(), &mut new, &taken)?.as_str(), want, "{newer}");
+    }
+    Ok(())
+}
+
+// Blocks 0 to 31 of a new image were saved at once, each full of another byte.
+fn filled(alloc: Global) -> Result<MemoryDisk, Fail> {
+    let mut store = made(alloc, true)?;
+    for b in 0..32 {
+        if b < store.blocks() {
+            store
+                .spill(b, &[b'@' + b as u8; 1024])
+                .map_err(|_| "spill failed")?;
+        }
+    }
+    store.commit().map_err(|_| "commit failed")?;
+    Ok(store.into_device())
+}
+
+// Each block stands over a blank one, which the record of before names.
+#[test]
+fn a_lost_gate_or_record_costs_no_block(rt: HostRuntime) -> Result<(), Fail> {
+    for scar in [8, 16, 24] {
+        let (mut new, _, _) = salvaged_of(rt.alloc(), filled(rt.alloc())?, [scar, NONE, NONE])?;
+        for b in 0..32 {
+            assert_same!(rt; read_block(&mut new, b), Ok(Some([b'@' + b as u8; 1024])), "{scar} {b}");
+        }
+    }
+    Ok(())
+}
+
+// Of an image of layout 3 the sectors that are tried: label, gate and records with one beside each, and the pages of blocks 0, 5 and 31.
+const TRIED: [(u32, u32); 7] = [
+    (0, 2),
+    (8, 2),
+    (16, 2),
+    (24, 2),
+    (32, 16),
+    (112, 16),
+    (528, 16),
+];
+
+// Whether a sector lies in a place that counts: of block 31 in the second one, of each other block in the first.
+fn counts(k: u32) -> bool {
+    match k {
+        0..32 => false,
+        528.. => 536 <= k && k < 539,
+        _ => k % 16 < 3,
+    }
+}
+
+// Whichever sector can't be read, all blocks are had, but for one that counts there: of that what stands whole in its other place.
+#[test]
+fn one_sector_costs_at_most_its_block(rt: HostRuntime) -> Result<(), Fail> {
+    for (first, many) in TRIED {
+        for k in first..first + many {
+            let (mut new, taken, unread) = salvaged(rt.alloc(), true, [k, NONE, NONE])?;
+            let want = match k {
+                _ if !counts(k) => " 5B 31C",
+                32..35 => " 5B 31C, lost 0",
+                112..115 => " 5A 31C, other 5",
+                _ => " 5B, other 31",
+            };
+            assert!(rt; unread.as_slice() == [k].as_slice(), "{k}");
+            assert_same!(rt; told(rt.alloc(), &mut new, &taken)?.as_str(), want, "{k}");
+        }
+    }
+    Ok(())
+}
+
+// A sector that nobody uses, or one of a free place, stops no copy and no examination; each other one does.
+#[test]
+fn what_does_not_count_stops_no_copy(rt: HostRuntime) -> Result<(), Fail> {
+    for (first, many) in TRIED {
+        for k in first..first + many {
+            let mut old = SectorFile::new(
+                Scarred::new(saved(rt.alloc(), true)?, [k, NONE, NONE]),
+                544,
+            );
+            let mut new = MemoryDisk::new(rt.alloc(), 544)?;
+            let stops = matches!(k, 0 | 8 | 16) || counts(k);
+            assert_same!(rt; examine(&mut old).is_err(), stops, "{k}");
+            assert_same!(rt; copy(&mut old, &mut new).is_err(), stops, "{k}");
+        }
     }
     Ok(())
 }
