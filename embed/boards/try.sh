@@ -47,7 +47,7 @@ talks() {
 
 # The library's screens and tests, in the blocks into which its page puts them.
 screens() {
-    sed -nE 's#^\$ forth83 put lib.img ([0-9]+) ((library|examples)/.*)#\1=../../\2#p' ../../library/README.md
+    awk '/^\$ forth83 (import|put) lib.img [0-9]+ (library|examples)/ { for (at = 6; at <= NF; at++) print $5 + at - 6 "=../../" $at }' ../../library/README.md
 }
 
 # The lines by which its page runs the tests.
