@@ -4,8 +4,8 @@ of each column that was measured, `well` or `FAILED`.
 
     ./measure.sh FOLDER | ./sizes.py
 
-What a compiler of this machine makes is in the numbers too: of its own functions in a first firmware, and a few bytes of the stack. An emulator's board is told
-a step in instructions; here it takes a time, which isn't compared.
+What a compiler of this machine makes is in the numbers too: of its own functions in a first firmware, and a few bytes of the stack. What a step takes isn't
+compared: by an emulator's clock too it isn't the same each time.
 """
 import os
 import re
@@ -21,7 +21,6 @@ ROWS = {
     "stack of a read; of a save of four blocks": ["read", "save of four blocks"],
     "stack over an open store: of a read; of a save of four blocks": ["read of an open store", "save of four blocks to an open store"],
     "stack of a session, and its heap": ["session", "heap of session"],
-    "a step of the loop `DO I DROP LOOP`": ["step"],
     "a first firmware, `starts.c`: ROM; RAM beside the stack": ["rom", "ram"],
     "the same on `lm3s`": ["rom of lm3s", "ram of lm3s"],
 }
@@ -40,8 +39,6 @@ def measured(lines):
         elif it := re.match(r"(\S+), (.*?)(?: by layout 3)?: stack (\d+) heap (\d+)", line):
             note(it[1], it[2], int(it[3]))
             note(it[1], f"heap of {it[2]}", int(it[4]))
-        elif it := re.match(r"(\S+): a step of a loop takes ([\d.]+) instructions", line):
-            note(it[1], "step", float(it[2]))
         elif it := re.match(r"(\S+), first firmware: rom (\d+) ram (\d+)", line):
             # (another board of the same processor)
             target, of = ("mps2", " of lm3s") if it[1] == "lm3s" else (it[1], "")
